@@ -1,0 +1,9 @@
+pub mod Types
+pub mod Trees
+pub mod Tags
+pub mod Encoding
+pub mod Reading
+pub mod Lines
+pub mod Places
+pub mod Sameness
+pub mod WellFormed

@@ -1,0 +1,57 @@
+-- Trees: what a frame stands for.
+use Prim.Native.Nat.{ℕ, zero, suc, _+_}
+use mathlib.Core.List.{List, [], _∷_}
+use Rattle.frame.specs.Types.{Ty}
+
+-- A node's tag, its payload (an identifier's number, a bound index, a literal's eight bytes as a number; 0 where the
+-- tag has none), and the types that it carries: its own, or those of its binders in the order of the list.
+pub data Head : Type 0 where
+  head : ℕ → ℕ → List Ty → Head
+
+mutual
+  pub data Tree : Type 0 where
+    node : Head → Forest → Tree
+
+  -- the children of a node, from left to right
+  pub data Forest : Type 0 where
+    nil : Forest
+    cons : Tree → Forest → Forest
+
+-- how many children there are
+abbrev pub count : Forest → ℕ
+count nil = 0
+count (cons t ts) = suc (count ts)
+
+abbrev pub tagOf : Tree → ℕ
+tagOf (node (head g n ts) ks) = g
+
+-- how many nodes a tree has: "types and binders are no nodes"
+unfoldable mutual
+  pub nodes : Tree → ℕ
+  nodes (node h ks) = suc (nodesIn ks)
+
+  pub nodesIn : Forest → ℕ
+  nodesIn nil = 0
+  nodesIn (cons t ts) = nodes t + nodesIn ts
+
+-- trees by their tag: with no child, one, two, any number; with a type of their own; with binders
+abbrev pub leaf : ℕ → Tree
+leaf g = node (head g 0 []) nil
+
+abbrev pub one : ℕ → Tree → Tree
+one g a = node (head g 0 []) (cons a nil)
+
+abbrev pub two : ℕ → Tree → Tree → Tree
+two g a b = node (head g 0 []) (cons a (cons b nil))
+
+abbrev pub many : ℕ → Forest → Tree
+many g ks = node (head g 0 []) ks
+
+abbrev pub typed : ℕ → Ty → Tree
+typed g t = node (head g 0 (t ∷ [])) nil
+
+abbrev pub quantified : ℕ → List Ty → Tree → Tree
+quantified g ts p = node (head g 0 ts) (cons p nil)
+
+abbrev pub bodied : ℕ → List Ty → Tree → Tree → Tree
+bodied g ts p e = node (head g 0 ts) (cons p (cons e nil))

@@ -1,0 +1,1 @@
+// The frame record: the bytes of one predicate, and the tree that they stand for.

@@ -1,0 +1,25 @@
+-- Number 8 (document 01: "A bound index has no binder, anywhere in the tree.").
+use Prim.Native.Nat.{ℕ}
+use mathlib.Core.Bool.{Bool, true, false, _&&_}
+use mathlib.Core.List.{List}
+use lib.ListN.{length}
+use lib.Dec.{eqb, ltb}
+use Rattle.frame.specs.Trees.{Head, head, Tree, node, Forest, nil, cons}
+use Rattle.frame.specs.Tags.{pick}
+use Rattle.frame.specs.Places.{Ctx, under}
+
+-- the tag of bound identifiers
+abbrev pub boundTag : ℕ
+boundTag = 3
+
+-- a node's own index is below the number of binders around it
+abbrev pub indexBound : ℕ → ℕ → Ctx → Bool
+indexBound g n Γ = pick (eqb g boundTag) (ltb n (length Γ)) true
+
+unfoldable mutual
+  pub closedTree : Tree → Ctx → Bool
+  closedTree (node (head g n us) ks) Γ = indexBound g n Γ && closedForest ks (under g us Γ)
+
+  pub closedForest : Forest → Ctx → Bool
+  closedForest nil Γ = true
+  closedForest (cons t ts) Γ = closedTree t Γ && closedForest ts Γ

@@ -1,0 +1,5 @@
+pub mod Typing
+pub mod Binding
+pub mod Identifiers
+pub mod Check
+pub mod TypeExpression
