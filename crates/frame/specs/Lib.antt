@@ -1,6 +1,7 @@
 pub mod Types
 pub mod Trees
 pub mod Tags
+pub mod Operators
 pub mod Encoding
 pub mod Reading
 pub mod Lines

@@ -50,8 +50,24 @@ many g ks = node (head g 0 []) ks
 abbrev pub typed : ℕ → Ty → Tree
 typed g t = node (head g 0 (t ∷ [])) nil
 
+-- one or more children
+abbrev pub sole : Tree → Forest
+sole a = cons a nil
+
+abbrev pub pair : Tree → Tree → Forest
+pair a b = cons a (cons b nil)
+
 abbrev pub quantified : ℕ → List Ty → Tree → Tree
 quantified g ts p = node (head g 0 ts) (cons p nil)
 
 abbrev pub bodied : ℕ → List Ty → Tree → Tree → Tree
 bodied g ts p e = node (head g 0 ts) (cons p (cons e nil))
+
+-- lists of children
+abbrev pub append : Forest → Forest → Forest
+append nil bs = bs
+append (cons a es) bs = cons a (append es bs)
+
+abbrev pub mapF : (Tree → Tree) → Forest → Forest
+mapF f nil = nil
+mapF f (cons t ts) = cons (f t) (mapF f ts)

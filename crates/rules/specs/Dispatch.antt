@@ -1,0 +1,48 @@
+-- Which function a predicate node goes to (document 01, "The answer record").
+use Prim.Native.Nat.{ℕ}
+use mathlib.Core.Bool.{Bool}
+use mathlib.Core.List.{List, []}
+use Rattle.frame.specs.Trees.{Tree}
+use Rattle.frame.specs.Tags.{pick}
+use Rattle.frame.specs.Operators.{#Equal, #SubsetEq, #EmptySet, #Finite, #Partition}
+use Rattle.frame.specs.Places.{Ctx}
+use Rattle.frame.specs.Sameness.{sameTree}
+use Rattle.rules.specs.Change.{Change, to, same, _orElse_, when, isTag, onTag, with1, with2, unary, binary}
+use Rattle.rules.specs.Simplify.{simplifyPredicateNode}
+use Rattle.rules.specs.Negation.{rewriteNot, rewritePartition}
+use Rattle.rules.specs.Finite.{rewriteFinite}
+use Rattle.rules.specs.EqualsEmptySet.{rewriteEqualsEmptySet}
+use Rattle.rules.specs.EqualsType.{rewriteEqualsType, baseExpression}
+
+-- "Added by us: 101 or 111 with ∅ (407) on the right, else 101 with ∅ on the left, goes to the empty rules on the other side."
+abbrev pub emptyRules : Ctx → Tree → Tree → Change
+emptyRules Γ left right =
+    pick (isTag #EmptySet right) (rewriteEqualsEmptySet Γ left)
+    (when (isTag #EmptySet left) (rewriteEqualsEmptySet Γ right))
+
+-- "the right side the type expression of its own elements"
+abbrev pub isOwnType : Ctx → Tree → Bool
+isOwnType Γ e = sameTree e (baseExpression Γ e)
+
+-- "101 with the right side the type expression of its own elements goes to the type rules on the left, then the mirror of it."
+abbrev pub typeRules : Ctx → Tree → Tree → Change
+typeRules Γ left right =
+    when (isOwnType Γ right) (rewriteEqualsType Γ left)
+    orElse when (isOwnType Γ left) (rewriteEqualsType Γ right)
+
+-- "Where that gives nothing, or neither side is ∅"
+abbrev pub equalRules : Ctx → Tree → Tree → Change
+equalRules Γ left right = emptyRules Γ left right orElse typeRules Γ left right
+
+abbrev pub subsetRules : Ctx → Tree → Tree → Change
+subsetRules Γ left right = when (isTag #EmptySet right) (rewriteEqualsEmptySet Γ left)
+
+-- "Dispatch by tag: 351, 352, 251, 252, 851, 852 logic; 701 logic, then negation; 620; 901."
+unfoldable pub dispatch : Ctx → Tree → Change
+dispatch Γ t =
+    simplifyPredicateNode t
+    orElse rewriteNot t
+    orElse unary #Finite t (rewriteFinite Γ)
+    orElse onTag #Partition t (λ ts children. rewritePartition Γ children)
+    orElse binary #Equal t (equalRules Γ)
+    orElse binary #SubsetEq t (subsetRules Γ)

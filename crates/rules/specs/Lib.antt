@@ -1,0 +1,7 @@
+pub mod Change
+pub mod Simplify
+pub mod Negation
+pub mod Finite
+pub mod EqualsEmptySet
+pub mod EqualsType
+pub mod Dispatch
