@@ -2,4 +2,5 @@ pub mod Typing
 pub mod Binding
 pub mod Identifiers
 pub mod Check
+pub mod Accepted
 pub mod TypeExpression
