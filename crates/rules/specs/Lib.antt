@@ -5,3 +5,4 @@ pub mod Finite
 pub mod EqualsEmptySet
 pub mod EqualsType
 pub mod Dispatch
+pub mod Equations
