@@ -1,2 +1,12 @@
+pub mod Spans
+pub mod Numbers
+pub mod ReadTypes
+pub mod Inversion
+pub mod ReadTrees
+pub mod ReadBack
+pub mod Frames
+pub mod SameTrees
+pub mod TextLines
+pub mod Extents
 pub mod AtPlace
 pub mod Splices

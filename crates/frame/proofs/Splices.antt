@@ -1,5 +1,5 @@
 -- Places and bytes: the table of starts, what stands at a place, and what replacing it does to the bytes.
--- Main results: starts-length; find-some, find-none, find-lt; find-moved, find-same (the subtree does not depend on the
+-- Main results: find-some, find-none, find-lt; find-moved, find-same (the subtree does not depend on the
 -- context); count-replace, replace-same; splice (a tree's bytes around a place, the same before and after whatever is put
 -- there), and by positions splice-there, splice-within, splice-bytes.
 use mathlib.Core.Path.{_≡_, refl, sym, ap, ap₂, _∙_}
@@ -16,18 +16,7 @@ use Rattle.frame.specs.Tags.{pick}
 use Rattle.frame.specs.Encoding.{encHead, enc, encs, starts, startsIn}
 use Rattle.frame.specs.Places.{Ctx, under, Found, found, absent, find, findIn, replace, replaceIn}
 use Rattle.frame.proofs.AtPlace.{absent-not, found-either, at-place}
-
--- ---- the table of starts
-mutual
-  unfolding starts nodes
-
-  pub starts-length : (t : Tree) (p : ℕ) → length (starts t p) ≡ nodes t
-  starts-length (node h ks) p = ap suc (startsIn-length ks (p + length (encHead h (count ks))))
-
-  pub startsIn-length : (ks : Forest) (p : ℕ) → length (startsIn ks p) ≡ nodesIn ks
-  startsIn-length nil p = refl
-  startsIn-length (cons t ks) p =
-      length-append (starts t p) (startsIn ks (p + length (enc t))) ∙ ap₂ (λ (a b : ℕ). a + b) (starts-length t p) (startsIn-length ks (p + length (enc t)))
+use Rattle.frame.proofs.Extents.{starts-length}
 
 -- ---- what stands at a place
 

@@ -8,3 +8,4 @@ pub mod Lines
 pub mod Places
 pub mod Sameness
 pub mod WellFormed
+pub mod Spans

@@ -1,0 +1,49 @@
+-- How far trees reach: where a tree that is read ends, and how many nodes and bytes it has.
+-- Main results: node-end, node-fuel (more fuel reads the same), nodes-enc, nodesIn-encs, starts-length, startsIn-length.
+use mathlib.Core.Path.{_≡_, refl, ap}
+use mathlib.Core.List.{List}
+use Prim.Native.Nat.{ℕ, suc, _+_, _≤_, _<_}
+use native.Mathlib.Omega.{arith}
+use lib.ListN.{length, length-append}
+use Rattle.frame.specs.Trees.{Tree, node, Forest, nil, cons, count, nodes, nodesIn}
+use Rattle.frame.specs.Tags.{Sort}
+use Rattle.frame.specs.Encoding.{encHead, enc, encs, starts, startsIn}
+use Rattle.frame.specs.Reading.{ok, okF, readMany, readNode}
+use Rattle.frame.specs.Spans.{Bytes}
+use Rattle.frame.proofs.ReadTrees.{node-enc, node-wf, many-enc, many-wf}
+use Rattle.frame.proofs.ReadBack.{head-long, enc-long, node-back, many-back}
+
+module _ (f : ℕ) (s : List ℕ) (bs : Bytes s) where
+  -- a tree that is read has two bytes at least, all of them in the list
+  pub node-end : (e : Sort) (at : ℕ) (t : Tree) (q : ℕ) → readNode f s e at ≡ ok t q → (at + 2 ≤ q) × (q ≤ length s)
+  node-end e at t q eq = let a = node-enc f s bs e at t q eq in (omega (arith, a .long, enc-long t), a .within)
+
+  -- it is read with any fuel that reaches past its end
+  pub node-fuel : (e : Sort) (at : ℕ) (t : Tree) (q : ℕ) → readNode f s e at ≡ ok t q → (k : ℕ) → q < at + k → readNode k s e at ≡ ok t q
+  node-fuel e at t q eq k l = node-back t k s e at q (node-enc f s bs e at t q eq) (node-wf f s bs e at t q eq) l
+
+  pub many-fuel : (es : List Sort) (at : ℕ) (ts : Forest) (q : ℕ) → at ≤ length s → readMany es (readNode f s) at ≡ okF ts q
+      → (k : ℕ) → q < at + k → readMany es (readNode k s) at ≡ okF ts q
+  many-fuel es at ts q h eq k l = many-back ts k s es at q (many-enc f s bs es at ts q h eq) (many-wf f s bs es at ts q h eq) l
+
+-- each node has two bytes at least
+mutual
+  unfolding nodes enc
+
+  pub nodes-enc : (t : Tree) → nodes t + nodes t ≤ length (enc t)
+  nodes-enc (node h ks) = simp length-append (omega (arith, head-long h (count ks), nodesIn-encs ks))
+
+  pub nodesIn-encs : (ts : Forest) → nodesIn ts + nodesIn ts ≤ length (encs ts)
+  nodesIn-encs nil = omega arith
+  nodesIn-encs (cons t ts) = simp length-append (omega (arith, nodes-enc t, nodesIn-encs ts))
+
+-- there is a start for each node
+mutual
+  unfolding nodes starts
+
+  pub starts-length : (t : Tree) (p : ℕ) → length (starts t p) ≡ nodes t
+  starts-length (node h ks) p = ap suc (startsIn-length ks (p + length (encHead h (count ks))))
+
+  pub startsIn-length : (ts : Forest) (p : ℕ) → length (startsIn ts p) ≡ nodesIn ts
+  startsIn-length nil p = refl
+  startsIn-length (cons t ts) p = rw (length-append, starts-length t p, startsIn-length ts (p + length (enc t)))

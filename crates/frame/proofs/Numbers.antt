@@ -1,0 +1,103 @@
+-- Numbers of w bytes, high byte first: reading and writing are inverse. One law over the width for both directions.
+-- Main results: number-length, number-small, number-span, number-back, number-bytes, number-injective.
+use mathlib.Core.Path.{_≡_, refl, sym, ap, ap₂, _∙_, subst}
+use mathlib.Core.List.{List, [], _++_, append-nil}
+use Prim.Native.Nat.{ℕ, zero, suc, _+_, _*_, _/_, _%_, _^_, _≤_, _<_}
+use native.Mathlib.Omega.{arith}
+use native.Mathlib.Nat.{add-zero, suc-mul, mul-le-mul-right, one-le-pow, pow-suc, mod-lt, mul-add-div-right, mul-add-mod-self-right, div-eq-of-lt, mod-eq-of-lt, div-add-mod', div-lt-iff-lt-mul}
+use lib.ListN.{length, getD}
+use lib.Dec.{lit<}
+use Rattle.frame.specs.Encoding.{encNumber}
+use Rattle.frame.specs.Reading.{numberAt}
+use Rattle.frame.specs.Spans.{Bytes, Spans}
+use Rattle.frame.proofs.Spans.{span-nil, span-cons, span-first, span-whole, bytes-nil, bytes-cons}
+
+-- a power of 256 is no zero
+pub power-positive : (w : ℕ) → 0 < 256 ^ w
+power-positive w = one-le-pow w 256 (lit< tt)
+
+pub number-length : (w n : ℕ) → length (encNumber w n) ≡ w
+unfolding encNumber
+number-length zero n = refl
+number-length (suc w) n = ap suc (number-length w (n % 256 ^ w))
+
+-- a byte b and a number x below P make a number below 256 * P, and come apart again
+glue-small : (b x P : ℕ) → b < 256 → x < P → b * P + x < P * 256
+glue-small b x P h l = omega (arith, mul-le-mul-right {m = suc b} {n = 256} P h, suc-mul b P)
+
+glue-high : (b x P : ℕ) → x < P → (b * P + x) / P ≡ b
+glue-high b x P l =
+    let z : x / P ≡ 0 = div-eq-of-lt l in
+    let g : (b * P + x) / P ≡ b + x / P = mul-add-div-right (omega arith) b x in
+    omega arith
+
+glue-low : (b x P : ℕ) → x < P → (b * P + x) % P ≡ x
+glue-low b x P l = mul-add-mod-self-right b P x ∙ mod-eq-of-lt l
+
+-- the high byte of a number below 256 ^ suc w
+high-small : (w n : ℕ) → n < 256 ^ suc w → n / 256 ^ w < 256
+high-small w n h = div-lt-iff-lt-mul (power-positive w) .1 (omega (arith, pow-suc 256 w))
+
+pub number-small : (w : ℕ) (s : List ℕ) → Bytes s → (p : ℕ) → numberAt w s p < 256 ^ w
+unfolding numberAt
+number-small zero s bs p = lit< tt
+number-small (suc w) s bs p = rw pow-suc (glue-small (getD s p 0) (numberAt w s (p + 1)) (256 ^ w) (bs p) (number-small w s bs (p + 1)))
+
+-- the w bytes at a place are those of the number that stands there
+pub number-span : (w : ℕ) (s : List ℕ) → Bytes s → (p : ℕ) → p + w ≤ length s → Spans s p (p + w) (encNumber w (numberAt w s p))
+unfolding encNumber numberAt
+number-span zero s bs p h = rw add-zero (span-nil (omega arith))
+number-span (suc w) s bs p h =
+    let b = getD s p 0 in
+    let x = numberAt w s (p + 1) in
+    let l = number-small w s bs (p + 1) in
+    let z : p + 1 + w ≡ p + suc w = omega arith in
+    rw (glue-high b x (256 ^ w) l, glue-low b x (256 ^ w) l)
+    (span-cons (omega arith) refl (subst (λ (k : ℕ). Spans s (p + 1) k (encNumber w x)) z (number-span w s bs (p + 1) (omega arith))))
+
+-- the bytes of a number stand at a place: that number is read, and what follows stands behind it
+pub record NumberBack (w : ℕ) (s : List ℕ) (at p n : ℕ) (xs : List ℕ) : Type 0 where
+  pub number : numberAt w s at ≡ n
+  pub rest : Spans s (at + w) p xs
+  pub within : at + w ≤ length s
+
+pub number-back : (w : ℕ) (s : List ℕ) (at p n : ℕ) (xs : List ℕ) → n < 256 ^ w → Spans s at p (encNumber w n ++ xs) → NumberBack w s at p n xs
+unfolding encNumber numberAt
+number-back zero s at p n xs h a = record {
+  number = omega arith;
+  rest = rw add-zero a;
+  within = omega (arith, a .long, a .within);
+}
+number-back (suc w) s at p n xs h a =
+    let P = 256 ^ w in
+    let f = span-first a in
+    let g = number-back w s (at + 1) p (n % P) xs (mod-lt n (power-positive w)) (f .rest) in
+    let z : at + 1 + w ≡ at + suc w = omega arith in record {
+      number = ap₂ (λ (b x : ℕ). b * P + x) (f .byte) (g .number) ∙ div-add-mod' n P;
+      rest = subst (λ (k : ℕ). Spans s k p xs) z (g .rest);
+      within = omega (arith, g .within);
+    }
+
+pub number-bytes : (w n : ℕ) → n < 256 ^ w → Bytes (encNumber w n)
+unfolding encNumber
+number-bytes zero n h = bytes-nil
+number-bytes (suc w) n h =
+    bytes-cons (n / 256 ^ w) (encNumber w (n % 256 ^ w)) (high-small w n h) (number-bytes w (n % 256 ^ w) (mod-lt n (power-positive w)))
+
+-- a number read back from its own bytes
+pub number-own : (w n : ℕ) → n < 256 ^ w → numberAt w (encNumber w n) 0 ≡ n
+number-own w n h =
+    let a : Spans (encNumber w n) 0 (length (encNumber w n)) (encNumber w n ++ []) = rw append-nil (span-whole (encNumber w n)) in
+    number-back w (encNumber w n) 0 (length (encNumber w n)) n [] h a .number
+
+pub number-injective : (w m n : ℕ) → m < 256 ^ w → n < 256 ^ w → encNumber w m ≡ encNumber w n → m ≡ n
+number-injective w m n h k e = sym (number-own w m h) ∙ ap (λ (s : List ℕ). numberAt w s 0) e ∙ number-own w n k
+
+-- the two widths that the code reads by name
+pub number-one : (s : List ℕ) (p : ℕ) → numberAt 1 s p ≡ getD s p 0
+unfolding numberAt
+number-one s p = omega arith
+
+pub number-two : (s : List ℕ) (p : ℕ) → numberAt 2 s p ≡ getD s p 0 * 256 + getD s (p + 1) 0
+unfolding numberAt
+number-two s p = omega arith
