@@ -4,3 +4,4 @@ pub mod Identifiers
 pub mod Check
 pub mod Accepted
 pub mod TypeExpression
+pub mod Signature

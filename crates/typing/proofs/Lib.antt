@@ -1,0 +1,5 @@
+pub mod Derived
+pub mod TypeExpression
+pub mod Same
+pub mod Names
+pub mod Decides
