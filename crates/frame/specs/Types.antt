@@ -8,3 +8,4 @@ pub data Ty : Type 0 where
   given : ℕ → Ty
   pow : Ty → Ty
   prod : Ty → Ty → Ty
+  deriving Discrete as Ty-discrete

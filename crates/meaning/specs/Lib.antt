@@ -1,0 +1,5 @@
+pub mod Lists
+pub mod Values
+pub mod Operations
+pub mod Meaning
+pub mod Premises
