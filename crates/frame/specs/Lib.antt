@@ -9,3 +9,4 @@ pub mod Places
 pub mod Sameness
 pub mod WellFormed
 pub mod Spans
+pub mod Cases

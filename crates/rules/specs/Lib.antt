@@ -6,3 +6,4 @@ pub mod EqualsEmptySet
 pub mod EqualsType
 pub mod Dispatch
 pub mod Equations
+pub mod Cases

@@ -5,3 +5,4 @@ pub mod Check
 pub mod Accepted
 pub mod TypeExpression
 pub mod Signature
+pub mod Cases

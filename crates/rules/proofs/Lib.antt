@@ -1,0 +1,15 @@
+pub mod Shapes
+pub mod EmptyInstance
+pub mod TypeInstance
+pub mod NotFiniteInstance
+pub mod JunctionInstance
+pub mod SimplifyInstance
+pub mod Instance
+pub mod Nodes
+pub mod NewNodes
+pub mod OldNodes
+pub mod Operands
+pub mod EmptyAccepted
+pub mod TypeAccepted
+pub mod LogicAccepted
+pub mod EquationAccepted

@@ -1,0 +1,66 @@
+-- Where two places of the source would answer, the first one in its text does. By one evaluation of `dispatch`: each
+-- predicate with the place that answers and the tree that it builds.
+use mathlib.Core.Path.{_≡_, refl}
+use mathlib.Core.List.{List, [], _∷_, map}
+use Prim.Native.Nat.{ℕ}
+use Rattle.frame.specs.Types.{Ty, bool, pow}
+use Rattle.frame.specs.Trees.{Head, head, Tree, node, Forest, nil, cons, leaf, one, two, many, typed, sole, pair}
+use Rattle.frame.specs.Tags.{lookup, classOf, formAt}
+use Rattle.frame.specs.Operators.{#FreeIdent, #SetExt, #Equal, #In, #SetMinus, #BInter, #True, #False, #EmptySet, #LImp, #LEqv, #LAnd, #BTrue, #BFalse, #Not}
+use Rattle.frame.specs.Sameness.{sameTy, sameTys, sameTree}
+use Rattle.typing.specs.Typing.{typeOf}
+use Rattle.typing.specs.TypeExpression.{toExpression}
+use Rattle.rules.specs.Change.{Change, to, same, onTag, contains}
+use Rattle.rules.specs.Simplify.{makeNeg, verdict, scan, simplifyAssocPred, simplifyPredicateNode}
+use Rattle.rules.specs.Negation.{rewriteNot, rewritePartition}
+use Rattle.rules.specs.Finite.{rewriteFinite}
+use Rattle.rules.specs.EqualsEmptySet.{anySingle, firstSingle, anyMinus, minuends, subtrahends, interEmpty, rewriteEqualsEmptySet}
+use Rattle.rules.specs.EqualsType.{rewriteEqualsType}
+use Rattle.rules.specs.Dispatch.{dispatch}
+
+data Case : Type 0 where
+  case : Tree → Change → Case
+
+abbrev ⊤ : Tree
+⊤ = leaf #BTrue
+
+abbrev ⊥ᵖ : Tree
+⊥ᵖ = leaf #BFalse
+
+-- S and T of type ℙ(BOOL)
+abbrev S : Tree
+S = node (head #FreeIdent 1 (pow bool ∷ [])) nil
+
+abbrev T : Tree
+T = node (head #FreeIdent 2 (pow bool ∷ [])) nil
+
+cases : List Case
+cases =
+    -- ⊤ ⇒ ⊤: SIMP_SPECIAL_IMP_BTRUE_L, before _R and SIMP_MULTI_IMP
+    case (two #LImp ⊤ ⊤) (to 66 ⊤)
+    -- ⊥ ⇒ ⊥: SIMP_SPECIAL_IMP_BFALSE_L, before _R (¬⊥) and SIMP_MULTI_IMP
+    ∷ case (two #LImp ⊥ᵖ ⊥ᵖ) (to 67 ⊤)
+    -- ⊤ ⇔ ⊤: right before left, before SIMP_MULTI_EQV
+    ∷ case (two #LEqv ⊤ ⊤) (to 75 ⊤)
+    -- ⊥ ⇔ ⊥: SIMP_MULTI_EQV, before SIMP_SPECIAL_EQV_BFALSE (¬⊥)
+    ∷ case (two #LEqv ⊥ᵖ ⊥ᵖ) (to 77 ⊤)
+    -- ¬(TRUE = FALSE): the right side first
+    ∷ case (one #Not (two #Equal (leaf #True) (leaf #False))) (to 20 (two #Equal (leaf #True) (leaf #True)))
+    -- {TRUE} ∩ (S ∖ T) = ∅: the singleton before ∖
+    ∷ case (two #Equal (many #BInter (pair (many #SetExt (sole (leaf #True))) (two #SetMinus S T))) (typed #EmptySet (pow bool)))
+    (to 37 (one #Not (two #In (leaf #True) (two #SetMinus S T))))
+    -- ⊤ ∧ ⊥: the absorbing child decides
+    ∷ case (many #LAnd (pair ⊤ ⊥ᵖ)) (to 62 ⊥ᵖ)
+    -- ∅ = ∅: no rule
+    ∷ case (two #Equal (typed #EmptySet (pow bool)) (typed #EmptySet (pow bool))) same
+    ∷ []
+
+abbrev predicateIn : Case → Tree
+predicateIn (case t c) = t
+
+abbrev expected : Case → Change
+expected (case t c) = c
+
+source-order : map (λ (c : Case). dispatch [] (predicateIn c)) cases ≡ map expected cases
+unfolding lookup classOf formAt sameTy sameTys sameTree typeOf toExpression onTag contains makeNeg verdict scan simplifyAssocPred simplifyPredicateNode rewriteNot rewritePartition rewriteFinite anySingle firstSingle anyMinus minuends subtrahends interEmpty rewriteEqualsEmptySet rewriteEqualsType dispatch cases
+source-order = refl
