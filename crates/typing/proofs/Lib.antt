@@ -3,3 +3,4 @@ pub mod TypeExpression
 pub mod Same
 pub mod Names
 pub mod Decides
+pub mod Checked
