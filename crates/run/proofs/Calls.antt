@@ -70,3 +70,31 @@ module _ (σ : ℕ → Ty) (s : List ℕ) (t : Tree) (h : Holds σ s t) where
   step-holds : (k : ℕ) (d : List ℕ) → HoldsAfter σ t (stepCount (step s k (length d))) (heldAfterStep (step s k (length d)) s d)
   unfolding step
   step-holds k d = rw (h .checks) (on-outcome k (length d) d (stepTree t k) refl (outcomeOf (length d) (stepTree t k)) refl)
+
+  -- ---- a run
+  on-ran : (b : ℕ) (d : List ℕ) (x : Ran) → runTree b 0 t ≡ x → (short : Bool)
+      → HoldsAfter σ t (runCount (pick short (R.turnedDown 12) (endedBy x))) (heldAfterRun (pick short (R.turnedDown 12) (endedBy x)) s d)
+  on-ran b d x e true = stays
+  on-ran b d (ran w m u) e false =
+      let r = run-steps b 0 t w m u e in
+      let y : r .made ≡ m = omega (arith, r .count) in
+      let l : length (enc u) ≤ frameLimit = r .fits (h .fits) in
+      rw (held (enc u) (drop (length (enc u)) d)) (moves u m (rw y at (r .steps)) l)
+
+  run-holds : (b : ℕ) (d : List ℕ) → HoldsAfter σ t (runCount (run s b (length d))) (heldAfterRun (run s b (length d)) s d)
+  unfolding run
+  run-holds b d = rw (h .checks) (on-ran b d (runTree b 0 t) refl (ltb (length d) frameLimit))
+
+  -- ---- any call
+  pub call-holds : (c : Call) → HoldsAfter σ t (changesOf s c) (heldAfter s c)
+  unfolding changesOf heldAfter
+  call-holds (stepAt k d) = step-holds k d
+  call-holds (runWith b d) = run-holds b d
+
+pub series-holds : (σ : ℕ → Ty) (s : List ℕ) (t : Tree) → Holds σ s t → (cs : List Call) → HoldsAfter σ t (changingSteps s cs) (heldAfterAll s cs)
+unfolding changingSteps heldAfterAll
+series-holds σ s t h [] = record { tree = t; holds = h; steps = none t }
+series-holds σ s t h (c ∷ cs) =
+    let a = call-holds σ s t h c in
+    let b = series-holds σ (heldAfter s c) (a .tree) (a .holds) cs in
+    record { tree = b .tree; holds = b .holds; steps = steps-join (a .steps) (b .steps) }
