@@ -10,3 +10,4 @@ pub mod TextLines
 pub mod Extents
 pub mod AtPlace
 pub mod Splices
+pub mod Within
