@@ -9,5 +9,7 @@ pub mod SameTrees
 pub mod TextLines
 pub mod Extents
 pub mod TagTables
+pub mod TypeTurns
+pub mod HeadTurns
 pub mod AtPlace
 pub mod Splices
