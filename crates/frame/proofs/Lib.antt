@@ -11,5 +11,6 @@ pub mod Extents
 pub mod TagTables
 pub mod TypeTurns
 pub mod HeadTurns
+pub mod NodeTurns
 pub mod AtPlace
 pub mod Splices

@@ -106,6 +106,64 @@ form-code quantifiedSet = refl
 form-code comprehension = refl
 form-code unlisted = refl
 
+code-bound : (c : Class) → leb (formCode c) 19 ≡ true
+unfolding formCode
+code-bound literalPred = refl
+code-bound equality = refl
+code-bound order = refl
+code-bound membership = refl
+code-bound inclusion = refl
+code-bound binaryPred = refl
+code-bound associativePred = refl
+code-bound negation = refl
+code-bound quantifiedPred = refl
+code-bound finite = refl
+code-bound partition = refl
+code-bound identifier = refl
+code-bound bound = refl
+code-bound literal = refl
+code-bound setExtension = refl
+code-bound maplet = refl
+code-bound relationSet = refl
+code-bound setMinus = refl
+code-bound cartesian = refl
+code-bound directProduct = refl
+code-bound parallelProduct = refl
+code-bound domainRestriction = refl
+code-bound rangeRestriction = refl
+code-bound upTo = refl
+code-bound arithmetic = refl
+code-bound functionImage = refl
+code-bound relationalImage = refl
+code-bound setOperation = refl
+code-bound backwardComposition = refl
+code-bound forwardComposition = refl
+code-bound override = refl
+code-bound sum = refl
+code-bound integerSet = refl
+code-bound boolSet = refl
+code-bound truthValue = refl
+code-bound integerRelation = refl
+code-bound emptySet = refl
+code-bound projection1 = refl
+code-bound projection2 = refl
+code-bound identity = refl
+code-bound boolExpr = refl
+code-bound cardinal = refl
+code-bound powerset = refl
+code-bound generalised = refl
+code-bound domain = refl
+code-bound range = refl
+code-bound extremum = refl
+code-bound converse = refl
+code-bound unaryMinus = refl
+code-bound quantifiedSet = refl
+code-bound comprehension = refl
+code-bound unlisted = refl
+
+pub code-small : (c : Class) → formCode c < 20
+code-small c = let h = leb-true (formCode c) 19 (code-bound c) in omega arith
+
 pub code-form : (t r : ℕ) → r ≡ formCode (classOf t) → formAtCode r ≡ formOf t
 code-form t r e = ap formAtCode e ∙ form-code (classOf t)
 

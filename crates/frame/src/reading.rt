@@ -7,9 +7,9 @@ ghost use mathlib.Core.Bool.{true};
 ghost use mathlib.Core.List.{List};
 ghost use Rattle.frame.specs.Types.{Ty};
 ghost use Rattle.frame.specs.Tags.{inRange};
-ghost use Rattle.frame.specs.TagCodes.{formAtCode, sortFor};
+ghost use Rattle.frame.specs.TagCodes.{formAtCode, sortFor, kindsFor};
 ghost use Rattle.frame.specs.Reading.{numberAt, readTy, readTys, okTs, withTys, readHead};
-ghost use Rattle.frame.specs.Post.{typeAnswer, givenAt, typesAnswer, headAnswer};
+ghost use Rattle.frame.specs.Post.{typeAnswer, givenAt, typesAnswer, headAnswer, Room, NodePost, KidsPost};
 
 // "A type has at most 64 bytes."
 const TYPE_LIMIT: usize = 64;
@@ -179,5 +179,51 @@ pub fn read_head(s: &[u8], at: usize, e: bool) -> HeadAnswer
     match a {
         TypeAnswer::Ends(q) => head_is(tag, form, x, types, q),
         TypeAnswer::Refused(c) => HeadAnswer::Refused(c),
+    }
+}
+
+// The tree at `at`, an expression where e; the starts of its nodes go into the table from place k on.
+fn read_node(s: &[u8], at: usize, e: bool, starts: &mut [u16; 2048], k: usize) -> NodeAnswer
+    requires { ⌜ Room (now s) at k ⌝ }
+    ensures { λ r. ⌜ NodePost (now (s .entry)) (sortFor e) at k (now (starts .entry)) (now (starts .exit)) r ⌝ }
+{
+    let h = read_head(s, at, e);
+    match h {
+        HeadAnswer::Refused(c) => NodeAnswer::Refused(c),
+        HeadAnswer::Is {
+            tag: _,
+            payload: _,
+            types: _,
+            children,
+            count,
+            first,
+            later,
+        } => {
+            starts[k] = at as u16;
+            read_kids(s, children, count, first, later, starts, k + 1)
+        }
+    }
+}
+
+// n trees in a row, the first and the later ones of these sorts.
+fn read_kids(
+    s: &[u8],
+    at: usize,
+    n: usize,
+    first: bool,
+    later: bool,
+    starts: &mut [u16; 2048],
+    k: usize,
+) -> NodeAnswer
+    requires { ⌜ Room (now s) at k ⌝ }
+    ensures { λ r. ⌜ KidsPost (now (s .entry)) (kindsFor n first later) at k (now (starts .entry)) (now (starts .exit)) r ⌝ }
+{
+    if n == 0 {
+        return NodeAnswer::Ends(at, k);
+    }
+    let a = read_node(s, at, first, starts, k);
+    match a {
+        NodeAnswer::Ends(p, j) => read_kids(s, p, n - 1, later, later, starts, j),
+        NodeAnswer::Refused(c) => NodeAnswer::Refused(c),
     }
 }
