@@ -8,6 +8,10 @@ pub mod Frames
 pub mod SameTrees
 pub mod TextLines
 pub mod Extents
+pub mod TagTables
+pub mod TypeTurns
+pub mod HeadTurns
+pub mod NodeTurns
 pub mod AtPlace
 pub mod Splices
 pub mod Within
