@@ -1,3 +1,4 @@
 pub mod Lists
 pub mod Complete
 pub mod Sets
+pub mod Sound
