@@ -2,3 +2,4 @@ pub mod Lists
 pub mod Complete
 pub mod Sets
 pub mod Sound
+pub mod Kit
