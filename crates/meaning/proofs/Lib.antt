@@ -3,3 +3,4 @@ pub mod Complete
 pub mod Sets
 pub mod Sound
 pub mod Kit
+pub mod Emptied
