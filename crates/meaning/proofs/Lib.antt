@@ -4,3 +4,4 @@ pub mod Sets
 pub mod Sound
 pub mod Kit
 pub mod Emptied
+pub mod Many
