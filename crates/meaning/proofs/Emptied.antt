@@ -1,7 +1,8 @@
 -- Each equation of E = ∅ and E = Ty is proved once: a predicate says that E is empty, that E is full. Here such a predicate
 -- may stand for E = ∅, E ⊆ ∅ and ∅ = E, for E = Ty and Ty = E.
 -- Main results: Emptied, Filled, emptiness-keeps, fullness-keeps, emptiness-accepted, emptiness-single, fullness-accepted,
--- fullness-single (the premises for E out of those for E = ∅), emptied-by, filled-by (where the new predicate is F = ∅, F = Ty).
+-- fullness-single (the premises for E out of those for E = ∅), emptied, filled (by the type of the elements of E),
+-- emptied-by, filled-by (where the new predicate is F = ∅, F = Ty).
 use mathlib.Core.Path.{_≡_, refl, sym, ap, _∙_}
 use mathlib.Core.Bool.{Bool, true, false, not, _&&_, _||_}
 use mathlib.Core.List.{List, [], _∷_}
@@ -37,6 +38,14 @@ module _ (I : Interpretation) (σ : ℕ → Ty) (Γ : Ctx) where
     pub alive : Alive I e Γ → Alive I new Γ
     pub says : Alive I e Γ → (ρ : Vals I Γ)
         → truth I (means I new Γ) ρ ≡ every I (element (typeOf e Γ)) (setOf I (means I e Γ) ρ (element (typeOf e Γ)))
+
+  -- the same by the type u of the elements of E
+  module _ (e new : Tree) (u : Ty) (he : typeOf e Γ ≡ pow u) (f : Formula new) (s : SingleIntegers new Γ) (l : Alive I e Γ → Alive I new Γ) where
+    pub emptied : (Alive I e Γ → (ρ : Vals I Γ) → truth I (means I new Γ) ρ ≡ not (some I u (setOf I (means I e Γ) ρ u))) → Emptied e new
+    emptied k = record { formula = f; single = s; alive = l; says = rw he k }
+
+    pub filled : (Alive I e Γ → (ρ : Vals I Γ) → truth I (means I new Γ) ρ ≡ every I u (setOf I (means I e Γ) ρ u)) → Filled e new
+    filled k = record { formula = f; single = s; alive = l; says = rw he k }
 
   -- E = ∅ is F = ∅, and E = Ty is F = Ty; u and v are the types of the elements of E and F
   module _ (e f : Tree) (u v : Ty) (he : typeOf e Γ ≡ pow u) (hf : typeOf f Γ ≡ pow v) (s : SingleIntegers f Γ) (l : Alive I e Γ → Alive I f Γ) where
