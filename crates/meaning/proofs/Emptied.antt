@@ -19,7 +19,7 @@ use Rattle.meaning.specs.Operations.{opAt, opOf}
 use Rattle.meaning.specs.Meaning.{Interpretation, Vals, truth, setOf, some, every, equals, means}
 use Rattle.meaning.specs.Premises.{SingleIntegers, Alive}
 use Rattle.meaning.proofs.Sets.{is-empty, empty-is, no-members, full-is}
-use Rattle.meaning.proofs.Sound.{Formula, Keeps, by-truth, formula-type}
+use Rattle.meaning.proofs.Sound.{Formula, Keeps, keeps-truth}
 use Rattle.meaning.proofs.Kit as kit
 
 module _ (I : Interpretation) (σ : ℕ → Ty) (Γ : Ctx) where
@@ -96,57 +96,38 @@ module _ (I : Interpretation) (σ : ℕ → Ty) (Γ : Ctx) where
     u = element (typeOf e Γ)
 
     equal-empty : (t : Ty) → Emptied e new → Keeps I Γ (e ≐ ∅ t) new
-    unfolding u Alive typeOf opOf opAt classOf lookup formAt
-    equal-empty t r = record {
-      single = r .single;
-      types = sym (formula-type I new Γ (r .formula));
-      alive = λ a. r .alive (a .2 .0);
-      same = λ a. by-truth I (e ≐ ∅ t) new Γ (refl, refl) (r .formula) (λ ρ.
-          kit.equal-truth I Γ e (∅ t) (pow u) set ρ ∙ ap (λ x. equals I (pow u) (setOf I (means I e Γ) ρ u) x) (kit.none-of I Γ t ρ u)
-          ∙ is-empty (I .size) u (setOf I (means I e Γ) ρ u) ∙ sym (r .says (a .2 .0) ρ));
-    }
+    unfolding u Alive opOf opAt classOf lookup formAt
+    equal-empty t r =
+        keeps-truth I (e ≐ ∅ t) new Γ (refl, refl) (r .formula) (r .single) (λ a. r .alive (a .2 .0)) (λ a ρ.
+        kit.equal-truth I Γ e (∅ t) (pow u) set ρ ∙ ap (λ x. equals I (pow u) (setOf I (means I e Γ) ρ u) x) (kit.none-of I Γ t ρ u)
+        ∙ is-empty (I .size) u (setOf I (means I e Γ) ρ u) ∙ sym (r .says (a .2 .0) ρ))
 
     within-empty : (t : Ty) → Emptied e new → Keeps I Γ (e ⊆ ∅ t) new
-    unfolding u Alive typeOf opOf opAt classOf lookup formAt
-    within-empty t r = record {
-      single = r .single;
-      types = sym (formula-type I new Γ (r .formula));
-      alive = λ a. r .alive (a .2 .0);
-      same = λ a. by-truth I (e ⊆ ∅ t) new Γ (refl, refl) (r .formula) (λ ρ.
-          kit.subset-truth I Γ e (∅ t) u set ρ ∙ ap (λ f. every I u (λ x. not (setOf I (means I e Γ) ρ u x) || f x)) (kit.none-of I Γ t ρ u)
-          ∙ no-members (I .size) u (setOf I (means I e Γ) ρ u) ∙ sym (r .says (a .2 .0) ρ));
-    }
+    unfolding u Alive opOf opAt classOf lookup formAt
+    within-empty t r =
+        keeps-truth I (e ⊆ ∅ t) new Γ (refl, refl) (r .formula) (r .single) (λ a. r .alive (a .2 .0)) (λ a ρ.
+        kit.subset-truth I Γ e (∅ t) u set ρ ∙ ap (λ f. every I u (λ x. not (setOf I (means I e Γ) ρ u x) || f x)) (kit.none-of I Γ t ρ u)
+        ∙ no-members (I .size) u (setOf I (means I e Γ) ρ u) ∙ sym (r .says (a .2 .0) ρ))
 
     empty-equal : (t : Ty) → t ≡ typeOf e Γ → Emptied e new → Keeps I Γ (∅ t ≐ e) new
     unfolding u Alive typeOf opOf opAt classOf lookup formAt
-    empty-equal t h r = record {
-      single = r .single;
-      types = sym (formula-type I new Γ (r .formula));
-      alive = λ a. r .alive (a .2 .1 .0);
-      same = λ a. by-truth I (∅ t ≐ e) new Γ (refl, refl) (r .formula) (λ ρ.
-          kit.equal-truth I Γ (∅ t) e (pow u) (h ∙ set) ρ ∙ ap (λ x. equals I (pow u) x (setOf I (means I e Γ) ρ u)) (kit.none-of I Γ t ρ u)
-          ∙ empty-is (I .size) u (setOf I (means I e Γ) ρ u) ∙ sym (r .says (a .2 .1 .0) ρ));
-    }
+    empty-equal t h r =
+        keeps-truth I (∅ t ≐ e) new Γ (refl, refl) (r .formula) (r .single) (λ a. r .alive (a .2 .1 .0)) (λ a ρ.
+        kit.equal-truth I Γ (∅ t) e (pow u) (h ∙ set) ρ ∙ ap (λ x. equals I (pow u) x (setOf I (means I e Γ) ρ u)) (kit.none-of I Γ t ρ u)
+        ∙ empty-is (I .size) u (setOf I (means I e Γ) ρ u) ∙ sym (r .says (a .2 .1 .0) ρ))
 
     equal-type : Filled e new → Keeps I Γ (_≐Ty Γ e) new
-    unfolding u Alive typeOf opOf opAt classOf lookup formAt
-    equal-type r = record {
-      single = r .single;
-      types = sym (formula-type I new Γ (r .formula));
-      alive = λ a. r .alive (a .2 .0);
-      same = λ a. by-truth I (_≐Ty Γ e) new Γ (refl, refl) (r .formula) (λ ρ. kit.full-truth I Γ e u set ρ ∙ sym (r .says (a .2 .0) ρ));
-    }
+    unfolding u Alive opOf opAt classOf lookup formAt
+    equal-type r =
+        keeps-truth I (_≐Ty Γ e) new Γ (refl, refl) (r .formula) (r .single) (λ a. r .alive (a .2 .0)) (λ a ρ.
+        kit.full-truth I Γ e u set ρ ∙ sym (r .says (a .2 .0) ρ))
 
     type-equal : Filled e new → Keeps I Γ (Ty-of Γ e ≐ e) new
-    unfolding u Alive typeOf opOf opAt classOf lookup formAt
-    type-equal r = record {
-      single = r .single;
-      types = sym (formula-type I new Γ (r .formula));
-      alive = λ a. r .alive (a .2 .1 .0);
-      same = λ a. by-truth I (Ty-of Γ e ≐ e) new Γ (refl, refl) (r .formula) (λ ρ.
-          kit.equal-truth I Γ (Ty-of Γ e) e (pow u) (kit.type-type u Γ) ρ ∙ ap (λ x. equals I (pow u) x (setOf I (means I e Γ) ρ u)) (kit.type-full I u Γ ρ)
-          ∙ full-is (I .size) u (setOf I (means I e Γ) ρ u) ∙ sym (r .says (a .2 .1 .0) ρ));
-    }
+    unfolding u Alive opOf opAt classOf lookup formAt
+    type-equal r =
+        keeps-truth I (Ty-of Γ e ≐ e) new Γ (refl, refl) (r .formula) (r .single) (λ a. r .alive (a .2 .1 .0)) (λ a ρ.
+        kit.equal-truth I Γ (Ty-of Γ e) e (pow u) (kit.type-type u Γ) ρ ∙ ap (λ x. equals I (pow u) x (setOf I (means I e Γ) ρ u)) (kit.type-full I u Γ ρ)
+        ∙ full-is (I .size) u (setOf I (means I e Γ) ρ u) ∙ sym (r .says (a .2 .1 .0) ρ))
 
   pub emptiness-keeps : {e l new : Tree} → Emptiness e l → Accepted σ l Γ predicate → Emptied e new → Keeps I Γ l new
   unfolding Accepted typeOf classOf lookup formAt

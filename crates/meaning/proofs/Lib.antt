@@ -5,3 +5,6 @@ pub mod Sound
 pub mod Kit
 pub mod Emptied
 pub mod Many
+pub mod Connectives
+pub mod Quantifiers
+pub mod FiniteRules

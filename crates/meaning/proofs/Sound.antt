@@ -1,6 +1,6 @@
 -- Replacing a subtree by one that means the same keeps what the tree means.
 -- Main results: binders-agree (typing and meaning put the same binders around a node's operands), is-pred, is-expr (a
--- predicate means a truth, an expression a value), by-truth, Keeps, keeps-at-place, single-at-place.
+-- predicate means a truth, an expression a value), by-truth, Keeps, keeps-truth, keeps-at-place, single-at-place.
 use mathlib.Core.Path.{_≡_, refl, sym, ap, _∙_, fun-ext}
 use mathlib.Core.Bool.{Bool, true, false}
 use mathlib.Core.List.{List, [], _∷_}
@@ -162,6 +162,16 @@ module _ (I : Interpretation) where
     pub types : typeOf l Γ ≡ typeOf r Γ
     pub alive : Alive I l Γ → Alive I r Γ
     pub same : Alive I l Γ → means I l Γ ≡ means I r Γ
+
+  -- of predicates
+  pub keeps-truth : (l r : Tree) (Γ : Ctx) → Formula l → Formula r → SingleIntegers r Γ → (Alive I l Γ → Alive I r Γ)
+      → (Alive I l Γ → (ρ : Vals I Γ) → truth I (means I l Γ) ρ ≡ truth I (means I r Γ) ρ) → Keeps Γ l r
+  keeps-truth l r Γ f h s a e = record {
+    single = s;
+    types = formula-type l Γ f ∙ sym (formula-type r Γ h);
+    alive = a;
+    same = λ x. by-truth l r Γ f h (e x);
+  }
 
   pub record KeepsAll (Γ : Ctx) (ks ls : Forest) : Type 0 where
     pub single : SingleIntegersIn ls Γ
