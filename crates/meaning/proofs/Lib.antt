@@ -8,3 +8,4 @@ pub mod Many
 pub mod Connectives
 pub mod Quantifiers
 pub mod FiniteRules
+pub mod Junctions
