@@ -9,3 +9,4 @@ pub mod Connectives
 pub mod Quantifiers
 pub mod FiniteRules
 pub mod Junctions
+pub mod EquationKeeps
