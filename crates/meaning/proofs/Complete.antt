@@ -1,17 +1,17 @@
 -- Every value stands in the list of its type's values, and the test of equality is right.
 -- Main results: listed, so-eq (of types without integers), so-same (of single integers too), so-some, so-every, some-list,
 -- as-type-refl (a value at its own type).
-use mathlib.Core.Path.{_≡_, refl, sym, ap, _∙_, subst, subst-refl, fun-ext}
+use mathlib.Core.Path.{_≡_, refl, ap, subst-refl, fun-ext}
 use mathlib.Core.Logic.{_↔_, _⊎_, inl, inr}
-use mathlib.Core.Bool.{Bool, true, false, not, _&&_, _||_, Bool·beq, So, true≢false, false≢true, cond, decide, decide-iff}
+use mathlib.Core.Bool.{Bool, true, false, So, false≢true, cond, decide-iff}
 use mathlib.Core.List.{List, [], _∷_, _++_, map}
 use mathlib.Core.HLevel.{hedberg}
-use mathlib.Core.Option.{Option, some, none}
+use mathlib.Core.Option.{some, none}
 use Prim.Native.Nat.{ℕ, zero, suc}
 use native.Mathlib.Decide.{ℕ-discrete}
-use lib.IntN.{ℤ, pos, ℤ-discrete}
+use lib.IntN.{ℤ-discrete}
 use Rattle.frame.specs.Types.{Ty, bool, int, given, pow, prod, Ty-discrete}
-use Rattle.meaning.specs.Lists.{any, all, In}
+use Rattle.meaning.specs.Lists.{In}
 use Rattle.meaning.specs.Values.{Elements, listOf, sameElement, pairs, including, subsets, Value, values, same, someOf, everyOf, cast, asType}
 use Rattle.meaning.specs.Premises.{NoInt, Single}
 use Rattle.meaning.proofs.Lists.{iff, so-and, so-or, so-any, so-all, so-beq, In-left, In-right, In-map}

@@ -1,15 +1,14 @@
 -- The equations of negation, ⇒, ⇔ and ¬ keep what a predicate means.
 -- Main results: one NAME-keeps for each equation of places 16 to 23 and 66 to 84.
 use mathlib.Core.Path.{_≡_, refl, sym, ap, _∙_}
-use mathlib.Core.Bool.{Bool, true, false, not, _&&_, _||_, Bool·beq, So, false≢true}
-use mathlib.Core.List.{List, [], _∷_}
+use mathlib.Core.Bool.{Bool, true, false, not, _||_, Bool·beq, So, false≢true}
 use Prim.Native.Nat.{ℕ}
-use Rattle.frame.specs.Types.{Ty, bool, int, given, pow, prod}
-use Rattle.frame.specs.Trees.{Head, head, Tree, node, Forest, nil, cons, leaf, two}
-use Rattle.frame.specs.Tags.{Sort, predicate, expression, classOf, lookup, formAt}
+use Rattle.frame.specs.Types.{Ty, bool, int}
+use Rattle.frame.specs.Trees.{Tree, Forest, leaf, two}
+use Rattle.frame.specs.Tags.{predicate, classOf, lookup, formAt}
 use Rattle.frame.specs.Operators.{#Lt, #Le, #Gt, #Ge, #True, #False}
 use Rattle.frame.specs.Places.{Ctx}
-use Rattle.typing.specs.Typing.{typeOf, typesIn}
+use Rattle.typing.specs.Typing.{typeOf}
 use Rattle.typing.specs.Accepted.{Accepted}
 use Rattle.rules.specs.Equations.{⊤, ⊥ᵖ, ¬ᵖ, _⇒_, _⇔_, ⋀, _≐_, Among, Opposite, negated, restored}
 use Rattle.meaning.specs.Values.{same}

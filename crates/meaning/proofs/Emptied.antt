@@ -4,15 +4,13 @@
 -- fullness-single (the premises for E out of those for E = ∅), emptied, filled (by the type of the elements of E),
 -- emptied-by, filled-by (where the new predicate is F = ∅, F = Ty).
 use mathlib.Core.Path.{_≡_, refl, sym, ap, _∙_}
-use mathlib.Core.Bool.{Bool, true, false, not, _&&_, _||_}
-use mathlib.Core.List.{List, [], _∷_}
+use mathlib.Core.Bool.{not, _||_}
 use Prim.Native.Nat.{ℕ}
-use Rattle.frame.specs.Types.{Ty, bool, int, given, pow, prod}
-use Rattle.frame.specs.Trees.{Head, head, Tree, node, Forest, nil, cons}
-use Rattle.frame.specs.Tags.{Sort, predicate, expression, classOf, lookup, formAt}
+use Rattle.frame.specs.Types.{Ty, pow}
+use Rattle.frame.specs.Trees.{Tree}
+use Rattle.frame.specs.Tags.{predicate, expression, classOf, lookup, formAt}
 use Rattle.frame.specs.Places.{Ctx}
-use Rattle.typing.specs.Typing.{element, typeOf, typesIn}
-use Rattle.typing.specs.TypeExpression.{toExpression}
+use Rattle.typing.specs.Typing.{element, typeOf}
 use Rattle.typing.specs.Accepted.{Accepted}
 use Rattle.rules.specs.Equations.{_≐_, _⊆_, ∅, _≐∅, Ty-of, _≐Ty, Emptiness, is-∅, in-∅, ∅-is, Fullness, is-Ty, Ty-is}
 use Rattle.meaning.specs.Operations.{opAt, opOf}

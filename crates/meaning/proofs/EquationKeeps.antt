@@ -1,10 +1,9 @@
 -- Every equation keeps what a predicate means.
 -- Main result: equation-keeps, from what is proved of the equations of E = ∅ and E = Ty.
-use mathlib.Core.List.{List, [], _∷_}
 use Prim.Native.Nat.{ℕ}
 use Rattle.frame.specs.Types.{Ty, prod}
-use Rattle.frame.specs.Trees.{Tree, nil, cons, leaf, two, typed, sole}
-use Rattle.frame.specs.Tags.{Sort, predicate, expression}
+use Rattle.frame.specs.Trees.{Tree, cons, leaf, two, typed}
+use Rattle.frame.specs.Tags.{predicate, expression}
 use Rattle.frame.specs.Operators.{#Bool, #UpTo, #KIdGen, #KPrj1Gen, #KPrj2Gen}
 use Rattle.frame.specs.Places.{Ctx}
 use Rattle.typing.specs.Accepted.{TysOk, Accepted}

@@ -2,23 +2,23 @@
 -- type ℙ(ℤ), which the integers premise rules out.
 -- Main results: finite-keeps (finite(S) and any true predicate), and one NAME-keeps for each equation of places 1 to 15.
 use mathlib.Core.Path.{_≡_, refl, sym, ap, _∙_, fun-ext}
-use mathlib.Core.Bool.{Bool, true, false, not, _&&_, _||_}
-use mathlib.Core.List.{List, [], _∷_}
+use mathlib.Core.Bool.{Bool, true, false, _||_}
+use mathlib.Core.List.{List, _∷_}
 use Prim.Native.Nat.{ℕ}
-use Rattle.frame.specs.Types.{Ty, bool, int, given, pow, prod}
-use Rattle.frame.specs.Trees.{Head, head, Tree, node, Forest, nil, cons, leaf, one, two, many, typed, sole, pair, bodied, mapF}
-use Rattle.frame.specs.Tags.{Sort, predicate, classOf, lookup, formAt}
-use Rattle.frame.specs.Operators.{#Natural, #Natural1, #Integer, #Bool, #KIdGen, #KPrj1Gen, #KPrj2Gen, #BUnion, #Pow, #CProd, #Converse, #UpTo, #CSet, #Mapsto, #DomRes, #Partition}
-use Rattle.frame.specs.Places.{Ctx, push}
+use Rattle.frame.specs.Types.{Ty, int, pow}
+use Rattle.frame.specs.Trees.{Tree, Forest, nil, cons, leaf, one, two, many, typed, sole, pair, bodied, mapF}
+use Rattle.frame.specs.Tags.{predicate, classOf, lookup, formAt}
+use Rattle.frame.specs.Operators.{#Natural, #Natural1, #Integer, #BUnion, #Pow, #CProd, #Converse, #CSet, #Mapsto, #DomRes, #Partition}
+use Rattle.frame.specs.Places.{Ctx}
 use Rattle.typing.specs.Typing.{element, relation, typeOf, typesIn}
 use Rattle.typing.specs.TypeExpression.{toExpression}
 use Rattle.typing.specs.Accepted.{Accepted}
 use Rattle.rules.specs.Equations.{⊤, ⊥ᵖ, ⋀, ⋁, _≐_, fin, _≐∅}
 use Rattle.meaning.specs.Lists.{any, all}
-use Rattle.meaning.specs.Operations.{Logic, partition, opAt, opOf}
-use Rattle.meaning.specs.Meaning.{Interpretation, Vals, Den, truth, setOf, equals, holds, disjointFrom, disjoint, partitions, means, meansAll}
-use Rattle.meaning.specs.Premises.{NoInt, SingleIntegers, SingleIntegersIn, Alive, AliveAll}
-use Rattle.meaning.proofs.Lists.{or-true, or-false, and-true}
+use Rattle.meaning.specs.Operations.{partition, opAt, opOf}
+use Rattle.meaning.specs.Meaning.{Interpretation, Vals, truth, setOf, equals, holds, disjointFrom, disjoint, partitions, means, meansAll}
+use Rattle.meaning.specs.Premises.{NoInt, SingleIntegers, Alive}
+use Rattle.meaning.proofs.Lists.{or-false, and-true}
 use Rattle.meaning.proofs.Sets.{is-empty}
 use Rattle.meaning.proofs.Sound.{Formula, Keeps, keeps-truth}
 use Rattle.meaning.proofs.Kit as kit

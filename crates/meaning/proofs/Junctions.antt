@@ -2,16 +2,15 @@
 -- Main results: junction-decided-keeps, junction-opposite-keeps (place 62), junction-none-keeps, junction-one-keeps,
 -- junction-fewer-keeps (places 63 to 65).
 use mathlib.Core.Path.{_≡_, refl, sym, ap, _∙_}
-use mathlib.Core.Logic.{_⊎_, inl, inr}
-use mathlib.Core.Bool.{Bool, true, false, not, _&&_, _||_, So}
-use mathlib.Core.List.{List, [], _∷_, _++_}
+use mathlib.Core.Bool.{Bool, true, false, not, _&&_, _||_}
+use mathlib.Core.List.{List, _∷_, _++_}
 use Prim.Native.Nat.{ℕ}
 use Rattle.frame.specs.Types.{Ty}
-use Rattle.frame.specs.Trees.{Head, head, Tree, node, Forest, nil, cons, leaf, many, sole, append, count}
-use Rattle.frame.specs.Tags.{Sort, predicate, repeat, classOf, lookup, formAt}
+use Rattle.frame.specs.Trees.{Tree, Forest, nil, cons, leaf, many, sole, append, count}
+use Rattle.frame.specs.Tags.{predicate, repeat, classOf, lookup, formAt}
 use Rattle.frame.specs.Operators.{#LAnd, #LOr, #BTrue, #BFalse}
 use Rattle.frame.specs.Places.{Ctx}
-use Rattle.typing.specs.Typing.{typeOf, typesIn}
+use Rattle.typing.specs.Typing.{typeOf}
 use Rattle.typing.specs.Accepted.{Accepted, AcceptedAll}
 use Rattle.rules.specs.Equations.{¬ᵖ, Among, Junction, conjunction, disjunction, Dropped, done, literal, repeated}
 use Rattle.meaning.specs.Lists.{any, all, In}

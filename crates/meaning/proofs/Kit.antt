@@ -2,23 +2,22 @@
 -- Main results: NAME-truth, NAME-single, NAME-alive for NAME one of not, and, or, implies, equiv, forall, exists, equal,
 -- member, subset, empty (E = ∅), full (E = Ty); type-full (a type's expression is everything), type-type, type-single,
 -- type-alive; single-type, no-int (the integers premise at a tree's type).
-use mathlib.Core.Path.{_≡_, refl, sym, ap, ap₂, _∙_, fun-ext}
-use mathlib.Core.Bool.{Bool, true, false, not, _&&_, _||_, Bool·beq, So}
+use mathlib.Core.Path.{_≡_, refl, ap, ap₂, _∙_, fun-ext}
+use mathlib.Core.Bool.{Bool, true, false, not, _&&_, _||_, Bool·beq}
 use mathlib.Core.List.{List, [], _∷_}
-use Prim.Native.Nat.{ℕ, zero, suc}
 use lib.Dec.{eqb, eqb-refl, T}
 use Rattle.frame.specs.Types.{Ty, bool, int, given, pow, prod}
-use Rattle.frame.specs.Trees.{Head, head, Tree, node, Forest, nil, cons, mapF}
+use Rattle.frame.specs.Trees.{head, Tree, node, Forest}
 use Rattle.frame.specs.Tags.{classOf, lookup, formAt}
 use Rattle.frame.specs.Places.{Ctx, push}
-use Rattle.typing.specs.Typing.{element, typeOf, typesIn}
+use Rattle.typing.specs.Typing.{element, typeOf}
 use Rattle.typing.specs.TypeExpression.{toExpression}
-use Rattle.rules.specs.Equations.{⊤, ⊥ᵖ, ¬ᵖ, _⇒_, _⇔_, ⋀, ⋁, ∀ᵖ, ∃ᵖ, _≐_, _∈ᵖ_, _⊆_, ∅, _≐∅, Ty-of, _≐Ty}
+use Rattle.rules.specs.Equations.{¬ᵖ, _⇒_, _⇔_, ⋀, ⋁, ∀ᵖ, ∃ᵖ, _≐_, _∈ᵖ_, _⊆_, ∅, _≐∅, Ty-of, _≐Ty}
 use Rattle.meaning.specs.Lists.{any, all}
-use Rattle.meaning.specs.Operations.{Logic, equal, subset, member, opAt, opOf}
-use Rattle.meaning.specs.Meaning.{Interpretation, Vals, Den, truth, val, setOf, some, every, equals, choices, identifierValue, holds, valueOf, quantified, means, meansAll}
+use Rattle.meaning.specs.Operations.{equal, subset, member, opAt, opOf}
+use Rattle.meaning.specs.Meaning.{Interpretation, Vals, truth, val, setOf, some, every, equals, choices, identifierValue, holds, valueOf, quantified, means, meansAll}
 use Rattle.meaning.specs.Premises.{NoInt, Single, AllNoInt, AllSingle, SingleIntegers, SingleIntegersIn, Alive, AliveAll}
-use Rattle.meaning.proofs.Lists.{or-true, not-or}
+use Rattle.meaning.proofs.Lists.{or-true}
 use Rattle.meaning.proofs.Sets.{is-empty, is-full, every-true}
 
 -- ---- the integers premise at types

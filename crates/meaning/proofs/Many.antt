@@ -3,12 +3,11 @@
 -- is ∅, is full), append-means, append-types, append-single, append-alive, left-single, right-single, left-alive,
 -- right-alive (two lists joined), among-means, among-single, among-alive, each-alike (operands of one type).
 use mathlib.Core.Path.{_≡_, refl, sym, ap, ap₂, _∙_}
-use mathlib.Core.Logic.{_⊎_, inl, inr}
-use mathlib.Core.Bool.{Bool, true, false, not, _&&_, _||_}
+use mathlib.Core.Logic.{inl, inr}
+use mathlib.Core.Bool.{Bool, not, _&&_, _||_}
 use mathlib.Core.List.{List, [], _∷_, _++_}
-use Prim.Native.Nat.{ℕ}
-use Rattle.frame.specs.Types.{Ty, bool, int, given, pow, prod}
-use Rattle.frame.specs.Trees.{Head, head, Tree, node, Forest, nil, cons, append, mapF}
+use Rattle.frame.specs.Types.{Ty, pow}
+use Rattle.frame.specs.Trees.{Tree, Forest, nil, cons, append, mapF}
 use Rattle.frame.specs.Places.{Ctx}
 use Rattle.typing.specs.Typing.{alike, typeOf, typesIn}
 use Rattle.rules.specs.Equations.{Among, _≐∅, _≐Ty}

@@ -1,19 +1,18 @@
 -- The equations of the quantifiers keep what a predicate means.
 -- Main results: forall-and-keeps, exists-or-keeps, exists-imp-keeps (places 85 to 87).
-use mathlib.Core.Path.{_≡_, refl, sym, ap, ap₂, _∙_}
-use mathlib.Core.Bool.{Bool, not, _||_}
-use mathlib.Core.List.{List, [], _∷_}
+use mathlib.Core.Path.{_≡_, refl, sym, _∙_}
+use mathlib.Core.List.{List}
 use Prim.Native.Nat.{ℕ}
 use Rattle.frame.specs.Types.{Ty, bool}
-use Rattle.frame.specs.Trees.{Head, head, Tree, node, Forest, nil, cons, mapF}
-use Rattle.frame.specs.Tags.{Sort, predicate, classOf, lookup, formAt}
+use Rattle.frame.specs.Trees.{Tree, Forest, mapF}
+use Rattle.frame.specs.Tags.{predicate, classOf, lookup, formAt}
 use Rattle.frame.specs.Places.{Ctx, push}
 use Rattle.typing.specs.Typing.{typeOf, typesIn}
 use Rattle.typing.specs.Accepted.{Accepted}
 use Rattle.rules.specs.Equations.{_⇒_, ⋀, ⋁, ∀ᵖ, ∃ᵖ}
 use Rattle.meaning.specs.Lists.{any, all}
 use Rattle.meaning.specs.Operations.{opAt, opOf}
-use Rattle.meaning.specs.Meaning.{Interpretation, Vals, Den, truth, choices, holds, quantified, means, meansAll}
+use Rattle.meaning.specs.Meaning.{Interpretation, Vals, truth, choices, holds, quantified, means, meansAll}
 use Rattle.meaning.specs.Premises.{SingleIntegers, Alive}
 use Rattle.meaning.proofs.Lists.{all-swap, any-swap, any-imp}
 use Rattle.meaning.proofs.Sound.{Keeps, keeps-truth}

@@ -3,20 +3,20 @@
 -- predicate means a truth, an expression a value), by-truth, Keeps, keeps-truth, keeps-at-place, single-at-place.
 use mathlib.Core.Path.{_≡_, refl, sym, ap, _∙_, fun-ext}
 use mathlib.Core.Bool.{Bool, true, false}
-use mathlib.Core.List.{List, [], _∷_}
-use Prim.Native.Nat.{ℕ, zero, suc}
+use mathlib.Core.List.{List, []}
+use Prim.Native.Nat.{ℕ}
 use native.Mathlib.Omega.{arith}
-use Rattle.frame.specs.Types.{Ty, bool, int, given, pow, prod}
-use Rattle.frame.specs.Trees.{Head, head, Tree, node, Forest, nil, cons}
+use Rattle.frame.specs.Types.{Ty, bool}
+use Rattle.frame.specs.Trees.{head, Tree, node, Forest, cons}
 use Rattle.frame.specs.Tags.{Sort, predicate, expression, bindersOf, formAt, formOf, classOf}
 use Rattle.frame.specs.Tags as C
-use Rattle.frame.specs.Places.{Ctx, push, under, Found, found, find, replace}
+use Rattle.frame.specs.Places.{Ctx, push, under, found, find, replace}
 use Rattle.frame.proofs.AtPlace.{at-place, down-place}
 use Rattle.typing.specs.Typing.{result, typeOf, typesIn}
 use Rattle.typing.specs.Accepted.{Accepted}
 use Rattle.meaning.specs.Operations.{Op, logic, quantifier, operator, binding, opAt, opOf}
 use Rattle.meaning.specs.Meaning.{Interpretation, Vals, Den, pred, expr, truth, val, bindersIn, nodeMeans, means, meansAll}
-use Rattle.meaning.specs.Premises.{Single, SingleIntegers, SingleIntegersIn, Alive, AliveAll}
+use Rattle.meaning.specs.Premises.{SingleIntegers, SingleIntegersIn, Alive, AliveAll}
 
 -- an operator suits the sort of its tag, and a predicate has no type
 abbrev Suits : Bool → Sort → Op → Ty → Type 0
