@@ -1,0 +1,12 @@
+pub mod Lists
+pub mod Complete
+pub mod Sets
+pub mod Sound
+pub mod Kit
+pub mod Emptied
+pub mod Many
+pub mod Connectives
+pub mod Quantifiers
+pub mod FiniteRules
+pub mod Junctions
+pub mod EquationKeeps
