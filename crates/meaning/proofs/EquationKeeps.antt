@@ -58,7 +58,7 @@ module _
   equation-keeps I σ Γ z l r k («SIMP_MULTI_AND_NOT/OR_NOT» g n d ps q j i h) a s = jun.junction-opposite-keeps I σ Γ g n d ps j q i h
   equation-keeps I σ Γ z l r k («SIMP_SPECIAL_AND_BTRUE/OR_BFALSE/none» g n d ps j h) a s = jun.junction-none-keeps I σ Γ g n d ps j h
   equation-keeps I σ Γ z l r k («SIMP_SPECIAL_AND_BTRUE/MULTI_AND/one» g n d ps p j h) a s = jun.junction-one-keeps I σ Γ g n d ps j p h a s
-  equation-keeps I σ Γ z l r k («SIMP_SPECIAL_AND_BTRUE/MULTI_AND» g n d ps p q qs j h) a s = jun.junction-fewer-keeps I σ Γ g n d ps j (cons p (cons q qs)) h s
+  equation-keeps I σ Γ z l r k («SIMP_SPECIAL_AND_BTRUE/MULTI_AND» g n d ps p q qs j h c) a s = jun.junction-fewer-keeps I σ Γ g n d ps j (cons p (cons q qs)) h s
   equation-keeps I σ Γ z l r k («SIMP_SPECIAL_IMP_BTRUE_L» p) a s = con.imp-top-left-keeps I σ Γ p a s
   equation-keeps I σ Γ z l r k («SIMP_SPECIAL_IMP_BFALSE_L» p) a s = con.imp-bottom-left-keeps I σ Γ p
   equation-keeps I σ Γ z l r k («SIMP_SPECIAL_IMP_BTRUE_R» p) a s = con.imp-top-right-keeps I σ Γ p
