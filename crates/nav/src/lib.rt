@@ -1,0 +1,1 @@
+// Walking over an accepted frame: places, children, ends, sameness.
