@@ -10,3 +10,6 @@ pub mod Quantifiers
 pub mod FiniteRules
 pub mod Junctions
 pub mod EquationKeeps
+pub mod TypeSets
+pub mod TypeRules
+pub mod Sanity
