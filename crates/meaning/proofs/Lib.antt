@@ -9,7 +9,14 @@ pub mod Connectives
 pub mod Quantifiers
 pub mod FiniteRules
 pub mod Junctions
-pub mod EquationKeeps
+pub mod EmptySets
+pub mod EmptySetsMore
+pub mod EmptyRulesKit
+pub mod EmptyRules
+pub mod EmptyRulesMany
+pub mod EmptyRulesCaps
+pub mod EmptyRulesAll
 pub mod TypeSets
 pub mod TypeRules
+pub mod EquationKeeps
 pub mod Sanity
