@@ -13,5 +13,6 @@ pub mod TypeTurns
 pub mod HeadTurns
 pub mod NodeTurns
 pub mod FrameTurns
+pub mod LineTurns
 pub mod AtPlace
 pub mod Splices
