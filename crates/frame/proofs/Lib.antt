@@ -12,6 +12,8 @@ pub mod TagTables
 pub mod TypeTurns
 pub mod HeadTurns
 pub mod NodeTurns
+pub mod FrameTurns
+pub mod LineTurns
 pub mod AtPlace
 pub mod Splices
 pub mod Within

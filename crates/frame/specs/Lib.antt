@@ -7,6 +7,7 @@ pub mod Encoding
 pub mod Reading
 pub mod Post
 pub mod Lines
+pub mod LineState
 pub mod Places
 pub mod Sameness
 pub mod WellFormed
