@@ -1,0 +1,1 @@
+// Writing a new frame into a scratch buffer: bytes, copied parts, types, type expressions, and whole right sides by template.
