@@ -1,2 +1,4 @@
 pub mod View
 pub mod SameTurns
+pub mod Hops
+pub mod PlaceTurns

@@ -1,2 +1,3 @@
 pub mod Stands
 pub mod Compared
+pub mod PlaceTables

@@ -53,7 +53,7 @@ fn same_heads(s: &[u8], a: usize, b: usize, e: bool) -> Heads
         HeadAnswer::Is {
             tag: _,
             payload: _,
-            types: _,
+            types: _types,
             children,
             count,
             first,
@@ -65,7 +65,8 @@ fn same_heads(s: &[u8], a: usize, b: usize, e: bool) -> Heads
             }
             let ok = same_bytes(s, a, b, n);
             if ok {
-                Heads::Agree(children, b + n, count, first, later)
+                let q = b + n;
+                Heads::Agree(children, q, count, first, later)
             } else {
                 Heads::Differ
             }

@@ -69,8 +69,8 @@ same-bytes-requires : tie.Need-same-bytes-requires
 same-bytes-requires c κs = let z = heads-room _ _ _ _ _ (c .before .before .before .before .read-head .ensures) _ _ _ _ _ _ _ (c .before .before .h2 .given .1) (c .before .before .before .before .before .before .before .before .before .before .before .before .pre) in omega arith
 
 -- src/sameness.rt:68:40
-add-t27 : tie.Need-add-t27
-add-t27 c = let z = heads-room _ _ _ _ _ (c .before .before .before .before .before .before .read-head .ensures) _ _ _ _ _ _ _ (c .before .before .before .before .h2 .given .1) (c .before .before .before .before .before .before .before .before .before .before .before .before .before .before .pre) in omega arith
+add-q : tie.Need-add-q
+add-q c = let z = heads-room _ _ _ _ _ (c .before .before .before .before .before .before .read-head .ensures) _ _ _ _ _ _ _ (c .before .before .before .before .h2 .given .1) (c .before .before .before .before .before .before .before .before .before .before .before .before .before .before .pre) in omega arith
 
 -- src/sameness.rt:40:1
 returns-4 : tie.Need-returns-4
@@ -103,7 +103,7 @@ same-heads-spec =
     sub-if3
     returns-3
     same-bytes-requires
-    add-t27
+    add-q
     returns-4
     returns-5
     returns-6)
