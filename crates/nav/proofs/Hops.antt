@@ -1,29 +1,27 @@
 -- Places by the tables: what stands at a place, and how hops from place to place meet the children of a node.
 -- Main results: place-stands, place-formed, place-read (what stands at a place); place-end (its last place); child-first,
 -- child-next (a node's children in their order); hops-kids, hops-node; next-start, ends-at (where a subtree ends).
-use mathlib.Core.Path.{_≡_, refl, sym, ap, ap₂, _∙_, subst}
+use mathlib.Core.Path.{_≡_, refl, sym, ap, _∙_}
 use mathlib.Core.Bool.{Bool, true, false}
 use mathlib.Core.List.{List, [], _∷_, _++_, append-assoc}
 use Prim.Native.Nat.{ℕ, zero, suc, _+_, _-_, _≤_, _<_}
 use native.Mathlib.Omega.{arith}
-use lib.ListN.{length, getD, take, drop, length-append, List·getD-append}
+use lib.ListN.{length, getD, length-append, List·getD-append}
 use lib.Seq.{getD-append-add}
 use lib.Dec.{ltb}
 use borrow.Author.Tests.{ltb-true, ltb-false}
 use Rattle.frame.specs.Types.{Ty}
-use Rattle.frame.specs.Trees.{Head, head, Tree, node, Forest, nil, cons, count, tagOf, nodes, nodesIn}
+use Rattle.frame.specs.Trees.{Head, head, Tree, node, Forest, nil, cons, count, nodes, nodesIn}
 use Rattle.frame.specs.Tags.{pick, Sort, predicate, formOf, sortsOf}
 use Rattle.frame.specs.Encoding.{encHead, enc, encs, starts, startsIn}
 use Rattle.frame.specs.WellFormed.{numberIn, Wf, Wfs}
-use Rattle.frame.specs.Spans.{Spans}
 use Rattle.frame.specs.Places.{Ctx, under, Found, found, find, findIn}
-use Rattle.frame.specs.Post.{tableSize}
-use Rattle.frame.proofs.Extents.{nodes-enc, starts-length, startsIn-length}
+use Rattle.frame.proofs.Extents.{nodes-enc, starts-length}
 use Rattle.frame.proofs.AtPlace.{absent-not, down-place}
 use Rattle.frame.proofs.Splices.{find-some, find-lt, splice-there, splice-within}
 use Rattle.frame.proofs.Within.{find-within, KidsAtPlace, kids-of, kid-first, kid-next}
 use Rattle.nav.specs.Stands.{Stands}
-use Rattle.nav.specs.PlaceTables.{arity, Framed, NextsFrom, Table, hops, HopsIn}
+use Rattle.nav.specs.PlaceTables.{arity, Framed, NextsFrom, hops, HopsIn}
 
 -- ---- what stands at a place
 

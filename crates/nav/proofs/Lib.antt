@@ -2,3 +2,4 @@ pub mod View
 pub mod SameTurns
 pub mod Hops
 pub mod PlaceTurns
+pub mod SamePlaces

@@ -1,14 +1,14 @@
 -- The ways out of the functions of sameness and of ends, on plain values.
 -- Main results: bytes-yes, bytes-no; tags-first, tags-second, heads-room, heads-short, heads-bytes, heads-agree; node-differ,
 -- node-both, node-kids; kids-none, kids-first, kids-no, kids-rest, kids-yes; end-kids, ends-none, ends-more.
-use mathlib.Core.Path.{_≡_, refl, sym, ap, ap₂, _∙_, subst}
+use mathlib.Core.Path.{_≡_, sym, ap, ap₂, _∙_, subst}
 use mathlib.Core.Bool.{Bool, true, false}
-use mathlib.Core.List.{List, [], _∷_, _++_}
-use Prim.Native.Nat.{ℕ, zero, suc, _+_, _-_, _≤_, _<_}
+use mathlib.Core.List.{List}
+use Prim.Native.Nat.{ℕ, _+_, _-_, _≤_, _<_}
 use native.Mathlib.Omega.{arith}
-use lib.ListN.{length, getD, take, drop, length-append, length-take, length-drop}
+use lib.ListN.{length, getD, take, drop, length-take, length-drop}
 use lib.Seq.{ext-getD, getD-take, getD-drop}
-use Rattle.frame.specs.Trees.{Head, head, Tree, node, Forest, nil, cons, count}
+use Rattle.frame.specs.Trees.{head, Tree, node, Forest, nil, cons, count}
 use Rattle.frame.specs.Tags.{Sort}
 use Rattle.frame.specs.TagCodes.{sortFor, kindsFor}
 use Rattle.frame.specs.Encoding.{encHead, enc, encs}
@@ -18,14 +18,14 @@ use Rattle.frame.specs.Post.{headAnswer}
 use Rattle.frame.specs.declared.reading.HeadAnswer.{HeadAnswer}
 use Rattle.frame.specs.declared.reading.HeadAnswer.the-variants as H
 use Rattle.frame.proofs.Inversion.{true-not}
-use Rattle.frame.proofs.ReadBack.{head-long, enc-long, head-back}
+use Rattle.frame.proofs.ReadBack.{enc-long, head-back}
 use Rattle.nav.specs.Stands.{Stands, StandAll}
 use Rattle.nav.specs.Compared.{BothStand, BothStandAll, SamePost, SameAllPost, Agreed, HeadsPost, BytesPost, Standing, StandingAll, EndPost, EndAllPost}
 use Rattle.nav.specs.declared.sameness.Same.{Same}
 use Rattle.nav.specs.declared.sameness.Same.the-variants.{Yes, No}
 use Rattle.nav.specs.declared.sameness.Heads.{Heads}
 use Rattle.nav.specs.declared.sameness.Heads.the-variants.{Agree, Differ}
-use Rattle.nav.proofs.View.{Read, read-there, said, view, view-refused, stand-inside, stand-byte, all-inside, split-kinds, none-kinds}
+use Rattle.nav.proofs.View.{read-there, said, view, view-refused, stand-inside, stand-byte, all-inside, split-kinds, none-kinds}
 
 -- ---- two windows of the bytes
 module _ (s : List ℕ) (a b n : ℕ) (ha : a + n ≤ length s) (hb : b + n ≤ length s) where

@@ -2,19 +2,19 @@
 -- Main results: view (the head, the types and the children of the tree that stands where a head is read), view-refused (a
 -- head is never refused there), stand-inside, all-inside, all-none, all-first, all-rest, split, split-kinds; stand-byte.
 use mathlib.Core.Path.{_≡_, refl, sym, ap, ap₂, _∙_, subst}
-use mathlib.Core.Bool.{Bool, true, false}
+use mathlib.Core.Bool.{Bool}
 use mathlib.Core.List.{List, [], _∷_, _++_}
-use Prim.Native.Nat.{ℕ, zero, suc, _+_, _-_, _≤_, _<_}
+use Prim.Native.Nat.{ℕ, suc, _+_, _-_, _≤_, _<_}
 use native.Mathlib.Omega.{arith}
-use lib.ListN.{length, getD, take, drop, length-append}
+use lib.ListN.{length, getD, drop, length-append}
 use lib.Seq.{getD-drop, getD-take}
 use Rattle.frame.specs.Types.{Ty}
 use Rattle.frame.specs.Trees.{Head, head, Tree, node, Forest, nil, cons, count}
 use Rattle.frame.specs.Tags.{Sort, formOf, width, sortsOf}
-use Rattle.frame.specs.TagCodes.{sortFor, firstSort, laterSort, kindsFor}
+use Rattle.frame.specs.TagCodes.{sortFor, kindsFor}
 use Rattle.frame.specs.Encoding.{encNumber, encTys, encHead, enc, encs}
-use Rattle.frame.specs.Reading.{HeadRes, okH, noH, readHead}
-use Rattle.frame.specs.WellFormed.{numberIn, HeadWf, Wf, Wfs}
+use Rattle.frame.specs.Reading.{okH, readHead}
+use Rattle.frame.specs.WellFormed.{numberIn, HeadWf, Wfs}
 use Rattle.frame.specs.Spans.{Spans}
 use Rattle.frame.specs.Post.{headAnswer}
 use Rattle.frame.specs.declared.reading.HeadAnswer.{HeadAnswer}
@@ -23,7 +23,7 @@ use Rattle.frame.proofs.Spans.{span-left, span-right}
 use Rattle.frame.proofs.Numbers.{number-length}
 use Rattle.frame.proofs.Inversion.{noH-not}
 use Rattle.frame.proofs.ReadBack.{head-long, enc-long, head-back}
-use Rattle.frame.proofs.NodeTurns.{HeadSaid, head-yes, head-no, head-kinds}
+use Rattle.frame.proofs.NodeTurns.{head-yes, head-no, head-kinds}
 use Rattle.frame.proofs.TagTables.{kinds-rest}
 use Rattle.nav.specs.Stands.{Stands, StandAll}
 
@@ -55,7 +55,7 @@ module _ (s : List ℕ) (at : ℕ) (e : Sort) where
       let w : ℕ = width (formOf g .layout) in
       let x : ℕ = numberIn g n us k in
       let b = span-right (encNumber w x) (encTys us) (span-right (encNumber 2 g) (encNumber w x ++ encTys us) a) in
-      rw (number-length, number-length) at b
+      rw (number-length 2 g, number-length w x) at b
 
   pub read-there : (t : Tree) → Stands s at e t → Read s at e t
   unfolding enc
@@ -119,8 +119,8 @@ module _ (s : List ℕ) (at : ℕ) (e : Sort) (t : Tree) (hd : HeadAnswer) (eh :
       let d = head-yes (readHead s at e) g n tp p m a b (sym ei ∙ eh) in
       let ee : d .es ≡ r .es = cc (r .read, d .is) in
       record {
-        tag = cc (r .read, d .is);
-        own = cc (r .read, d .is);
+        tag = cc (r .read);
+        own = cc (r .read);
         types = cc (r .read, d .is);
         from = cc (r .read, d .is);
         many = d .many ∙ ap (λ (l : List Sort). length l) ee ∙ sym (all-count (r .ks) (r .es) (r .kids .formed));

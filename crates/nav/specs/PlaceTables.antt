@@ -3,16 +3,21 @@
 -- at k + 1, and the next sibling of place c at the place that follows c's subtree.
 use Prim.Native.Nat.{ℕ, zero, suc, _+_, _≤_, _<_}
 use mathlib.Core.Path.{_≡_}
+use mathlib.Core.Bool.{Bool, true, false}
 use mathlib.Core.List.{List, []}
 use lib.ListN.{length, getD}
 use Rattle.frame.specs.Trees.{Tree, node, count, tagOf, nodes}
-use Rattle.frame.specs.Tags.{Sort, predicate}
+use Rattle.frame.specs.Tags.{Sort, predicate, formOf}
+use Rattle.frame.specs.TagCodes.{isExpression}
 use Rattle.frame.specs.Encoding.{enc, starts}
 use Rattle.frame.specs.Reading.{frameLimit}
 use Rattle.frame.specs.WellFormed.{Wf}
 use Rattle.frame.specs.Places.{Ctx, found, find}
 use Rattle.frame.specs.Post.{tableSize}
+use Rattle.frame.specs.Sameness.{sameTree}
 use Rattle.nav.specs.Stands.{Stands}
+use Rattle.nav.specs.declared.sameness.Same.{Same}
+use Rattle.nav.specs.declared.sameness.Same.the-variants.{Yes, No}
 
 -- how many children the root has
 abbrev pub arity : Tree → ℕ
@@ -85,3 +90,22 @@ pub record ChildrenPost (s st : List ℕ) (k r : ℕ) : Type 0 where
 
 pub record EndAtPost (s : List ℕ) (n : ℕ) (st nx : List ℕ) (k r : ℕ) : Type 0 where
   pub ends : (t : Tree) (Γ : Ctx) (v : Tree) → Table s t st nx n → find t [] k ≡ found Γ v → r ≡ getD st k 0 + length (enc v)
+
+-- the sort that the tag of a tree says, which is the tree's
+abbrev pub sortOf : Tree → Sort
+sortOf v = formOf (tagOf v) .sort
+
+pub record SortPost (s st : List ℕ) (k : ℕ) (r : Bool) : Type 0 where
+  pub sort : (t : Tree) (n : ℕ) (Γ : Ctx) (v : Tree) → Framed s t st n → find t [] k ≡ found Γ v → r ≡ isExpression (sortOf v)
+
+-- ---- sameness by places
+pub record BothPlaced (s st : List ℕ) (a b : ℕ) : Type 0 where
+  pub left : Placed s st a
+  pub right : Placed s st b
+
+pub record SameAtPost (s st : List ℕ) (a b : ℕ) (r : Bool) : Type 0 where
+  pub same : (t : Tree) (n : ℕ) (Γ Δ : Ctx) (v w : Tree) → Framed s t st n → find t [] a ≡ found Γ v → find t [] b ≡ found Δ w → r ≡ sameTree v w
+
+abbrev pub isYes : Same → Bool
+isYes (Yes x y) = true
+isYes No = false

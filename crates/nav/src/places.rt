@@ -1,9 +1,10 @@
 // From place to place. `starts` is the reader's table of node starts; `nexts` says for each place which place follows its
 // subtree. With both, children and ends are found without reading the bytes between.
+use crate::sameness::Same;
 ghost use mathlib.Core.Path.{_≡_};
 ghost use Prim.Native.Nat.{_<_};
 ghost use lib.ListN.{length, getD};
-ghost use Rattle.nav.specs.PlaceTables.{Rooted, ArityPost, hops, HopsIn, NextsPre, NextsPost, Placed, PlacedIn, TagPost, ChildrenPost, EndAtPost};
+ghost use Rattle.nav.specs.PlaceTables.{Rooted, ArityPost, hops, HopsIn, NextsPre, NextsPost, Placed, PlacedIn, TagPost, ChildrenPost, EndAtPost, SortPost, BothPlaced, SameAtPost, isYes};
 
 fn wide16(x: u16) -> usize
     ensures { λ r. ⌜ (r ≡ x) × (r < 65536) ⌝ }
@@ -93,4 +94,40 @@ pub fn arity_at(s: &[u8], starts: &[u16; 2048], k: usize) -> usize
     ensures { λ r. ⌜ ChildrenPost (now (s .entry)) (now (starts .entry)) k r ⌝ }
 {
     children_at(s, wide16(starts[k]))
+}
+
+// Whether the subtree at place k is an expression: its tag says so.
+pub fn is_expression_at(s: &[u8], starts: &[u16; 2048], k: usize) -> bool
+    requires { ⌜ Placed (now s) (now starts) k ⌝ }
+    ensures { λ r. ⌜ SortPost (now (s .entry)) (now (starts .entry)) k r ⌝ }
+{
+    let form = frame::tags::form_of(tag_at(s, starts, k));
+    frame::tags::is_sort(form, true)
+}
+
+fn is_yes(x: Same) -> bool
+    ensures { λ r. ⌜ r ≡ isYes x ⌝ }
+{
+    match x {
+        Same::Yes(_x, _y) => true,
+        Same::No => false,
+    }
+}
+
+// Whether the subtrees at places a and b are the same. Trees with the same tag are of the same sort.
+pub fn same_at(s: &[u8], starts: &[u16; 2048], a: usize, b: usize) -> bool
+    requires { ⌜ BothPlaced (now s) (now starts) a b ⌝ }
+    ensures { λ r. ⌜ SameAtPost (now (s .entry)) (now (starts .entry)) a b r ⌝ }
+{
+    let x = start_at(starts, a);
+    let y = start_at(starts, b);
+    let tag = frame::reading::number(s, x, 2);
+    if tag != frame::reading::number(s, y, 2) {
+        return false;
+    }
+    let e = frame::tags::is_sort(frame::tags::form_of(tag), true);
+    if e {
+        return is_yes(crate::sameness::same_expr(s, x, y));
+    }
+    is_yes(crate::sameness::same_pred(s, x, y))
 }

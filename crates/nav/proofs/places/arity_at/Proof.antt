@@ -1,13 +1,8 @@
-use mathlib.Core.Path.{sym, subst}
 use native.Mathlib.Omega.{arith}
 use Rattle.nav.proofs.PlaceTurns.{placed-root, children-done}
 use borrow.Author.Needs.{needs}
 use Rattle.nav.proofs.places.arity_at.Statement.{statement}
 use Rattle.nav.proofs.places.arity_at.Tie as tie
-use Rattle.nav.proofs.places.arity_at.Reads as reads
-use Rattle.nav.proofs.places.arity_at.Lts as lts
-use Rattle.nav.proofs.places.children_at.Reads as children-at-reads
-use Rattle.nav.proofs.places.wide16.Reads as wide16-reads
 
 -- src/places.rt:95:27
 mul-wide16 : tie.Need-mul-wide16

@@ -4,12 +4,6 @@ use Rattle.nav.proofs.View.{stand-inside}
 use borrow.Author.Needs.{needs}
 use Rattle.nav.proofs.places.children_at.Statement.{statement}
 use Rattle.nav.proofs.places.children_at.Tie as tie
-use Rattle.nav.proofs.places.children_at.Reads as reads
-use Rattle.nav.proofs.places.children_at.Lts as lts
-use Rattle.frame.proofs.reading.number.Reads as number-reads
-use Rattle.frame.proofs.tags.children_of.Reads as children-of-reads
-use Rattle.frame.proofs.tags.form_of.Reads as form-of-reads
-use Rattle.frame.proofs.tags.width_of.Reads as width-of-reads
 
 -- src/places.rt:19:37
 number-requires : tie.Need-number-requires

@@ -3,9 +3,6 @@ use Rattle.nav.proofs.PlaceTurns.{end-place, end-few, end-inside, end-l
 use borrow.Author.Needs.{needs}
 use Rattle.nav.proofs.places.end_at.Statement.{statement}
 use Rattle.nav.proofs.places.end_at.Tie as tie
-use Rattle.nav.proofs.places.end_at.Reads as reads
-use Rattle.nav.proofs.places.end_at.Lts as lts
-use Rattle.nav.proofs.places.wide16.Reads as wide16-reads
 
 -- src/places.rt:75:20
 mul-wide16 : tie.Need-mul-wide16

@@ -5,9 +5,6 @@ use Rattle.nav.specs.PlaceTables.{hops, HopsIn}
 use Rattle.nav.proofs.PlaceTurns.{hop-here, hop-more, hop-none}
 use Rattle.nav.proofs.places.hop.Statement.{statement}
 use Rattle.nav.proofs.places.hop.Tie as tie
-use Rattle.nav.proofs.places.hop.Reads as reads
-use Rattle.nav.proofs.places.hop.Lts as lts
-use Rattle.nav.proofs.places.wide16.Reads as wide16-reads
 
 abbrev Inv-loop : tie.InvT-loop
 Inv-loop nexts c m d₀ left₀ d left = HopsIn nexts left d × (hops nexts left d ≡ hops nexts m c)

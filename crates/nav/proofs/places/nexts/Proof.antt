@@ -3,11 +3,6 @@ use native.Mathlib.Omega.{arith}
 use Rattle.nav.proofs.PlaceTurns.{Filled, fill-start, fill-root, fill-hops, fill-turn, fill-done}
 use Rattle.nav.proofs.places.nexts.Statement.{statement}
 use Rattle.nav.proofs.places.nexts.Tie as tie
-use Rattle.nav.proofs.places.nexts.Reads as reads
-use Rattle.nav.proofs.places.nexts.Lts as lts
-use Rattle.nav.proofs.places.children_at.Reads as children-at-reads
-use Rattle.nav.proofs.places.hop.Reads as hop-reads
-use Rattle.nav.proofs.places.wide16.Reads as wide16-reads
 
 abbrev Inv-loop : tie.InvT-loop
 Inv-loop s n starts table₀ k₀ table k = Filled s n starts k table

@@ -4,10 +4,6 @@ use Rattle.nav.proofs.PlaceTurns.{placed-root, tag-done}
 use borrow.Author.Needs.{needs}
 use Rattle.nav.proofs.places.tag_at.Statement.{statement}
 use Rattle.nav.proofs.places.tag_at.Tie as tie
-use Rattle.nav.proofs.places.tag_at.Reads as reads
-use Rattle.nav.proofs.places.tag_at.Lts as lts
-use Rattle.frame.proofs.reading.number.Reads as number-reads
-use Rattle.nav.proofs.places.wide16.Reads as wide16-reads
 
 -- src/places.rt:87:38
 mul-wide16 : tie.Need-mul-wide16

@@ -2,7 +2,7 @@ use borrow.Author.Needs.{needs}
 use Prim.Native.Nat.{_+_, _-_, _*_}
 use lib.ListN.{length}
 use native.Mathlib.Omega.{arith}
-use Rattle.nav.proofs.SameTurns.{both-inside, node-differ, node-both, node-kids, kids-none, kids-first, kids-no, kids-rest, kids-yes, at-sort, of-sort}
+use Rattle.nav.proofs.SameTurns.{node-differ, node-both, node-kids, kids-none, kids-first, kids-no, kids-rest, kids-yes, at-sort, of-sort}
 use Prim.Native.Nat.{ℕ, _<_}
 use borrow.Fn.Kinds.{In}
 use borrow.Fn.PlainCycle.{Measures, is, falls, and}

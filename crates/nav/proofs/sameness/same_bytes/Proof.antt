@@ -6,8 +6,6 @@ use borrow.Author.Count.{below-more, below-none}
 use Rattle.nav.proofs.SameTurns.{bytes-yes, bytes-no}
 use Rattle.nav.proofs.sameness.same_bytes.Statement.{statement}
 use Rattle.nav.proofs.sameness.same_bytes.Tie as tie
-use Rattle.nav.proofs.sameness.same_bytes.Reads as reads
-use Rattle.nav.proofs.sameness.same_bytes.Lts as lts
 
 abbrev Inv-loop : tie.InvT-loop
 Inv-loop s a b n i₀ i = (i ≤ n) × ((k : ℕ) → k < i → getD s (a + k) 0 ≡ getD s (b + k) 0)

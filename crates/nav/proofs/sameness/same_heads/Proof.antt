@@ -3,10 +3,6 @@ use Rattle.nav.proofs.SameTurns.{tags-first, tags-second, both-inside, 
 use borrow.Author.Needs.{needs}
 use Rattle.nav.proofs.sameness.same_heads.Statement.{statement}
 use Rattle.nav.proofs.sameness.same_heads.Tie as tie
-use Rattle.nav.proofs.sameness.same_heads.Reads as reads
-use Rattle.nav.proofs.sameness.same_heads.Lts as lts
-use Rattle.frame.proofs.reading.read_head.Reads as read-head-reads
-use Rattle.nav.proofs.sameness.same_bytes.Reads as same-bytes-reads
 
 -- src/sameness.rt:44:8
 shared-slice-read-if1 : tie.Need-shared-slice-read-if1
