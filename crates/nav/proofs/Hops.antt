@@ -1,6 +1,7 @@
 -- Places by the tables: what stands at a place, and how hops from place to place meet the children of a node.
--- Main results: place-stands, place-formed, place-read (what stands at a place); place-end (its last place); child-first,
--- child-next (a node's children in their order); hops-kids, hops-node; next-start, ends-at (where a subtree ends).
+-- Main results: framed-few; place-formed, place-sorted, place-stands (what stands at a place); place-end (its last place);
+-- child-first, child-next (a node's children in their order); hops-kids, hops-node (as many hops as children lead past a node);
+-- next-start, ends-inside, ends-last (where a subtree ends).
 use mathlib.Core.Path.{_≡_, refl, sym, ap, _∙_}
 use mathlib.Core.Bool.{Bool, true, false}
 use mathlib.Core.List.{List, [], _∷_, _++_, append-assoc}
@@ -75,11 +76,11 @@ place-end t Γ k Δ (node h ks) f =
 -- ---- hops
 
 -- the children of the node at place k: the first is at k + 1, and the table leads from each to the next
-module _ (t : Tree) (l : List ℕ) where
-  pub child-first : (k : ℕ) (Γ : Ctx) (g n : ℕ) (us : List Ty) (ks : Forest) → find t [] k ≡ found Γ (node (head g n us) ks)
-      → KidsAtPlace t [] (k + 1) (under g us Γ) ks
-  child-first k Γ g n us ks f = kids-of t [] k Γ g n us ks f
+pub child-first : (t : Tree) (k : ℕ) (Γ : Ctx) (g n : ℕ) (us : List Ty) (ks : Forest) → find t [] k ≡ found Γ (node (head g n us) ks)
+    → KidsAtPlace t [] (k + 1) (under g us Γ) ks
+child-first t k Γ g n us ks f = kids-of t [] k Γ g n us ks f
 
+module _ (t : Tree) (l : List ℕ) where
   module _ (i : ℕ) (nx : NextsFrom t i l) where
     pub child-next : (c : ℕ) (Θ : Ctx) (w : Tree) (ks : Forest) → i ≤ c → KidsAtPlace t [] c Θ (cons w ks)
         → (find t [] c ≡ found Θ w) × KidsAtPlace t [] (getD l c 0) Θ ks
@@ -103,7 +104,7 @@ module _ (t : Tree) (l : List ℕ) where
       → HopsIn l (arity v) (k + 1) × (hops l (arity v) (k + 1) ≡ k + nodes v)
   unfolding nodes
   hops-node k nx few Γ (node (head g n us) ks) f =
-      let r = hops-kids (k + 1) nx few ks (k + 1) (under g us Γ) (omega arith) (child-first k Γ g n us ks f) in
+      let r = hops-kids (k + 1) nx few ks (k + 1) (under g us Γ) (omega arith) (child-first t k Γ g n us ks f) in
       (r .0, r .1 ∙ omega arith)
 
 -- ---- where a subtree ends

@@ -1,6 +1,7 @@
 -- The ways out of the functions of src/places.rt, on plain values.
 -- Main results: tag-there, arity-room, arity-read (the tag and the number of children of the tree that stands somewhere);
--- hop-none, hop-more; fill-start, fill-root, fill-hops, fill-turn, fill-done; tag-done, children-done, end-inside, end-last.
+-- hop-here, hop-more, hop-none; fill-start, fill-root, fill-hops, fill-turn, fill-done; placed-root, tag-done, children-done;
+-- end-place, end-few, end-inside, end-last.
 use mathlib.Core.Path.{_≡_, refl, sym, ap, ap₂, _∙_, subst}
 use mathlib.Core.Bool.{Bool, true, false}
 use mathlib.Core.List.{List, [], _++_}

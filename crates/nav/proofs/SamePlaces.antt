@@ -127,10 +127,10 @@ framed-read s bs t e st et =
 -- ---- one child, two children
 module _ (t : Tree) (nx : List ℕ) (ns : NextsFrom t 0 nx) (k : ℕ) (Γ : Ctx) (g n : ℕ) (us : List Ty) where
   pub only-child : (v : Tree) → find t [] k ≡ found Γ (node (head g n us) (cons v nil)) → find t [] (k + 1) ≡ found (under g us Γ) v
-  only-child v f = child-next t nx 0 ns (k + 1) (under g us Γ) v nil (omega arith) (child-first t nx k Γ g n us (cons v nil) f) .0
+  only-child v f = child-next t nx 0 ns (k + 1) (under g us Γ) v nil (omega arith) (child-first t k Γ g n us (cons v nil) f) .0
 
   pub two-children : (v w : Tree) → find t [] k ≡ found Γ (node (head g n us) (cons v (cons w nil)))
       → (find t [] (k + 1) ≡ found (under g us Γ) v) × (find t [] (getD nx (k + 1) 0) ≡ found (under g us Γ) w)
   two-children v w f =
-      let a = child-next t nx 0 ns (k + 1) (under g us Γ) v (cons w nil) (omega arith) (child-first t nx k Γ g n us (cons v (cons w nil)) f) in
+      let a = child-next t nx 0 ns (k + 1) (under g us Γ) v (cons w nil) (omega arith) (child-first t k Γ g n us (cons v (cons w nil)) f) in
       (a .0, child-next t nx 0 ns (getD nx (k + 1) 0) (under g us Γ) w nil (omega arith) (a .1) .0)

@@ -174,11 +174,11 @@ module _ (s : List ℕ) (e : Sort) (a b : ℕ) (hs : Heads) (post : HeadsPost s 
             kids .differ (v .ts) (v .us) (v .left) (v .right) er z
 
 -- ---- trees in a row
-module _ (s : List ℕ) (n : ℕ) (f l : Bool) (a b : ℕ) where
-  nil-end : (at : ℕ) (ts : Forest) → ts ≡ nil → at ≡ at + length (encs ts)
-  unfolding encs
-  nil-end at ts z = let y : at ≡ at + 0 = omega arith in y ∙ ap (λ (i : Forest). at + length (encs i)) (sym z)
+nil-end : (at : ℕ) (ts : Forest) → ts ≡ nil → at ≡ at + length (encs ts)
+unfolding encs
+nil-end at ts z = let y : at ≡ at + 0 = omega arith in y ∙ ap (λ (i : Forest). at + length (encs i)) (sym z)
 
+module _ (s : List ℕ) (n : ℕ) (f l : Bool) (a b : ℕ) where
   pub kids-none : n ≡ 0 → SameAllPost s (kindsFor n f l) a b (Yes a b)
   kids-none z = record { same = same; differ = λ ts us x y er. yes-not a b er }
     where
@@ -289,7 +289,7 @@ module _ (s : List ℕ) (at : ℕ) (e : Sort) (hd : HeadAnswer) (eh : hd ≡ hea
 
 module _ (s : List ℕ) (n : ℕ) (f l : Bool) (at : ℕ) where
   pub ends-none : n ≡ 0 → EndAllPost s at (kindsFor n f l) at
-  ends-none z = record { ends = λ ts st. nil-end s n f l at at at ts (none-kinds n f l ts st z) }
+  ends-none z = record { ends = λ ts st. nil-end at ts (none-kinds n f l ts st z) }
 
   module _ (some : n ≡ 0 → ⊥) where
     pub ends-first : StandingAll s at (kindsFor n f l) → Standing s at (sortFor f) × (at ≤ length s)

@@ -1,6 +1,7 @@
 -- From what is read at a position to the tree that stands there, and from trees in a row to the first and the rest.
--- Main results: view (the head, the types and the children of the tree that stands where a head is read), view-refused (a
--- head is never refused there), stand-inside, all-inside, all-none, all-first, all-rest, split, split-kinds; stand-byte.
+-- Main results: read-there (the head of a tree that stands somewhere is read), view (what an answer of read_head says of the
+-- tree that stands there), view-refused (a head is never refused there); stand-inside, stand-byte; all-inside, all-count,
+-- all-none, all-first, all-rest, split, and split-kinds and none-kinds by a number of trees and two sorts.
 use mathlib.Core.Path.{_≡_, refl, sym, ap, ap₂, _∙_, subst}
 use mathlib.Core.Bool.{Bool}
 use mathlib.Core.List.{List, [], _∷_, _++_}
@@ -86,11 +87,12 @@ module _ (s : List ℕ) (at : ℕ) (e : Sort) where
       }
 
 -- what an answer of read_head says of the tree: its tag g and payload n, its types us, its children ks
-pub record View (s : List ℕ) (at : ℕ) (t : Tree) (g n tp p m : ℕ) (a b : Bool) : Type 0 where
+pub record View (s : List ℕ) (at : ℕ) (e : Sort) (t : Tree) (g n tp p m : ℕ) (a b : Bool) : Type 0 where
   pub us : List Ty
   pub ks : Forest
   pub is : t ≡ node (head g n us) ks
   pub many : m ≡ count ks
+  pub wf : HeadWf e g n us (count ks)
   pub top : Spans s at p (encHead (head g n us) (count ks))
   pub types : Spans s tp p (encTys us)
   pub kids : StandAll s p (kindsFor m a b) ks
@@ -131,7 +133,7 @@ module _ (s : List ℕ) (at : ℕ) (e : Sort) (t : Tree) (hd : HeadAnswer) (eh :
       }
 
   module _ (st : Stands s at e t) where
-    pub view : (g n tp p m : ℕ) (a b : Bool) → hd ≡ H.Is g n tp p m a b → View s at t g n tp p m a b
+    pub view : (g n tp p m : ℕ) (a b : Bool) → hd ≡ H.Is g n tp p m a b → View s at e t g n tp p m a b
     view g n tp p m a b ei =
         let r = read-there s at e t st in
         let d = said r g n tp p m a b ei in
@@ -140,6 +142,7 @@ module _ (s : List ℕ) (at : ℕ) (e : Sort) (t : Tree) (hd : HeadAnswer) (eh :
           ks = r .ks;
           is = r .is ∙ ap₂ (λ (x y : ℕ). node (head x y (r .us)) (r .ks)) (d .tag) (d .own);
           many = d .many;
+          wf = rw (← d .tag, ← d .own) (r .wf);
           top = rw (← d .tag, ← d .own, ← d .from) (r .top);
           types = rw (← d .types, ← d .from) (r .types);
           kids = rw (d .kinds, ← d .from) (r .kids);
