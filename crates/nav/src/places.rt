@@ -3,7 +3,7 @@
 use crate::sameness::Same;
 ghost use mathlib.Core.Path.{_≡_};
 ghost use Prim.Native.Nat.{_<_};
-ghost use lib.ListN.{length, getD};
+ghost use lib.ListN.{getD};
 ghost use Rattle.nav.specs.PlaceTables.{Rooted, ArityPost, hops, HopsIn, NextsPre, NextsPost, Placed, PlacedIn, TagPost, ChildrenPost, EndAtPost, SortPost, BothPlaced, SameAtPost, isYes};
 
 fn wide16(x: u16) -> usize
