@@ -1,1 +1,2 @@
 // Writing a new frame into a scratch buffer: bytes, copied parts, types, type expressions, and whole right sides by template.
+pub mod put; // put.rt: bytes and copied parts
