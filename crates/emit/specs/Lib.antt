@@ -1,3 +1,4 @@
 pub mod Out
 pub mod Copied
 pub mod Template
+pub mod Written
