@@ -1,2 +1,4 @@
 pub mod Puts
 pub mod TypeBytes
+pub mod MadeTypes
+pub mod Parts

@@ -224,7 +224,7 @@ given-expression-bytes : (n : ℕ) → ((encNumber 2 1 ++ encNumber 2 n) ++ (3 �
 unfolding encNumber enc encs encHead encTys encTy toExpression lookup classOf formAt
 given-expression-bytes n = simp (append-assoc, append-nil)
 
-pow-bytes : (t : Ty) → encNumber 2 752 ++ enc (toExpression t) ≡ enc (toExpression (pow t))
+pub pow-bytes : (t : Ty) → encNumber 2 752 ++ enc (toExpression t) ≡ enc (toExpression (pow t))
 unfolding encNumber enc encs encHead encTys toExpression lookup classOf formAt
 pow-bytes t = simp append-nil
 
