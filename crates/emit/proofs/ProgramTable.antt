@@ -1,12 +1,12 @@
 -- The code's table of programs: each place's program stands where the code's table of starts says, by one computed test.
-use mathlib.Core.Path.{_≡_, refl, ap₂}
+use mathlib.Core.Path.{_≡_, refl, sym, subst₂}
 use mathlib.Core.Bool.{Bool, true, false, _&&_}
 use mathlib.Core.List.{List, [], _∷_, _++_}
-use Prim.Native.Nat.{ℕ, zero, suc, _+_, _≤_, _<_}
+use Prim.Native.Nat.{ℕ, zero, suc, _+_, _*_, _≤_, _<_}
 use native.Mathlib.Omega.{arith}
 use lib.ListN.{length, take, drop, getD, length-drop, length-append}
-use lib.Dec.{eqb, leb}
-use borrow.Author.Tests.{eqb-true, leb-true}
+use lib.Dec.{eqb}
+use borrow.Author.Tests.{eqb-true}
 use Rattle.frame.specs.Encoding.{encNumber}
 use Rattle.frame.proofs.Inversion.{true-not}
 use Rattle.frame.proofs.SameTrees.{both-true}
@@ -50,22 +50,25 @@ front-program g at ps e =
 unfoldable pub programs : List ℕ
 programs = 1 ∷ 1 ∷ 96 ∷ 2 ∷ 3 ∷ 1 ∷ 0 ∷ 101 ∷ 3 ∷ 0 ∷ 1 ∷ 1 ∷ 151 ∷ 4 ∷ 0 ∷ 0 ∷ 1 ∷ 0 ∷ 101 ∷ 3 ∷ 1 ∷ 1 ∷ 1 ∷ 151 ∷ 4 ∷ 0 ∷ 1 ∷ 1 ∷ 1 ∷ 95 ∷ 2 ∷ 2 ∷ 1 ∷ 2 ∷ 108 ∷ 3 ∷ 0 ∷ 1 ∷ 2 ∷ 108 ∷ 3 ∷ 1 ∷ 0 ∷ 1 ∷ 1 ∷ 95 ∷ 2 ∷ 2 ∷ 1 ∷ 0 ∷ 101 ∷ 3 ∷ 0 ∷ 1 ∷ 1 ∷ 151 ∷ 4 ∷ 0 ∷ 0 ∷ 1 ∷ 2 ∷ 189 ∷ 1 ∷ 0 ∷ 101 ∷ 3 ∷ 1 ∷ 1 ∷ 1 ∷ 151 ∷ 4 ∷ 0 ∷ 1 ∷ 0 ∷ 252 ∷ 1 ∷ 0 ∷ 101 ∷ 3 ∷ 0 ∷ 1 ∷ 1 ∷ 151 ∷ 4 ∷ 0 ∷ 0 ∷ 1 ∷ 2 ∷ 189 ∷ 1 ∷ 0 ∷ 101 ∷ 3 ∷ 1 ∷ 1 ∷ 1 ∷ 151 ∷ 4 ∷ 0 ∷ 1 ∷ 0 ∷ 1 ∷ 1 ∷ 96 ∷ 2 ∷ 2 ∷ 1 ∷ 0 ∷ 101 ∷ 3 ∷ 0 ∷ 1 ∷ 1 ∷ 151 ∷ 4 ∷ 0 ∷ 0 ∷ 1 ∷ 0 ∷ 101 ∷ 3 ∷ 1 ∷ 1 ∷ 1 ∷ 151 ∷ 4 ∷ 0 ∷ 1 ∷ 0 ∷ 101 ∷ 1 ∷ 1 ∷ 46 ∷ 2 ∷ 2 ∷ 1 ∷ 2 ∷ 244 ∷ 3 ∷ 0 ∷ 1 ∷ 2 ∷ 244 ∷ 3 ∷ 1 ∷ 1 ∷ 1 ∷ 151 ∷ 4 ∷ 1 ∷ 0 ∷ 0 ∷ 1 ∷ 0 ∷ 101 ∷ 1 ∷ 1 ∷ 46 ∷ 2 ∷ 2 ∷ 1 ∷ 2 ∷ 245 ∷ 3 ∷ 0 ∷ 1 ∷ 2 ∷ 244 ∷ 3 ∷ 1 ∷ 1 ∷ 1 ∷ 151 ∷ 4 ∷ 2 ∷ 0 ∷ 0 ∷ 1 ∷ 0 ∷ 101 ∷ 1 ∷ 1 ∷ 46 ∷ 2 ∷ 2 ∷ 1 ∷ 2 ∷ 245 ∷ 3 ∷ 1 ∷ 1 ∷ 2 ∷ 244 ∷ 3 ∷ 0 ∷ 1 ∷ 1 ∷ 151 ∷ 4 ∷ 2 ∷ 1 ∷ 0 ∷ 1 ∷ 1 ∷ 95 ∷ 2 ∷ 2 ∷ 1 ∷ 0 ∷ 101 ∷ 3 ∷ 0 ∷ 1 ∷ 1 ∷ 151 ∷ 4 ∷ 0 ∷ 0 ∷ 1 ∷ 0 ∷ 101 ∷ 3 ∷ 1 ∷ 5 ∷ 3 ∷ 1 ∷ 0 ∷ 1 ∷ 1 ∷ 95 ∷ 2 ∷ 2 ∷ 1 ∷ 0 ∷ 101 ∷ 3 ∷ 0 ∷ 5 ∷ 3 ∷ 0 ∷ 1 ∷ 0 ∷ 101 ∷ 3 ∷ 1 ∷ 1 ∷ 1 ∷ 151 ∷ 4 ∷ 0 ∷ 1 ∷ 0 ∷ 1 ∷ 1 ∷ 95 ∷ 2 ∷ 2 ∷ 1 ∷ 0 ∷ 101 ∷ 3 ∷ 1 ∷ 1 ∷ 1 ∷ 151 ∷ 4 ∷ 0 ∷ 1 ∷ 1 ∷ 0 ∷ 101 ∷ 3 ∷ 0 ∷ 5 ∷ 3 ∷ 0 ∷ 0 ∷ 1 ∷ 0 ∷ 101 ∷ 1 ∷ 1 ∷ 46 ∷ 2 ∷ 2 ∷ 1 ∷ 2 ∷ 244 ∷ 3 ∷ 1 ∷ 3 ∷ 0 ∷ 1 ∷ 1 ∷ 151 ∷ 4 ∷ 1 ∷ 1 ∷ 0 ∷ 101 ∷ 1 ∷ 1 ∷ 46 ∷ 2 ∷ 2 ∷ 1 ∷ 2 ∷ 245 ∷ 3 ∷ 0 ∷ 3 ∷ 1 ∷ 1 ∷ 1 ∷ 151 ∷ 4 ∷ 2 ∷ 0 ∷ 0 ∷ 1 ∷ 1 ∷ 95 ∷ 2 ∷ 2 ∷ 1 ∷ 0 ∷ 101 ∷ 3 ∷ 0 ∷ 5 ∷ 3 ∷ 0 ∷ 1 ∷ 0 ∷ 101 ∷ 3 ∷ 1 ∷ 5 ∷ 3 ∷ 1 ∷ 0 ∷ 1 ∷ 1 ∷ 95 ∷ 2 ∷ 2 ∷ 1 ∷ 0 ∷ 101 ∷ 3 ∷ 1 ∷ 5 ∷ 3 ∷ 1 ∷ 1 ∷ 0 ∷ 101 ∷ 3 ∷ 0 ∷ 5 ∷ 3 ∷ 0 ∷ 0 ∷ 1 ∷ 3 ∷ 83 ∷ 6 ∷ 1 ∷ 0 ∷ 251 ∷ 3 ∷ 0 ∷ 1 ∷ 0 ∷ 101 ∷ 3 ∷ 1 ∷ 1 ∷ 1 ∷ 151 ∷ 4 ∷ 0 ∷ 1 ∷ 0 ∷ 1 ∷ 3 ∷ 83 ∷ 6 ∷ 1 ∷ 0 ∷ 251 ∷ 3 ∷ 0 ∷ 1 ∷ 0 ∷ 101 ∷ 3 ∷ 1 ∷ 5 ∷ 3 ∷ 1 ∷ 0 ∷ 101 ∷ 1 ∷ 0 ∷ 217 ∷ 3 ∷ 1 ∷ 3 ∷ 0 ∷ 1 ∷ 1 ∷ 151 ∷ 4 ∷ 0 ∷ 0 ∷ 0 ∷ 1 ∷ 0 ∷ 111 ∷ 3 ∷ 0 ∷ 1 ∷ 0 ∷ 5 ∷ 2 ∷ 1 ∷ 1 ∷ 1 ∷ 151 ∷ 4 ∷ 3 ∷ 0 ∷ 0 ∷ 1 ∷ 0 ∷ 251 ∷ 1 ∷ 3 ∷ 83 ∷ 6 ∷ 3 ∷ 0 ∷ 1 ∷ 3 ∷ 84 ∷ 6 ∷ 3 ∷ 1 ∷ 0 ∷ 101 ∷ 3 ∷ 0 ∷ 1 ∷ 0 ∷ 5 ∷ 2 ∷ 1 ∷ 5 ∷ 4 ∷ 0 ∷ 0 ∷ 1 ∷ 0 ∷ 101 ∷ 3 ∷ 0 ∷ 1 ∷ 1 ∷ 151 ∷ 4 ∷ 0 ∷ 0 ∷ 0 ∷ 1 ∷ 2 ∷ 108 ∷ 1 ∷ 3 ∷ 35 ∷ 6 ∷ 3 ∷ 0 ∷ 3 ∷ 1 ∷ 0 ∷ 111 ∷ 1 ∷ 2 ∷ 244 ∷ 3 ∷ 1 ∷ 3 ∷ 0 ∷ 0 ∷ 1 ∷ 0 ∷ 111 ∷ 1 ∷ 2 ∷ 245 ∷ 3 ∷ 0 ∷ 3 ∷ 1 ∷ 0 ∷ 101 ∷ 1 ∷ 1 ∷ 149 ∷ 3 ∷ 0 ∷ 0 ∷ 1 ∷ 0 ∷ 101 ∷ 1 ∷ 1 ∷ 150 ∷ 3 ∷ 0 ∷ 0 ∷ 1 ∷ 0 ∷ 101 ∷ 3 ∷ 0 ∷ 1 ∷ 1 ∷ 149 ∷ 0 ∷ 1 ∷ 0 ∷ 101 ∷ 3 ∷ 0 ∷ 1 ∷ 1 ∷ 150 ∷ 0 ∷ 1 ∷ 0 ∷ 101 ∷ 3 ∷ 0 ∷ 3 ∷ 1 ∷ 0 ∷ 103 ∷ 3 ∷ 0 ∷ 3 ∷ 1 ∷ 0 ∷ 104 ∷ 3 ∷ 0 ∷ 3 ∷ 1 ∷ 0 ∷ 105 ∷ 3 ∷ 0 ∷ 3 ∷ 1 ∷ 0 ∷ 106 ∷ 3 ∷ 0 ∷ 3 ∷ 1 ∷ 0 ∷ 111 ∷ 3 ∷ 0 ∷ 3 ∷ 1 ∷ 0 ∷ 1 ∷ 2 ∷ 108 ∷ 5 ∷ 5 ∷ 0 ∷ 0 ∷ 1 ∷ 3 ∷ 83 ∷ 6 ∷ 3 ∷ 0 ∷ 0 ∷ 1 ∷ 3 ∷ 84 ∷ 6 ∷ 3 ∷ 0 ∷ 0 ∷ 1 ∷ 2 ∷ 108 ∷ 3 ∷ 0 ∷ 0 ∷ 1 ∷ 2 ∷ 189 ∷ 3 ∷ 0 ∷ 0 ∷ 1 ∷ 2 ∷ 98 ∷ 0 ∷ 1 ∷ 2 ∷ 99 ∷ 0 ∷ []
 
-unfoldable pub starts : List ℕ
-starts = 6 ∷ 611 ∷ 615 ∷ 611 ∷ 578 ∷ 611 ∷ 599 ∷ 599 ∷ 0 ∷ 599 ∷ 611 ∷ 474 ∷ 599 ∷ 578 ∷ 462 ∷ 540 ∷ 558 ∷ 546 ∷ 552 ∷ 564 ∷ 522 ∷ 531 ∷ 504 ∷ 513 ∷ 268 ∷ 227 ∷ 319 ∷ 615 ∷ 319 ∷ 202 ∷ 341 ∷ 252 ∷ 319 ∷ 448 ∷ 268 ∷ 384 ∷ 615 ∷ 6 ∷ 6 ∷ 462 ∷ 570 ∷ 101 ∷ 558 ∷ 43 ∷ 72 ∷ 277 ∷ 484 ∷ 297 ∷ 495 ∷ 400 ∷ 127 ∷ 101 ∷ 615 ∷ 462 ∷ 417 ∷ 462 ∷ 152 ∷ 177 ∷ 462 ∷ 363 ∷ 615 ∷ 615 ∷ 6 ∷ 6 ∷ 274 ∷ 6 ∷ 274 ∷ 611 ∷ 611 ∷ 605 ∷ 611 ∷ 611 ∷ 605 ∷ 274 ∷ 274 ∷ 274 ∷ 274 ∷ 611 ∷ 605 ∷ 605 ∷ 615 ∷ 615 ∷ 615 ∷ 611 ∷ 274 ∷ 585 ∷ 592 ∷ 434 ∷ []
+unfoldable pub highs : List ℕ
+highs = 0 ∷ 2 ∷ 2 ∷ 2 ∷ 2 ∷ 2 ∷ 2 ∷ 2 ∷ 0 ∷ 2 ∷ 2 ∷ 1 ∷ 2 ∷ 2 ∷ 1 ∷ 2 ∷ 2 ∷ 2 ∷ 2 ∷ 2 ∷ 2 ∷ 2 ∷ 1 ∷ 2 ∷ 1 ∷ 0 ∷ 1 ∷ 2 ∷ 1 ∷ 0 ∷ 1 ∷ 0 ∷ 1 ∷ 1 ∷ 1 ∷ 1 ∷ 2 ∷ 0 ∷ 0 ∷ 1 ∷ 2 ∷ 0 ∷ 2 ∷ 0 ∷ 0 ∷ 1 ∷ 1 ∷ 1 ∷ 1 ∷ 1 ∷ 0 ∷ 0 ∷ 2 ∷ 1 ∷ 1 ∷ 1 ∷ 0 ∷ 0 ∷ 1 ∷ 1 ∷ 2 ∷ 2 ∷ 0 ∷ 0 ∷ 1 ∷ 0 ∷ 1 ∷ 2 ∷ 2 ∷ 2 ∷ 2 ∷ 2 ∷ 2 ∷ 1 ∷ 1 ∷ 1 ∷ 1 ∷ 2 ∷ 2 ∷ 2 ∷ 2 ∷ 2 ∷ 2 ∷ 2 ∷ 1 ∷ 2 ∷ 2 ∷ 1 ∷ []
+
+unfoldable pub lows : List ℕ
+lows = 6 ∷ 99 ∷ 103 ∷ 99 ∷ 66 ∷ 99 ∷ 87 ∷ 87 ∷ 0 ∷ 87 ∷ 99 ∷ 218 ∷ 87 ∷ 66 ∷ 206 ∷ 28 ∷ 46 ∷ 34 ∷ 40 ∷ 52 ∷ 10 ∷ 19 ∷ 248 ∷ 1 ∷ 12 ∷ 227 ∷ 63 ∷ 103 ∷ 63 ∷ 202 ∷ 85 ∷ 252 ∷ 63 ∷ 192 ∷ 12 ∷ 128 ∷ 103 ∷ 6 ∷ 6 ∷ 206 ∷ 58 ∷ 101 ∷ 46 ∷ 43 ∷ 72 ∷ 21 ∷ 228 ∷ 41 ∷ 239 ∷ 144 ∷ 127 ∷ 101 ∷ 103 ∷ 206 ∷ 161 ∷ 206 ∷ 152 ∷ 177 ∷ 206 ∷ 107 ∷ 103 ∷ 103 ∷ 6 ∷ 6 ∷ 18 ∷ 6 ∷ 18 ∷ 99 ∷ 99 ∷ 93 ∷ 99 ∷ 99 ∷ 93 ∷ 18 ∷ 18 ∷ 18 ∷ 18 ∷ 99 ∷ 93 ∷ 93 ∷ 103 ∷ 103 ∷ 103 ∷ 99 ∷ 18 ∷ 73 ∷ 80 ∷ 178 ∷ []
+
+abbrev startOf : ℕ → ℕ
+startOf k = getD highs k 0 * 256 + getD lows k 0
 
 place-right : ℕ → Bool
-place-right k = front (program (template k)) (drop (getD starts k 0) programs)
+place-right k = front (program (template k)) (drop (startOf k) programs)
 
 -- every place, by one evaluation
 places-right : allBelow 88 place-right ≡ true
-unfolding place-right front program code template findRow templates among encNumber programs starts
+unfolding place-right front program code template findRow templates among encNumber programs highs lows
 places-right = refl
 
-pub place-program : (k : ℕ) → k < 88 → ProgramAt programs (getD starts k 0) (template k)
+pub place-program : (k : ℕ) → k < 88 → (h l : ℕ) → h ≡ getD highs k 0 → l ≡ getD lows k 0 → ProgramAt programs (h * 256 + l) (template k)
 unfolding place-right
-place-program k h = front-program programs (getD starts k 0) (template k) (below 88 place-right places-right k h)
-
--- a start is a small number
-pub start-small : (k : ℕ) → k < 88 → getD starts k 0 ≤ 619
-unfolding starts
-start-small k h = leb-true _ _ (below 88 (λ i. leb (getD starts i 0) 619) refl k h)
+place-program k b h l eh el =
+    subst₂ (λ (x y : ℕ). ProgramAt programs (x * 256 + y) (template k)) (sym eh) (sym el)
+    (front-program programs (startOf k) (template k) (below 88 place-right places-right k b))
