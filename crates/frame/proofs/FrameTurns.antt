@@ -1,8 +1,7 @@
 -- The ways out of `read`, on plain values.
 -- Main results: read-empty, read-long, read-refused, read-more, read-whole; sets-zeros.
-use mathlib.Core.Path.{_≡_, refl, sym, ap, ap₂, _∙_}
-use mathlib.Core.Bool.{Bool, false}
-use mathlib.Core.List.{List, [], _∷_, _++_}
+use mathlib.Core.Path.{_≡_, sym, ap, _∙_}
+use mathlib.Core.List.{List, _++_}
 use Prim.Native.Nat.{ℕ, zero, suc, _+_, _-_, _≤_, _<_}
 use native.Mathlib.Omega.{arith}
 use lib.ListN.{length, drop, replicate, length-replicate}
@@ -10,17 +9,17 @@ use lib.Seq.{sets, sets-eq}
 use borrow.Author.Tests.{lt-ltb, le-ltb, eq-eqb, ne-eqb}
 use Rattle.frame.specs.Trees.{Tree, nodes}
 use Rattle.frame.specs.Tags.{predicate}
-use Rattle.frame.specs.Encoding.{enc, starts}
-use Rattle.frame.specs.Reading.{Res, ok, no, readNode, Parsed, tree, bad, frameLimit, whole, parse}
+use Rattle.frame.specs.Encoding.{starts}
+use Rattle.frame.specs.Reading.{ok, readNode, tree, bad, frameLimit, whole, parse}
 use Rattle.frame.specs.Spans.{Bytes}
 use Rattle.frame.specs.Post.{nodeAnswer, frameAnswer, tableSize, tableOf, NodePost}
 use Rattle.frame.specs.declared.reading.FrameAnswer.{FrameAnswer}
-use Rattle.frame.specs.declared.reading.FrameAnswer.the-variants as F
 use Rattle.frame.specs.declared.reading.NodeAnswer.{NodeAnswer}
 use Rattle.frame.specs.declared.reading.NodeAnswer.the-variants.{Ends, Refused}
 use Rattle.frame.proofs.ReadTrees.{node-enc}
 use Rattle.frame.proofs.Extents.{nodes-enc, starts-length}
 use Rattle.frame.proofs.NodeTurns.{node-yes, node-no}
+use Rattle.frame.specs.declared.reading.FrameAnswer.the-variants as F
 
 -- ---- a table of zeros with a run of stores at its start
 drop-replicate : (k n : ℕ) → drop {A = ℕ} k (replicate n 0) ≡ replicate (n - k) 0

@@ -1,10 +1,9 @@
+-- `frame_test::end_of_line` meets its contract.
 use lib.ListN.{length}
 use Prim.Native.Nat.{_-_, _≤_}
 use native.Mathlib.Omega.{arith}
 use Rattle.frame_test.proofs.end_of_line.Statement.{statement}
 use Rattle.frame_test.proofs.end_of_line.Tie as tie
-use Rattle.frame_test.proofs.end_of_line.Reads as reads
-use Rattle.frame_test.proofs.end_of_line.Lts as lts
 
 abbrev Inv-loop : tie.InvT-loop
 Inv-loop s from i₀ i = (from ≤ i) × (i ≤ length s)
@@ -12,31 +11,24 @@ Inv-loop s from i₀ i = (from ≤ i) × (i ≤ length s)
 abbrev μ-loop : tie.MeasureT-loop
 μ-loop s from i₀ i = length s - i
 
--- src/main.rt:45:5
 loop-holds : tie.Need-loop-holds Inv-loop μ-loop
 loop-holds c = omega arith
 
--- src/main.rt:46:12
 shared-slice-read-if1 : tie.Need-shared-slice-read-if1 Inv-loop μ-loop
 shared-slice-read-if1 c = omega arith
 
--- src/main.rt:47:13
 returns : tie.Need-returns Inv-loop μ-loop
 returns c = omega arith
 
--- src/main.rt:49:9
 add-i : tie.Need-add-i Inv-loop μ-loop
 add-i c = omega arith
 
--- src/main.rt:45:5
 loop-less : tie.Need-loop-less Inv-loop μ-loop
 loop-less c = omega arith
 
--- src/main.rt:45:5
 loop-again : tie.Need-loop-again Inv-loop μ-loop
 loop-again c = omega arith
 
--- src/main.rt:40:1
 returns-2 : tie.Need-returns-2 Inv-loop μ-loop
 returns-2 c = omega arith
 
