@@ -4,6 +4,8 @@ ghost use Prim.Native.Nat.{ℕ, _+_, _≤_, _<_};
 ghost use mathlib.Core.List.{List, [], _∷_};
 ghost use Rattle.frame.specs.Lines.{digitOf, digitFor, readLine};
 ghost use Rattle.frame.specs.LineState.{shortened, lineState, LineGoes, lineAnswer, LinePost, WritePost};
+use crate::refusals::BAD_LENGTH;
+use crate::refusals::BAD_LINE;
 
 // The digits of the longest frame.
 const DIGIT_LIMIT: usize = 8192;
@@ -116,13 +118,13 @@ pub fn line_end(state: LineState) -> LineAnswer
     let count = state.count;
     let high = state.high;
     if 15 < high {
-        return LineAnswer::Refused(1);
+        return LineAnswer::Refused(BAD_LINE);
     }
     if count % 2 == 1 {
-        return LineAnswer::Refused(1);
+        return LineAnswer::Refused(BAD_LINE);
     }
     if DIGIT_LIMIT < count {
-        return LineAnswer::Refused(2);
+        return LineAnswer::Refused(BAD_LENGTH);
     }
     LineAnswer::Frame(count / 2)
 }

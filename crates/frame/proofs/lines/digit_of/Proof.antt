@@ -1,33 +1,25 @@
+-- `frame::lines::digit_of` meets its contract.
 use native.Mathlib.Omega.{arith}
-use mathlib.Core.Path.{_≡_, refl, sym, ap, _∙_, subst}
-use Rattle.frame.proofs.LineTurns.{value-below, value-figure, value-between, value-letter, value-above}
 use borrow.Author.Needs.{needs}
+use Rattle.frame.proofs.LineTurns.{value-below, value-figure, value-between, value-letter, value-above}
 use Rattle.frame.proofs.lines.digit_of.Statement.{statement}
 use Rattle.frame.proofs.lines.digit_of.Tie as tie
-use Rattle.frame.proofs.lines.digit_of.Reads as reads
-use Rattle.frame.proofs.lines.digit_of.Lts as lts
 
--- src/lines.rt:30:9
 returns : tie.Need-returns
 returns c = (value-below _ (c .if1 .taken), omega arith)
 
--- src/lines.rt:33:9
 returns-2 : tie.Need-returns-2
 returns-2 c = (value-figure _ (c .before .if1 .left) (c .if2 .taken), omega arith)
 
--- src/lines.rt:36:9
 returns-3 : tie.Need-returns-3
 returns-3 c = (value-between _ (c .before .before .if1 .left) (c .before .if2 .left) (c .if3 .taken), omega arith)
 
--- src/lines.rt:39:16
 sub-result : tie.Need-sub-result
 sub-result c = search needs
 
--- src/lines.rt:39:9
 returns-4 : tie.Need-returns-4
 returns-4 c = (value-letter _ (c .before .before .if2 .left) (c .before .if3 .left) (c .if4 .taken), omega arith)
 
--- src/lines.rt:26:1
 returns-5 : tie.Need-returns-5
 returns-5 c = (value-above _ (c .before .before .if2 .left) (c .before .if3 .left) (c .if4 .left), omega arith)
 

@@ -1,51 +1,36 @@
-use native.Mathlib.Omega.{arith}
-use mathlib.Core.Path.{_≡_, refl, sym, ap, _∙_, subst}
-use Rattle.frame.proofs.LineTurns.{digit-after-bad, digit-bad, digit-even, digit-odd, digit-past}
+-- `frame::lines::line_digit` meets its contract.
 use borrow.Author.Needs.{needs}
+use Rattle.frame.proofs.LineTurns.{digit-after-bad, digit-bad, digit-even, digit-odd, digit-past}
 use Rattle.frame.proofs.lines.line_digit.Statement.{statement}
 use Rattle.frame.proofs.lines.line_digit.Tie as tie
-use Rattle.frame.proofs.lines.line_digit.Reads as reads
-use Rattle.frame.proofs.lines.line_digit.Lts as lts
-use Rattle.frame.proofs.lines.count_next.Reads as count-next-reads
-use Rattle.frame.proofs.lines.digit_of.Reads as digit-of-reads
 
--- src/lines.rt:66:9
 count-next-requires : tie.Need-count-next-requires
 count-next-requires c κs = search needs
 
--- src/lines.rt:67:9
 digit-of-requires : tie.Need-digit-of-requires
 digit-of-requires c κs = search needs
 
--- src/lines.rt:69:9
 returns : tie.Need-returns
 returns c = digit-after-bad (c .before .before .before .args .state) _ _ _ _ (c .before .before .count-next .ensures) (c .before .digit-of .ensures .0) (c .if1 .taken)
 
--- src/lines.rt:72:9
 returns-2 : tie.Need-returns-2
 returns-2 c = digit-bad (c .before .before .before .before .args .state) _ _ _ _ (c .before .before .before .count-next .ensures) (c .before .before .digit-of .ensures .0) (c .if2 .taken)
 
--- src/lines.rt:75:9
 returns-3 : tie.Need-returns-3
 returns-3 c = digit-even (c .before .before .before .before .before .args .state) _ _ _ _ (c .before .before .before .before .count-next .ensures) (c .before .before .before .digit-of .ensures .0) (c .before .before .if1 .left) (c .before .if2 .left) (c .if3 .taken)
 
--- src/lines.rt:78:26
 mul-buf : tie.Need-mul-buf
 mul-buf c = search needs
 
--- src/lines.rt:78:26
 add-buf : tie.Need-add-buf
 add-buf c = search needs
 
--- src/lines.rt:78:9
 element-write-buf : tie.Need-element-write-buf
 element-write-buf c = search needs
 
--- src/lines.rt:79:9
 returns-4 : tie.Need-returns-4
 returns-4 c = digit-odd (c .before .before .before .before .before .before .args .state) _ _ _ _ (c .before .before .before .before .before .count-next .ensures) (c .before .before .before .before .digit-of .ensures .0) (c .before .before .before .if1 .left) (c .before .before .if2 .left) (c .before .if3 .left) (c .if4 .taken)
 
--- src/lines.rt:61:1
 returns-5 : tie.Need-returns-5
 returns-5 c = digit-past (c .before .before .before .before .before .before .args .state) _ _ _ _ (c .before .before .before .before .before .count-next .ensures) (c .before .before .before .before .digit-of .ensures .0) (c .before .before .before .if1 .left) (c .before .before .if2 .left) (c .before .if3 .left) (c .if4 .left)
 

@@ -1,15 +1,12 @@
-use Rattle.frame.specs.LineState.{LineGoes}
+-- `frame::lines::line_piece` meets its contract.
 use denote.Ref.{now}
 use lib.ListN.{length, take}
 use Prim.Native.Nat.{_-_, _≤_}
 use native.Mathlib.Omega.{arith}
-use mathlib.Core.Path.{_≡_, refl, sym, ap, _∙_, subst}
+use Rattle.frame.specs.LineState.{LineGoes}
 use Rattle.frame.proofs.LineTurns.{goes-nil, goes-more, goes-all}
 use Rattle.frame.proofs.lines.line_piece.Statement.{statement}
 use Rattle.frame.proofs.lines.line_piece.Tie as tie
-use Rattle.frame.proofs.lines.line_piece.Reads as reads
-use Rattle.frame.proofs.lines.line_piece.Lts as lts
-use Rattle.frame.proofs.lines.line_digit.Reads as line-digit-reads
 
 abbrev Inv-loop : tie.InvT-loop
 Inv-loop piece buf₀ line₀ i₀ buf line i = (i ≤ length piece) × LineGoes line₀ buf₀ (take i piece) line buf
@@ -17,31 +14,24 @@ Inv-loop piece buf₀ line₀ i₀ buf line i = (i ≤ length piece) × LineGoes
 abbrev μ-loop : tie.MeasureT-loop
 μ-loop piece buf₀ line₀ i₀ buf line i = length piece - i
 
--- src/lines.rt:90:5
 loop-holds : tie.Need-loop-holds Inv-loop μ-loop
 loop-holds c = (omega arith, goes-nil (c .before .args .state) (now (c .before .args .buf)))
 
--- src/lines.rt:91:33
 shared-slice-read-line-digit : tie.Need-shared-slice-read-line-digit Inv-loop μ-loop
 shared-slice-read-line-digit c = omega arith
 
--- src/lines.rt:91:9
 line-digit-requires : tie.Need-line-digit-requires Inv-loop μ-loop
 line-digit-requires c κs = tt
 
--- src/lines.rt:92:9
 add-i : tie.Need-add-i Inv-loop μ-loop
 add-i c = omega arith
 
--- src/lines.rt:90:5
 loop-less : tie.Need-loop-less Inv-loop μ-loop
 loop-less c = omega arith
 
--- src/lines.rt:90:5
 loop-again : tie.Need-loop-again Inv-loop μ-loop
 loop-again c = (omega arith, goes-more (c .before .before .before .before .before .before .args .state) (c .before .before .before .before .loop .line) _ (now (c .before .before .before .before .before .before .args .buf)) (c .before .before .before .before .loop .buf) _ (now (c .before .before .before .before .before .before .args .piece)) (c .before .before .before .before .loop .i) (c .before .before .before .loop-test .taken) (c .before .before .before .before .loop .inv .1) (c .line-digit .ensures))
 
--- src/lines.rt:85:1
 returns : tie.Need-returns Inv-loop μ-loop
 returns c = goes-all _ _ _ _ (now (c .before .before .before .args .piece)) (c .before .loop .i) (omega arith) (c .before .loop .inv .1)
 
