@@ -3,3 +3,5 @@ pub mod TypeBytes
 pub mod MadeTypes
 pub mod Parts
 pub mod ProgramTable
+pub mod Onto
+pub mod RightSides
