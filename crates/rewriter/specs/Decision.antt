@@ -1,43 +1,10 @@
-Draft for the rewriter (rules in code): a decision names the place of the source and the operands by their places in the frame's tables;
-emit's fill_template builds fixed right sides. Contract of a decision function at place k, where v stands in Γ: Means t d (dispatch Γ v).
-
-==== src/decision.rt
-// What a rule decides at a node. `place` is a place of the source (docs/RULES.md); the other numbers are places of the frame's
-// tables. `specs/Decision.antt` says what answer of the definitions each decision stands for.
-pub enum Decision {
-    // no rule applies
-    Rests,
-    // a right side of a fixed pattern, its two operands, and the node whose binders it takes
-    Fixed {
-        place: usize,
-        first: usize,
-        second: usize,
-        binder: usize,
-    },
-    // ∧ or ∨ over what a pattern makes of each child of a node, and the node whose binders it takes
-    Each {
-        place: usize,
-        node: usize,
-        binder: usize,
-    },
-    // the node's own ∧ or ∨ over so many of its children: the first entries of the lent list
-    Kept(usize),
-    // ∩ at a node, whose operand at `single` is a set of one member: ¬ member ∈ the others
-    Apart {
-        node: usize,
-        single: usize,
-    },
-    // ∩ at a node, of sets some of which are differences
-    Within(usize),
-}
-==== specs/Decision.antt
 -- What a decision stands for: an answer of the definitions, and the bytes of the tree that it builds.
 use mathlib.Core.Path.{_≡_}
 use mathlib.Core.List.{List, [], _∷_, _++_}
-use Prim.Native.Nat.{ℕ, zero, suc}
-use lib.ListN.{getD}
+use Prim.Native.Nat.{ℕ, _+_}
+use lib.ListN.{take}
 use Rattle.frame.specs.Types.{Ty}
-use Rattle.frame.specs.Trees.{Head, head, Tree, node, Forest, nil, cons, count, one, two, many, sole, append}
+use Rattle.frame.specs.Trees.{Head, head, Tree, node, Forest, nil, cons, count, tagOf, nodesIn, one, two, many, sole, append}
 use Rattle.frame.specs.Operators.{#SetExt, #In, #SubsetEq, #BUnion, #BInter, #Not}
 use Rattle.frame.specs.Encoding.{encNumber, enc}
 use Rattle.frame.specs.Places.{Ctx, found, find}
@@ -96,8 +63,38 @@ pub record EachMeans (t : Tree) (place at binder : ℕ) (c : Change) : Type 0 wh
   pub at-binder : (Θ : Ctx) × (h : ℕ) × (n : ℕ) × (ls : Forest) × (find t [] binder ≡ found Θ (node (head h n us) ls))
   pub bytes : enc new ≡ encNumber 2 o ++ (count ks ∷ eachFilled place Δ us ks)
 
--- it is the node's operator over the first m children that the lent list has
-pub record KeptMeans (t : Tree) (v : Tree) (kept : List ℕ) (m : ℕ) (c : Change) : Type 0 where
-  pub Θ : Ctx
+-- it is the node's own operator over the children whose places are the first m of the lent list
+pub record KeptMeans (t v : Tree) (Γ : Ctx) (kept : List ℕ) (m : ℕ) (c : Change) : Type 0 where
   pub ks : Forest
-  pub listed : (i : ℕ) → Unit {0}
+  pub answer : c ≡ to 65 (many (tagOf v) ks)
+  pub listed : At t Γ (take m kept) ks
+
+-- it says that a member is in none of the other operands of an intersection: {a} is the operand at `single`
+pub record ApartMeans (t : Tree) (at single : ℕ) (c : Change) : Type 0 where
+  pub a : Tree
+  pub left : Forest
+  pub right : Forest
+  pub Ξ : Ctx
+  pub n : ℕ
+  pub vs : List Ty
+  pub at-node : find t [] at ≡ found Ξ (node (head #BInter n vs) (append left (cons (many #SetExt (sole a)) right)))
+  pub there : single ≡ at + 1 + nodesIn left
+  pub answer : c ≡ to 37 (one #Not (two #In a (joined #BInter (append left right))))
+
+-- it says that an intersection is within the sets that its operands subtract
+pub record WithinMeans (t : Tree) (at : ℕ) (c : Change) : Type 0 where
+  pub ks : Forest
+  pub Ξ : Ctx
+  pub n : ℕ
+  pub vs : List Ty
+  pub at-node : find t [] at ≡ found Ξ (node (head #BInter n vs) ks)
+  pub answer : c ≡ to 38 (two #SubsetEq (joined #BInter (minuends ks)) (joined #BUnion (subtrahends ks)))
+
+-- the decision d, made at a node v in the context Γ of the tree t, stands for the answer c; kept is the lent list
+abbrev pub Means : Tree → Tree → Ctx → List ℕ → Decision → Change → Type 0
+Means t v Γ kept D.Rests c = c ≡ same
+Means t v Γ kept (D.Fixed place first second binder) c = FixedMeans t place first second binder c
+Means t v Γ kept (D.Each place at binder) c = EachMeans t place at binder c
+Means t v Γ kept (D.Kept m) c = KeptMeans t v Γ kept m c
+Means t v Γ kept (D.Apart at single) c = ApartMeans t at single c
+Means t v Γ kept (D.Within at) c = WithinMeans t at c

@@ -1,0 +1,2 @@
+// The rules in code: which place of the source answers at a node, and on which operands.
+pub mod decision; // decision.rt: what a rule decides
