@@ -32,8 +32,8 @@ At t Θ [] (cons w ks) = ⊥
 At t Θ (p ∷ ps) nil = ⊥
 At t Θ (p ∷ ps) (cons w ks) = (find t [] p ≡ found Θ w) × At t Θ ps ks
 
--- the answer c at a node of the tree t is the right side of the place, filled so
-pub record FixedMeans (t : Tree) (place first second binder : ℕ) (c : Change) : Type 0 where
+-- the answer c at a node of the tree t is the place's, with the bytes of the pattern, filled so
+pub record FixedMeans (t : Tree) (place pattern first second binder : ℕ) (c : Change) : Type 0 where
   pub new : Tree
   pub answer : c ≡ to place new
   pub Δ : Ctx
@@ -47,7 +47,7 @@ pub record FixedMeans (t : Tree) (place first second binder : ℕ) (c : Change) 
   pub us : List Ty
   pub ks : Forest
   pub at-binder : find t [] binder ≡ found Θ (node (head g n us) ks)
-  pub bytes : enc new ≡ filled (template place) (filling Δ a b us)
+  pub bytes : enc new ≡ filled (template pattern) (filling Δ a b us)
 
 -- it is the operator o over the right side of the place for each child of the node
 pub record EachMeans (t : Tree) (place at binder : ℕ) (c : Change) : Type 0 where
@@ -93,7 +93,7 @@ pub record WithinMeans (t : Tree) (at : ℕ) (c : Change) : Type 0 where
 -- the decision d, made at a node v in the context Γ of the tree t, stands for the answer c; kept is the lent list
 abbrev pub Means : Tree → Tree → Ctx → List ℕ → Decision → Change → Type 0
 Means t v Γ kept D.Rests c = c ≡ same
-Means t v Γ kept (D.Fixed place first second binder) c = FixedMeans t place first second binder c
+Means t v Γ kept (D.Fixed place pattern first second binder) c = FixedMeans t place pattern first second binder c
 Means t v Γ kept (D.Each place at binder) c = EachMeans t place at binder c
 Means t v Γ kept (D.Kept m) c = KeptMeans t v Γ kept m c
 Means t v Γ kept (D.Apart at single) c = ApartMeans t at single c

@@ -3,9 +3,11 @@
 pub enum Decision {
     // no rule applies
     Rests,
-    // a right side of a fixed pattern, its two operands, and the node whose binders it takes
+    // a right side of a fixed pattern, its two operands, and the node whose binders it takes; the pattern is the place's own, or
+    // 64 (the operand itself) where a negation is removed
     Fixed {
         place: usize,
+        pattern: usize,
         first: usize,
         second: usize,
         binder: usize,
