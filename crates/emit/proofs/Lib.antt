@@ -5,3 +5,5 @@ pub mod Parts
 pub mod ProgramTable
 pub mod Onto
 pub mod RightSides
+pub mod Joins
+pub mod Fillings

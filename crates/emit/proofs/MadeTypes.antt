@@ -20,7 +20,7 @@ use Rattle.emit.specs.Programs.{modeCode}
 use Rattle.emit.specs.Holds.{shape, MadeFrom, CanMake, inner, powered, powerCode, InnerAt, MadeType, MadeExpression}
 use Rattle.emit.specs.declared.type_expression.Written.{Written}
 use Rattle.emit.proofs.Puts.{puts-then, puts-as, between-span}
-use Rattle.emit.proofs.TypeBytes.{type-at, type-past, type-within, pow-bytes}
+use Rattle.emit.proofs.TypeBytes.{type-at, pow-bytes}
 
 -- ---- a power's type and a product's types, further on
 pow-below : (s : List ℕ) (at : ℕ) (t : Ty) → TypeAt s at (pow t) → TypeAt s (at + 1) t
@@ -117,10 +117,6 @@ module _ (s : List ℕ) (at c : ℕ) where
 
   pub inner-has : (p : ℕ) → CanMake s at c → InnerAt s at c p → HasType s p
   inner-has p w v = (inner (w .0) (w .1), v .there (w .0) (w .1) (w .2) (w .3))
-
-  -- a byte further on fits the count of positions
-  pub made-within : CanMake s at c → at < length s
-  made-within w = type-within s at (w .1, w .3 .1)
 
 -- ---- `put_type` and `put_expression`
 power-code : (m : Mode) → powerCode (modeCode m) ≡ powered m

@@ -321,7 +321,12 @@ program-next g at p ps h =
 
 holds-next : (s types : List ℕ) (r : Ranges) (f : Filling) (p : Part) (ps : List Part) → Holds s types r f (p ∷ ps) → HoldsPart s types r f p × Holds s types r f ps
 unfolding Holds
-holds-next s types r f p ps h = h
+holds-next s types r f (tag g) ps h = (tt, h)
+holds-next s types r f (byte c) ps h = (tt, h)
+holds-next s types r f (operand i) ps h = h
+holds-next s types r f (type m i) ps h = h
+holds-next s types r f (expression m i) ps h = h
+holds-next s types r f binders ps h = h
 
 filled-next : (f : Filling) (p : Part) (ps : List Part) → filled (p ∷ ps) f ≡ partBytes f p ++ filled ps f
 unfolding filled

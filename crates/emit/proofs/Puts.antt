@@ -1,4 +1,5 @@
--- Laws of writing. Main results: puts-nil, puts-then, put-in, put-over, word-bytes, copy-none, copy-more, copy-end, between-span.
+-- Laws of writing. Main results: puts-nil, puts-then, put-in, put-over, word-bytes, copy-none, copy-more, copy-end, between-span; between-front,
+-- between-back (a frame's bytes before and behind a part); wrote-none, wrote-held, wrote-full (the buffer's start and its outcome).
 use mathlib.Core.Path.{_≡_, refl, sym, ap, ap₂, _∙_, subst}
 use mathlib.Core.Bool.{Bool, true, false}
 use mathlib.Core.List.{List, [], _∷_, _++_, append-assoc, append-nil}
@@ -7,7 +8,7 @@ use native.Mathlib.Omega.{arith}
 use native.Mathlib.Numerals.{add-one}
 use lib.Dec.{leb}
 use lib.ListN.{length, take, drop, set, getD, length-append, length-drop, length-set}
-use lib.Seq.{take-suc-set, take-suc, getD-drop}
+use lib.Seq.{take-suc-set, take-suc, take-length, getD-drop}
 use borrow.Author.Tests.{leb-true, leb-false}
 use Rattle.frame.specs.Encoding.{encNumber}
 use Rattle.frame.specs.Spans.{Spans}
@@ -79,3 +80,22 @@ copy-end s a i e o n p m h k a₁ = let z : i ≡ e = omega arith in subst (λ (
 -- what stands from a up to b, as a list
 pub between-span : (s : List ℕ) (a b : ℕ) (xs : List ℕ) → Spans s a b xs → between s a b ≡ xs
 between-span s a b xs h = let z : b - a ≡ length xs = omega (arith, h .long) in ap (λ (n : ℕ). take n (drop a s)) z ∙ h .bytes
+
+-- the bytes before a position, and those from one on
+pub between-front : (s : List ℕ) (n : ℕ) → between s 0 n ≡ take n s
+between-front s n = let z : n - 0 ≡ n = omega arith in ap (λ (i : ℕ). take i s) z
+
+pub between-back : (s : List ℕ) (a : ℕ) → between s a (length s) ≡ drop a s
+between-back s a =
+    let z : length s - a ≡ length (drop a s) = omega (arith, length-drop a s) in
+    ap (λ (i : ℕ). take i (drop a s)) z ∙ take-length (drop a s)
+
+-- ---- the buffer before the first byte, and what the cursor says at the end
+pub wrote-none : (o : List ℕ) → length o ≡ 4096 → Wrote o 0 []
+wrote-none o h = record { whole = h; held = λ k. (refl, refl); full = λ k. absurd (omega arith) }
+
+pub wrote-held : (o : List ℕ) (n : ℕ) (xs : List ℕ) → Wrote o n xs → n ≤ 4096 → (n ≡ length xs) × (take n o ≡ xs)
+wrote-held o n xs w h = by-fit xs (w .held) (λ k. absurd (omega (arith, w .full k)))
+
+pub wrote-full : (o : List ℕ) (n : ℕ) (xs : List ℕ) → Wrote o n xs → 4096 < n → 4096 < length xs
+wrote-full o n xs w h = by-fit xs (λ k. absurd (omega (arith, w .held k .0))) (λ k. k)

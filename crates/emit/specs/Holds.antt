@@ -50,9 +50,16 @@ HoldsPart s types r f (type m i) = MadeFrom types (typeOfOperand r i) m (typeAt 
 HoldsPart s types r f (expression m i) = MadeFrom types (typeOfOperand r i) m (typeAt i (f .types))
 HoldsPart s types r f binders = Spans s (r .binders) (r .«binders_end») (length (f .binderTypes) ∷ encTys (f .binderTypes))
 
+-- the same for all parts. Tags and bytes ask for nothing and are left out, so that at a given place this is what its operands,
+-- types and binders ask for, in the template's order.
 unfoldable pub Holds : List ℕ → List ℕ → Ranges → Filling → List Part → Type 0
 Holds s types r f [] = Unit {0}
-Holds s types r f (p ∷ ps) = HoldsPart s types r f p × Holds s types r f ps
+Holds s types r f (tag g ∷ ps) = Holds s types r f ps
+Holds s types r f (byte c ∷ ps) = Holds s types r f ps
+Holds s types r f (operand i ∷ ps) = HoldsPart s types r f (operand i) × Holds s types r f ps
+Holds s types r f (type m i ∷ ps) = HoldsPart s types r f (type m i) × Holds s types r f ps
+Holds s types r f (expression m i ∷ ps) = HoldsPart s types r f (expression m i) × Holds s types r f ps
+Holds s types r f (binders ∷ ps) = HoldsPart s types r f binders × Holds s types r f ps
 
 -- ---- a type made from the type at `at`, by the mode with this code
 abbrev pub CanMake : List ℕ → ℕ → ℕ → Type 0

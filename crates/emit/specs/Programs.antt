@@ -1,6 +1,6 @@
 -- The right sides that are built by a fixed pattern, by the place of the source (docs/RULES.md), and the byte programs that
--- stand for them in the code. Operands are numbered as they stand in the place's left side. Places that join any number of
--- operands have the pattern of one operand here.
+-- stand for them in the code. Operands are numbered as they stand in the place's left side; where the right side has one operand
+-- only, that is operand 0. Places that join any number of operands have the pattern of one operand here.
 use mathlib.Core.Bool.{Bool, true, false, _||_}
 use mathlib.Core.List.{List, [], _∷_, _++_}
 use Prim.Native.Nat.{ℕ}
