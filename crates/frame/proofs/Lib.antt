@@ -8,5 +8,6 @@ pub mod Frames
 pub mod SameTrees
 pub mod TextLines
 pub mod Extents
+pub mod TagTables
 pub mod AtPlace
 pub mod Splices

@@ -1,6 +1,7 @@
 pub mod Types
 pub mod Trees
 pub mod Tags
+pub mod TagCodes
 pub mod Operators
 pub mod Encoding
 pub mod Reading
