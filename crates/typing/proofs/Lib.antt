@@ -2,5 +2,8 @@ pub mod Derived
 pub mod TypeExpression
 pub mod Same
 pub mod Names
+pub mod Claims
+pub mod Noting
+pub mod NotingTypes
 pub mod Decides
 pub mod Checked

@@ -1,6 +1,8 @@
 pub mod Typing
 pub mod Binding
+pub mod Members
 pub mod Identifiers
+pub mod Claims
 pub mod Check
 pub mod Accepted
 pub mod TypeExpression
