@@ -9,5 +9,9 @@ pub mod SameTrees
 pub mod TextLines
 pub mod Extents
 pub mod TagTables
+pub mod TypeTurns
+pub mod HeadTurns
+pub mod NodeTurns
+pub mod FrameTurns
 pub mod AtPlace
 pub mod Splices

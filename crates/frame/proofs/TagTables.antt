@@ -2,13 +2,13 @@
 -- Main results: below, entry, flag (a computed test); form-code, code-form, beyond, form-none, form-some; range-free .. children-fixed
 -- (what a layout's parts say); kinds-at (the sorts of the children by the first and the later ones).
 use mathlib.Core.Path.{_≡_, refl, sym, ap, ap₂, _∙_, subst, subst₂}
-use mathlib.Core.Bool.{Bool, true, false, not, _&&_}
+use mathlib.Core.Bool.{Bool, true, false, _&&_}
 use mathlib.Core.List.{List, [], _∷_}
 use Prim.Native.Nat.{ℕ, zero, suc, _+_, _*_, _/_, _%_, _≤_, _<_}
 use native.Mathlib.Omega.{arith}
 use lib.ListN.{length, getD}
 use lib.Dec.{ltb, leb, eqb}
-use borrow.Author.Tests.{leb-true, ltb-true, lt-leb, le-leb, eqb-true, eqb-false}
+use borrow.Author.Tests.{leb-true, ltb-true, lt-ltb, lt-leb, le-leb, eqb-true, eqb-false}
 use Rattle.frame.specs.Tags.{pick, Sort, predicate, expression, sameSort, repeat, Layout, these, payload, counted, binding, Form, width, inRange, payloadOf, typesOf, sortsOf, Class, literalPred, equality, order, membership, inclusion, binaryPred, associativePred, negation, quantifiedPred, finite, partition, identifier, bound, literal, setExtension, maplet, relationSet, setMinus, cartesian, directProduct, parallelProduct, domainRestriction, rangeRestriction, upTo, arithmetic, functionImage, relationalImage, setOperation, backwardComposition, forwardComposition, override, sum, integerSet, boolSet, truthValue, integerRelation, emptySet, projection1, projection2, identity, boolExpr, cardinal, powerset, generalised, domain, range, extremum, converse, unaryMinus, quantifiedSet, comprehension, unlisted, Row, row, table, lookup, classOf, formAt, formOf}
 use Rattle.frame.specs.TagCodes.{formAtCode, formCode, isExpression, sortFor, firstSort, laterSort, kindsFor, layoutKind, lowOf, highOf, fixedOf}
 use Rattle.frame.proofs.Inversion.{true-not}
@@ -105,6 +105,64 @@ form-code unaryMinus = refl
 form-code quantifiedSet = refl
 form-code comprehension = refl
 form-code unlisted = refl
+
+code-bound : (c : Class) → leb (formCode c) 19 ≡ true
+unfolding formCode
+code-bound literalPred = refl
+code-bound equality = refl
+code-bound order = refl
+code-bound membership = refl
+code-bound inclusion = refl
+code-bound binaryPred = refl
+code-bound associativePred = refl
+code-bound negation = refl
+code-bound quantifiedPred = refl
+code-bound finite = refl
+code-bound partition = refl
+code-bound identifier = refl
+code-bound bound = refl
+code-bound literal = refl
+code-bound setExtension = refl
+code-bound maplet = refl
+code-bound relationSet = refl
+code-bound setMinus = refl
+code-bound cartesian = refl
+code-bound directProduct = refl
+code-bound parallelProduct = refl
+code-bound domainRestriction = refl
+code-bound rangeRestriction = refl
+code-bound upTo = refl
+code-bound arithmetic = refl
+code-bound functionImage = refl
+code-bound relationalImage = refl
+code-bound setOperation = refl
+code-bound backwardComposition = refl
+code-bound forwardComposition = refl
+code-bound override = refl
+code-bound sum = refl
+code-bound integerSet = refl
+code-bound boolSet = refl
+code-bound truthValue = refl
+code-bound integerRelation = refl
+code-bound emptySet = refl
+code-bound projection1 = refl
+code-bound projection2 = refl
+code-bound identity = refl
+code-bound boolExpr = refl
+code-bound cardinal = refl
+code-bound powerset = refl
+code-bound generalised = refl
+code-bound domain = refl
+code-bound range = refl
+code-bound extremum = refl
+code-bound converse = refl
+code-bound unaryMinus = refl
+code-bound quantifiedSet = refl
+code-bound comprehension = refl
+code-bound unlisted = refl
+
+pub code-small : (c : Class) → formCode c < 20
+code-small c = let h = leb-true (formCode c) 19 (code-bound c) in omega arith
 
 pub code-form : (t r : ℕ) → r ≡ formCode (classOf t) → formAtCode r ≡ formOf t
 code-form t r e = ap formAtCode e ∙ form-code (classOf t)
@@ -241,12 +299,6 @@ pub sort-back : (e : Sort) → sortFor (isExpression e) ≡ e
 sort-back predicate = refl
 sort-back expression = refl
 
-pub same-expression : (e : Sort) (b : Bool) → sameSort e (sortFor b) ≡ sameBool (isExpression e) b
-same-expression predicate true = refl
-same-expression predicate false = refl
-same-expression expression true = refl
-same-expression expression false = refl
-
 -- the sorts of the children, said by how many they are and by the first and the later sort
 pub record Kinds (l : Layout) (x : ℕ) : Type 0 where
   pub first : firstSort (sortsOf l x) ≡ firstSort (sortsOf l 1)
@@ -374,10 +426,18 @@ pub later-at : (k : ℕ) → k < 20 → eqb (getD laters k 0) 1 ≡ laterSort (s
 unfolding formAtCode
 later-at k h = flag (λ k. eqb (getD laters k 0) 1) (λ k. laterSort (sortsOf (layoutAt k) 1)) 20 refl k h
 
-pub sort-at : (k : ℕ) → k < 20 → leb 9 k ≡ isExpression (formAtCode k .sort)
+pub sort-expression : (k : ℕ) (e : Bool) → k < 20 → e ≡ true → leb 9 k ≡ sameSort (formAtCode k .sort) (sortFor e)
 unfolding formAtCode
-sort-at k h = flag (λ k. leb 9 k) (λ k. isExpression (formAtCode k .sort)) 20 refl k h
+sort-expression k e h ee = rw ee (flag (λ k. leb 9 k) (λ k. sameSort (formAtCode k .sort) expression) 20 refl k h)
 
-pub listed-at : (k : ℕ) → k < 20 → eqb k 0 ≡ not (formAtCode k .listed)
+pub sort-predicate : (k : ℕ) (e : Bool) → k < 20 → e ≡ false → ltb k 9 ≡ sameSort (formAtCode k .sort) (sortFor e)
 unfolding formAtCode
-listed-at k h = flag (λ k. eqb k 0) (λ k. not (formAtCode k .listed)) 20 refl k h
+sort-predicate k e h ee = rw ee (flag (λ k. ltb k 9) (λ k. sameSort (formAtCode k .sort) predicate) 20 refl k h)
+
+pub listed-at : (k : ℕ) → k < 20 → (k ≡ 0 → ⊥) → formAtCode k .listed ≡ true
+unfolding formAtCode
+listed-at k h z = sym (flag (λ k. ltb 0 k) (λ k. formAtCode k .listed) 20 refl k h) ∙ lt-ltb 0 k (omega arith)
+
+pub unlisted-at : (k : ℕ) → k ≡ 0 → formAtCode k .listed ≡ false
+unfolding formAtCode
+unlisted-at k z = rw z

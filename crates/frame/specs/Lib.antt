@@ -5,6 +5,7 @@ pub mod TagCodes
 pub mod Operators
 pub mod Encoding
 pub mod Reading
+pub mod Post
 pub mod Lines
 pub mod Places
 pub mod Sameness

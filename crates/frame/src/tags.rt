@@ -4,8 +4,8 @@
 ghost use mathlib.Core.Path.{_≡_};
 ghost use Prim.Native.Nat.{_≤_, _<_};
 ghost use lib.ListN.{length};
-ghost use Rattle.frame.specs.Tags.{width, inRange, payloadOf, typesOf, sortsOf, classOf};
-ghost use Rattle.frame.specs.TagCodes.{formCode, formAtCode, isExpression, firstSort, laterSort, layoutKind, lowOf, highOf, fixedOf};
+ghost use Rattle.frame.specs.Tags.{sameSort, width, inRange, payloadOf, typesOf, sortsOf, classOf};
+ghost use Rattle.frame.specs.TagCodes.{formCode, formAtCode, sortFor, firstSort, laterSort, layoutKind, lowOf, highOf, fixedOf};
 
 // Tags come in blocks of fifty: where the forms of each block begin in FORMS, and last where they end.
 const BLOCKS: [u8; 20] =
@@ -69,11 +69,15 @@ pub fn form_of(tag: usize) -> usize
     wide(FORMS[at])
 }
 
-pub fn is_expression(form: usize) -> bool
+// Whether the form is that of an expression where e, else that of a predicate.
+pub fn is_sort(form: usize, e: bool) -> bool
     requires { ⌜ form < 20 ⌝ }
-    ensures { λ r. ⌜ r ≡ isExpression (formAtCode form .sort) ⌝ }
+    ensures { λ r. ⌜ r ≡ sameSort (formAtCode form .sort) (sortFor e) ⌝ }
 {
-    FIRST_EXPRESSION <= form
+    if e {
+        return FIRST_EXPRESSION <= form;
+    }
+    form < FIRST_EXPRESSION
 }
 
 pub fn width_of(form: usize) -> usize
