@@ -5,5 +5,6 @@ pub mod Names
 pub mod Claims
 pub mod Noting
 pub mod NotingTypes
+pub mod NotingNodes
 pub mod Decides
 pub mod Checked

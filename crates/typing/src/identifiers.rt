@@ -6,8 +6,14 @@ ghost use Prim.Native.Nat.{ℕ, _+_, _-_, _≤_, _<_};
 ghost use mathlib.Core.List.{List};
 ghost use lib.ListN.{length};
 ghost use Rattle.frame.specs.Types.{Ty};
+ghost use Rattle.frame.specs.Trees.{Tree, Forest};
+ghost use Rattle.frame.specs.Tags.{Sort, predicate};
+ghost use Rattle.frame.specs.At.{IsAt};
+ghost use Rattle.typing.specs.Identifiers.{namesAgree};
 ghost use Rattle.frame.specs.Reading.{frameLimit};
-ghost use Rattle.typing.specs.Claims.{PowerPost, SameBytes, SameType, Held, TypeAt, TypesAt, NamePost, GivenPost, TypesPost};
+ghost use Rattle.typing.specs.Claims.{PowerPost, SameBytes, SameType, Held, TypeAt, TypesAt, NamePost, GivenPost, TypesPost, Rest, NamesPost};
+
+const IDENTIFIER: usize = 1;
 
 // The entry of a number that a given set has claimed. Other entries are one more than the position of an identifier's type,
 // and 0 where nothing has been claimed.
@@ -122,4 +128,42 @@ fn note_types(s: &[u8], at: usize, m: usize, table: &mut [u16; 65536]) -> Noting
         4 => note_types(s, at + 1, m + 1, table),
         _ => note_types(s, at + 1, m - 1, table),
     }
+}
+
+// The nodes from `at` to the end of the frame. A node's children are the next nodes, so no list of open nodes is kept.
+fn note_nodes(s: &[u8], at: usize, table: &mut [u16; 65536]) -> bool
+    requires { ⌜ Held (now s) (now table) × ((ts : Forest) × (es : List Sort) × Rest (now s) at ts es) ⌝ }
+    ensures { λ r. ⌜ NamesPost (now (s .entry)) at (now (table .entry)) (now (table .exit)) r ⌝ }
+{
+    if s.len() <= at {
+        return true;
+    }
+    let tag = frame::reading::number(s, at, 2);
+    let form = frame::tags::form_of(tag);
+    let w = frame::tags::width_of(form);
+    let x = frame::reading::number(s, at + 2, w);
+    let m = frame::tags::types_of(form, x);
+    let a = note_types(s, at + 2 + w, m, table);
+    match a {
+        Noting::Clashed => false,
+        Noting::Ends(p) => {
+            if tag != IDENTIFIER {
+                return note_nodes(s, p, table);
+            }
+            let fits = note_identifier(s, x, at + 2 + w, p, table);
+            if !fits {
+                return false;
+            }
+            note_nodes(s, p, table)
+        }
+    }
+}
+
+// Whether the names of a frame's tree agree.
+pub fn names_ok(s: &[u8]) -> bool
+    requires { ⌜ (length (now s) ≤ frameLimit) × ((t : Tree) × IsAt (now s) predicate 0 t (length (now s))) ⌝ }
+    ensures { λ r. ⌜ ((t : Tree) → IsAt (now (s .entry)) predicate 0 t (length (now (s .entry))) → r ≡ namesAgree t) ⌝ }
+{
+    let mut table = [0u16; 65536];
+    note_nodes(s, 0, &mut table)
 }
