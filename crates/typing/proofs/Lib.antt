@@ -6,5 +6,7 @@ pub mod Claims
 pub mod Noting
 pub mod NotingTypes
 pub mod NotingNodes
+pub mod OpenBinders
+pub mod BoundWalk
 pub mod Decides
 pub mod Checked

@@ -8,4 +8,5 @@ pub mod Accepted
 pub mod TypeExpression
 pub mod Signature
 pub mod Leaves
+pub mod Bound
 pub mod Cases
