@@ -1,26 +1,25 @@
 -- The ways out of `read`, on plain values.
--- Main results: read-empty, read-long, read-refused, read-more, read-whole; sets-zeros.
-use mathlib.Core.Path.{_≡_, refl, sym, ap, ap₂, _∙_}
-use mathlib.Core.Bool.{Bool, false}
-use mathlib.Core.List.{List, [], _∷_, _++_}
+-- Main results: read-empty, read-long, read-refused, read-more, read-whole; sets-zeros; table-at (the start of the node at a place).
+use mathlib.Core.Path.{_≡_, sym, ap, _∙_}
+use mathlib.Core.List.{List, _++_}
 use Prim.Native.Nat.{ℕ, zero, suc, _+_, _-_, _≤_, _<_}
 use native.Mathlib.Omega.{arith}
-use lib.ListN.{length, drop, replicate, length-replicate}
+use lib.ListN.{length, drop, getD, replicate, length-replicate, List·getD-append}
 use lib.Seq.{sets, sets-eq}
 use borrow.Author.Tests.{lt-ltb, le-ltb, eq-eqb, ne-eqb}
 use Rattle.frame.specs.Trees.{Tree, nodes}
 use Rattle.frame.specs.Tags.{predicate}
-use Rattle.frame.specs.Encoding.{enc, starts}
-use Rattle.frame.specs.Reading.{Res, ok, no, readNode, Parsed, tree, bad, frameLimit, whole, parse}
+use Rattle.frame.specs.Encoding.{starts}
+use Rattle.frame.specs.Reading.{ok, readNode, tree, bad, frameLimit, whole, parse}
 use Rattle.frame.specs.Spans.{Bytes}
 use Rattle.frame.specs.Post.{nodeAnswer, frameAnswer, tableSize, tableOf, NodePost}
 use Rattle.frame.specs.declared.reading.FrameAnswer.{FrameAnswer}
-use Rattle.frame.specs.declared.reading.FrameAnswer.the-variants as F
 use Rattle.frame.specs.declared.reading.NodeAnswer.{NodeAnswer}
 use Rattle.frame.specs.declared.reading.NodeAnswer.the-variants.{Ends, Refused}
 use Rattle.frame.proofs.ReadTrees.{node-enc}
 use Rattle.frame.proofs.Extents.{nodes-enc, starts-length}
 use Rattle.frame.proofs.NodeTurns.{node-yes, node-no}
+use Rattle.frame.specs.declared.reading.FrameAnswer.the-variants as F
 
 -- ---- a table of zeros with a run of stores at its start
 drop-replicate : (k n : ℕ) → drop {A = ℕ} k (replicate n 0) ≡ replicate (n - k) 0
@@ -89,3 +88,7 @@ module _ (s : List ℕ) (h : length s ≡ 0 → ⊥) (l : length s ≤ frameLimi
               ∙ ap (λ (i : ℕ). starts u 0 ++ replicate (tableSize - i) 0) n
               ∙ ap tableOf (sym is),
         )
+
+-- ---- what the table says of a place: where its node starts
+pub table-at : (t : Tree) (k : ℕ) → k < nodes t → getD (tableOf (tree t)) k 0 ≡ getD (starts t 0) k 0
+table-at t k h = List·getD-append (starts t 0) (replicate (tableSize - nodes t) 0) 0 k (omega (arith, starts-length t 0))

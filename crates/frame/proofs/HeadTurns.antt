@@ -1,24 +1,22 @@
 -- The ways out of `read_head`, on plain values.
 -- Main results: head-end, head-unlisted, head-sort, head-short, head-range, head-types-no, head-found; head-is.
-use mathlib.Core.Path.{_≡_, refl, sym, ap, ap₂, _∙_}
+use mathlib.Core.Path.{_≡_, sym, ap, ap₂, _∙_}
 use mathlib.Core.Bool.{Bool, true, false}
-use mathlib.Core.List.{List, []}
+use mathlib.Core.List.{List}
 use Prim.Native.Nat.{ℕ, _+_, _≤_, _<_}
-use native.Mathlib.Omega.{arith}
 use lib.ListN.{length}
 use borrow.Author.Tests.{lt-ltb, le-ltb}
 use Rattle.frame.specs.Types.{Ty}
-use Rattle.frame.specs.Trees.{head}
 use Rattle.frame.specs.Tags.{Sort, sameSort, Form, width, inRange, payloadOf, typesOf, sortsOf, classOf, formOf}
 use Rattle.frame.specs.TagCodes.{formAtCode, formCode, sortFor, firstSort, laterSort}
-use Rattle.frame.specs.Reading.{numberAt, TysRes, okTs, noTs, readTys, HeadRes, okH, noH, withTys, withNumber, withForm, readHead}
+use Rattle.frame.specs.Reading.{numberAt, TysRes, okTs, noTs, readTys, withTys, withNumber, withForm, readHead}
 use Rattle.frame.specs.Post.{typesAnswer, headAnswer}
 use Rattle.frame.specs.declared.reading.TypeAnswer.{TypeAnswer}
-use Rattle.frame.specs.declared.reading.TypeAnswer.the-variants as Ty
 use Rattle.frame.specs.declared.reading.HeadAnswer.{HeadAnswer}
 use Rattle.frame.specs.declared.reading.HeadAnswer.the-variants.{Is, Refused}
 use Rattle.frame.proofs.TagTables.{layoutAt, code-form, listed-at, unlisted-at, kinds-at}
 use Rattle.frame.proofs.TypeTurns.{ends-not}
+use Rattle.frame.specs.declared.reading.TypeAnswer.the-variants as Ty
 
 pub head-end : (s : List ℕ) (at : ℕ) (e : Sort) → length s < at + 2 → Refused 3 ≡ headAnswer (readHead s at e)
 unfolding readHead

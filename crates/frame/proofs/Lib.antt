@@ -14,5 +14,7 @@ pub mod HeadTurns
 pub mod NodeTurns
 pub mod View
 pub mod FrameTurns
+pub mod LineTurns
 pub mod AtPlace
 pub mod Splices
+pub mod Within

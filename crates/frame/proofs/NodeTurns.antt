@@ -16,12 +16,12 @@ use Rattle.frame.specs.Reading.{HeadRes, okH, noH, readHead, Res, ok, no
 use Rattle.frame.specs.Spans.{Bytes, Spans}
 use Rattle.frame.specs.Post.{headAnswer, nodeAnswer, kidsAnswer, Room, NodePost, KidsPost}
 use Rattle.frame.specs.declared.reading.HeadAnswer.{HeadAnswer}
-use Rattle.frame.specs.declared.reading.HeadAnswer.the-variants as H
 use Rattle.frame.specs.declared.reading.NodeAnswer.{NodeAnswer}
 use Rattle.frame.specs.declared.reading.NodeAnswer.the-variants.{Ends, Refused}
-use Rattle.frame.proofs.Inversion.{noF-not, no-not, many-count, head-inv, layoutAt, behind, tagAt}
+use Rattle.frame.proofs.Inversion.{noF-not, no-not, many-count, head-inv, behind, tagAt}
 use Rattle.frame.proofs.ReadTrees.{head-read, node-enc}
 use Rattle.frame.proofs.Extents.{node-end, nodes-enc, starts-length}
+use Rattle.frame.specs.declared.reading.HeadAnswer.the-variants as H
 use Rattle.frame.proofs.TagTables as T
 
 -- ---- a run of stores, one after the other

@@ -4,12 +4,12 @@
 use mathlib.Core.Path.{_≡_, refl, sym, ap, ap₂, _∙_, subst, subst₂}
 use mathlib.Core.Bool.{Bool, true, false, _&&_}
 use mathlib.Core.List.{List, [], _∷_}
-use Prim.Native.Nat.{ℕ, zero, suc, _+_, _*_, _/_, _%_, _≤_, _<_}
+use Prim.Native.Nat.{ℕ, zero, suc, _+_, _/_, _%_, _≤_, _<_}
 use native.Mathlib.Omega.{arith}
 use lib.ListN.{length, getD}
 use lib.Dec.{ltb, leb, eqb}
 use borrow.Author.Tests.{leb-true, ltb-true, lt-ltb, lt-leb, le-leb, eqb-true, eqb-false}
-use Rattle.frame.specs.Tags.{pick, Sort, predicate, expression, sameSort, repeat, Layout, these, payload, counted, binding, Form, width, inRange, payloadOf, typesOf, sortsOf, Class, literalPred, equality, order, membership, inclusion, binaryPred, associativePred, negation, quantifiedPred, finite, partition, identifier, bound, literal, setExtension, maplet, relationSet, setMinus, cartesian, directProduct, parallelProduct, domainRestriction, rangeRestriction, upTo, arithmetic, functionImage, relationalImage, setOperation, backwardComposition, forwardComposition, override, sum, integerSet, boolSet, truthValue, integerRelation, emptySet, projection1, projection2, identity, boolExpr, cardinal, powerset, generalised, domain, range, extremum, converse, unaryMinus, quantifiedSet, comprehension, unlisted, Row, row, table, lookup, classOf, formAt, formOf}
+use Rattle.frame.specs.Tags.{pick, Sort, predicate, expression, sameSort, repeat, Layout, these, payload, counted, binding, width, inRange, payloadOf, typesOf, sortsOf, Class, literalPred, equality, order, membership, inclusion, binaryPred, associativePred, negation, quantifiedPred, finite, partition, identifier, bound, literal, setExtension, maplet, relationSet, setMinus, cartesian, directProduct, parallelProduct, domainRestriction, rangeRestriction, upTo, arithmetic, functionImage, relationalImage, setOperation, backwardComposition, forwardComposition, override, sum, integerSet, boolSet, truthValue, integerRelation, emptySet, projection1, projection2, identity, boolExpr, cardinal, powerset, generalised, domain, range, extremum, converse, unaryMinus, quantifiedSet, comprehension, unlisted, Row, row, table, lookup, classOf, formAt, formOf}
 use Rattle.frame.specs.TagCodes.{formAtCode, formCode, isExpression, sortFor, firstSort, laterSort, kindsFor, layoutKind, lowOf, highOf, fixedOf}
 use Rattle.frame.proofs.Inversion.{true-not}
 use Rattle.frame.proofs.ReadTrees.{repeat-length}

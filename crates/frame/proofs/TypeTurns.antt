@@ -7,7 +7,6 @@ use native.Mathlib.Omega.{arith}
 use lib.ListN.{length, getD}
 use borrow.Author.Tests.{le-leb, lt-leb}
 use Rattle.frame.specs.Types.{Ty, pow, prod}
-use Rattle.frame.specs.Encoding.{encTy}
 use Rattle.frame.specs.Reading.{TyRes, okT, noT, thenT, byteOf, tyCase, readTy, typeLimit, TysRes, okTs, noTs, consTs, thenTs, readTys}
 use Rattle.frame.specs.Spans.{Bytes}
 use Rattle.frame.specs.Post.{typeAnswer, givenAt, typesAnswer}

@@ -8,6 +8,7 @@ pub mod Reading
 pub mod Post
 pub mod At
 pub mod Lines
+pub mod LineState
 pub mod Places
 pub mod Sameness
 pub mod WellFormed

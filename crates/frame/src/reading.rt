@@ -10,6 +10,12 @@ ghost use Rattle.frame.specs.Tags.{inRange};
 ghost use Rattle.frame.specs.TagCodes.{formAtCode, sortFor, kindsFor};
 ghost use Rattle.frame.specs.Reading.{numberAt, readTy, readTys, okTs, withTys, readHead, parse};
 ghost use Rattle.frame.specs.Post.{typeAnswer, givenAt, typesAnswer, headAnswer, Room, NodePost, KidsPost, frameAnswer, tableOf};
+use crate::refusals::BAD_COUNT;
+use crate::refusals::BAD_LENGTH;
+use crate::refusals::BAD_TAG;
+use crate::refusals::BAD_TYPE;
+use crate::refusals::BYTES_FOLLOW;
+use crate::refusals::ENDS_INSIDE;
 
 // "A type has at most 64 bytes."
 const TYPE_LIMIT: usize = 64;
@@ -77,10 +83,10 @@ pub fn read_type(s: &[u8], at: usize, lim: usize) -> TypeAnswer
     ensures { λ r. ⌜ ((f : ℕ) → lim < at + f → r ≡ typeAnswer (readTy f lim (now (s .entry)) at)) ⌝ }
 {
     if lim <= at {
-        return TypeAnswer::Refused(6);
+        return TypeAnswer::Refused(BAD_TYPE);
     }
     if s.len() <= at {
-        return TypeAnswer::Refused(3);
+        return TypeAnswer::Refused(ENDS_INSIDE);
     }
     let b = s[at];
     match b {
@@ -95,7 +101,7 @@ pub fn read_type(s: &[u8], at: usize, lim: usize) -> TypeAnswer
                 TypeAnswer::Refused(c) => TypeAnswer::Refused(c),
             }
         }
-        _ => TypeAnswer::Refused(6),
+        _ => TypeAnswer::Refused(BAD_TYPE),
     }
 }
 
@@ -105,16 +111,16 @@ fn given_number(s: &[u8], at: usize, lim: usize) -> TypeAnswer
     ensures { λ r. ⌜ r ≡ typeAnswer (givenAt lim (now (s .entry)) at) ⌝ }
 {
     if lim <= at + 1 {
-        return TypeAnswer::Refused(6);
+        return TypeAnswer::Refused(BAD_TYPE);
     }
     if s.len() <= at + 1 {
-        return TypeAnswer::Refused(3);
+        return TypeAnswer::Refused(ENDS_INSIDE);
     }
     if lim <= at + 2 {
-        return TypeAnswer::Refused(6);
+        return TypeAnswer::Refused(BAD_TYPE);
     }
     if s.len() <= at + 2 {
-        return TypeAnswer::Refused(3);
+        return TypeAnswer::Refused(ENDS_INSIDE);
     }
     TypeAnswer::Ends(at + 3)
 }
@@ -156,23 +162,23 @@ pub fn read_head(s: &[u8], at: usize, e: bool) -> HeadAnswer
     ensures { λ r. ⌜ r ≡ headAnswer (readHead (now (s .entry)) at (sortFor e)) ⌝ }
 {
     if s.len() < at + 2 {
-        return HeadAnswer::Refused(3);
+        return HeadAnswer::Refused(ENDS_INSIDE);
     }
     let tag = number(s, at, 2);
     let form = crate::tags::form_of(tag);
     if form == 0 {
-        return HeadAnswer::Refused(4);
+        return HeadAnswer::Refused(BAD_TAG);
     }
     if !crate::tags::is_sort(form, e) {
-        return HeadAnswer::Refused(4);
+        return HeadAnswer::Refused(BAD_TAG);
     }
     let w = crate::tags::width_of(form);
     if s.len() < at + 2 + w {
-        return HeadAnswer::Refused(3);
+        return HeadAnswer::Refused(ENDS_INSIDE);
     }
     let x = number(s, at + 2, w);
     if !crate::tags::in_range(form, x) {
-        return HeadAnswer::Refused(5);
+        return HeadAnswer::Refused(BAD_COUNT);
     }
     let types = at + 2 + w;
     let a = read_types(s, types, crate::tags::types_of(form, x));
@@ -244,17 +250,17 @@ pub fn read(frame: &[u8]) -> FrameRead
 {
     let n = frame.len();
     if n == 0 {
-        return refused(2);
+        return refused(BAD_LENGTH);
     }
     if FRAME_LIMIT < n {
-        return refused(2);
+        return refused(BAD_LENGTH);
     }
     let mut starts = [0u16; 2048];
     let a = read_node(frame, 0, false, &mut starts, 0);
     match a {
         NodeAnswer::Ends(p, k) => {
             if p < n {
-                return refused(7);
+                return refused(BYTES_FOLLOW);
             }
             FrameRead {
                 answer: FrameAnswer::Nodes(k),

@@ -87,7 +87,7 @@ module _ (size : ℕ → ℕ) where
   everyOf t p = all p (values t)
 
   -- a value of one type at a type that is the same
-  pub cast : (u t : Ty) → Dec (u ≡ t) → Value u → Value t
+  unfoldable pub cast : (u t : Ty) → Dec (u ≡ t) → Value u → Value t
   cast u t (yes e) v = subst Value e v
   cast u t (no f) v = default t
 

@@ -75,7 +75,7 @@ module _ {σ : ℕ → Ty} {Γ : Ctx} where
     equation-holds («SIMP_MULTI_AND_NOT/OR_NOT» g n d ps q j a b) h = absorbing-holds j
     equation-holds («SIMP_SPECIAL_AND_BTRUE/OR_BFALSE/none» g n d ps j x) h = neutral-holds j
     equation-holds («SIMP_SPECIAL_AND_BTRUE/MULTI_AND/one» g n d ps p j x) h = kept-holds x (junction-operands ps j h) .0
-    equation-holds («SIMP_SPECIAL_AND_BTRUE/MULTI_AND» g n d ps p q qs j x) h = junction-holds (cons p (cons q qs)) j (kept-operands ps p q qs x (junction-operands ps j h))
+    equation-holds («SIMP_SPECIAL_AND_BTRUE/MULTI_AND» g n d ps p q qs j x c) h = junction-holds (cons p (cons q qs)) j (kept-operands ps p q qs x (junction-operands ps j h))
     equation-holds («SIMP_SPECIAL_IMP_BTRUE_L» p) h = of-imp h .1
     equation-holds («SIMP_SPECIAL_IMP_BFALSE_L» p) h = true-holds
     equation-holds («SIMP_SPECIAL_IMP_BTRUE_R» p) h = true-holds

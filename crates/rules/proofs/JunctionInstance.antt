@@ -1,7 +1,8 @@
 -- The scan of the operands of ∧ and ∨.
 -- Main results: make-opposite (`makeNeg` gives the opposite), contains-among, junction-instance (every answer of
 -- `simplifyAssocPred` is an instance of an equation).
-use mathlib.Core.Path.{_≡_, refl, sym, ap}
+use mathlib.Core.Path.{_≡_, refl, sym, ap, _∙_}
+use borrow.Author.Tests.{eq-eqb}
 use mathlib.Core.Bool.{Bool, true, false, not, _||_}
 use mathlib.Core.Logic.{_⊎_, inl, inr}
 use Prim.Native.Nat.{ℕ}
@@ -127,19 +128,22 @@ module _ (σ : ℕ → Ty) (Γ : Ctx) (n d : ℕ) (hn : fixed 0 0 (formOf n .lay
       go decides h f = decided-by out c cs (a .0) h
 
 -- ---- what comes of it
-finish-instance : {Γ : Ctx} {g n d : ℕ} → Junction g n d → (m : ℕ) (ps : Forest) (k : Kept) → Scanned n d ps k
+other-count : (k m : ℕ) → not (eqb k m) ≡ true → k ≡ m → ⊥
+other-count k m h e = true-not (sym (ap not (eq-eqb k m e)) ∙ h)
+
+finish-instance : {Γ : Ctx} {g n d : ℕ} → Junction g n d → (m : ℕ) (ps : Forest) → m ≡ count ps → (k : Kept) → Scanned n d ps k
     → Is (λ p u. Equation Γ p (many g ps) u) (finish g n d m k)
-finish-instance {g} {n} {d} j m ps decided (inl h) = gives (Equations.«SIMP_SPECIAL_AND_BFALSE/OR_BTRUE» g n d ps j h)
-finish-instance {g} {n} {d} j m ps decided (inr h) = gives (Equations.«SIMP_MULTI_AND_NOT/OR_NOT» g n d ps (h .0) j (h .1) (h .2))
-finish-instance {g} {n} {d} j m ps (kept nil) h = gives (Equations.«SIMP_SPECIAL_AND_BTRUE/OR_BFALSE/none» g n d ps j h)
-finish-instance {g} {n} {d} j m ps (kept (cons a nil)) h = gives (Equations.«SIMP_SPECIAL_AND_BTRUE/MULTI_AND/one» g n d ps a j h)
-finish-instance {g} {n} {d} j m ps (kept (cons a (cons b ks))) h =
-    by-test (not (eqb (count (cons a (cons b ks))) m)) (λ i. gives (Equations.«SIMP_SPECIAL_AND_BTRUE/MULTI_AND» g n d ps a b ks j h))
+finish-instance {g} {n} {d} j m ps c decided (inl h) = gives (Equations.«SIMP_SPECIAL_AND_BFALSE/OR_BTRUE» g n d ps j h)
+finish-instance {g} {n} {d} j m ps c decided (inr h) = gives (Equations.«SIMP_MULTI_AND_NOT/OR_NOT» g n d ps (h .0) j (h .1) (h .2))
+finish-instance {g} {n} {d} j m ps c (kept nil) h = gives (Equations.«SIMP_SPECIAL_AND_BTRUE/OR_BFALSE/none» g n d ps j h)
+finish-instance {g} {n} {d} j m ps c (kept (cons a nil)) h = gives (Equations.«SIMP_SPECIAL_AND_BTRUE/MULTI_AND/one» g n d ps a j h)
+finish-instance {g} {n} {d} j m ps c (kept (cons a (cons b ks))) h =
+    by-test (not (eqb (count (cons a (cons b ks))) m)) (λ i. gives (Equations.«SIMP_SPECIAL_AND_BTRUE/MULTI_AND» g n d ps a b ks j h (λ e. other-count (count (cons a (cons b ks))) m i (e ∙ sym c))))
 
 pub junction-instance : (σ : ℕ → Ty) (Γ : Ctx) {g n d : ℕ} → Junction g n d → (ks : Forest) → OkAll σ Γ ks
     → Is (λ p u. Equation Γ p (many g ks) u) (simplifyAssocPred g n d ks)
 unfolding simplifyAssocPred classOf lookup formAt
 junction-instance σ Γ conjunction ks a =
-    finish-instance conjunction (count ks) ks (scan #BTrue #BFalse ks nil) (scanned σ Γ #BTrue #BFalse refl refl ks nil a)
+    finish-instance conjunction (count ks) ks refl (scan #BTrue #BFalse ks nil) (scanned σ Γ #BTrue #BFalse refl refl ks nil a)
 junction-instance σ Γ disjunction ks a =
-    finish-instance disjunction (count ks) ks (scan #BFalse #BTrue ks nil) (scanned σ Γ #BFalse #BTrue refl refl ks nil a)
+    finish-instance disjunction (count ks) ks refl (scan #BFalse #BTrue ks nil) (scanned σ Γ #BFalse #BTrue refl refl ks nil a)

@@ -12,7 +12,7 @@ use mathlib.Core.List.{List, [], _∷_}
 use Prim.Native.Nat.{ℕ, _<_}
 use lib.ListN.{length}
 use Rattle.frame.specs.Types.{Ty, pow, prod}
-use Rattle.frame.specs.Trees.{Tree, Forest, nil, cons, leaf, one, two, many, typed, sole, pair, quantified, bodied, append, mapF}
+use Rattle.frame.specs.Trees.{Tree, Forest, nil, cons, count, leaf, one, two, many, typed, sole, pair, quantified, bodied, append, mapF}
 use Rattle.frame.specs.Operators.{#SetExt, #Equal, #Lt, #Le, #Gt, #Ge, #In, #SubsetEq, #Mapsto, #SRel, #STRel, #SetMinus, #CProd, #DProd, #PProd, #DomRes, #DomSub, #RanRes, #RanSub, #UpTo, #RelImage, #LImp, #LEqv, #BUnion, #BInter, #BComp, #FComp, #Ovr, #LAnd, #LOr, #Integer, #Natural, #Natural1, #Bool, #True, #False, #EmptySet, #KPrj1Gen, #KPrj2Gen, #KIdGen, #BTrue, #BFalse, #Finite, #Not, #Pow, #Pow1, #KUnion, #KInter, #KDom, #KRan, #Converse, #QUnion, #QInter, #CSet, #Forall, #Exists, #Partition}
 use Rattle.frame.specs.Places.{Ctx, push}
 use Rattle.typing.specs.Typing.{typeOf, element, relation}
@@ -229,10 +229,12 @@ pub data Equation (Γ : Ctx) : ℕ → Tree → Tree → Type 0 where
   -- simplify_assoc_pred; SIMP_SPECIAL_AND_BFALSE is P ∧ … ∧ ⊥ ∧ … ∧ Q == ⊥, and so on
   «SIMP_SPECIAL_AND_BFALSE/OR_BTRUE» : (g n d : ℕ) (ps : Forest) → Junction g n d → Among (leaf d) ps → Equation Γ 62 (many g ps) (leaf d)
   «SIMP_MULTI_AND_NOT/OR_NOT» : (g n d : ℕ) (ps : Forest) (q : Tree) → Junction g n d → Among q ps → Among (¬ᵖ q) ps → Equation Γ 62 (many g ps) (leaf d)
-  -- SIMP_SPECIAL_AND_BTRUE, SIMP_MULTI_AND, SIMP_SPECIAL_OR_BFALSE, SIMP_MULTI_OR: nothing is left, one, or more
+  -- SIMP_SPECIAL_AND_BTRUE, SIMP_MULTI_AND, SIMP_SPECIAL_OR_BFALSE, SIMP_MULTI_OR: nothing is left, one, or more; some
+  -- operand is dropped
   «SIMP_SPECIAL_AND_BTRUE/OR_BFALSE/none» : (g n d : ℕ) (ps : Forest) → Junction g n d → Dropped n ps nil → Equation Γ 63 (many g ps) (leaf n)
   «SIMP_SPECIAL_AND_BTRUE/MULTI_AND/one» : (g n d : ℕ) (ps : Forest) (p : Tree) → Junction g n d → Dropped n ps (sole p) → Equation Γ 64 (many g ps) p
   «SIMP_SPECIAL_AND_BTRUE/MULTI_AND» : (g n d : ℕ) (ps : Forest) (p q : Tree) (qs : Forest) → Junction g n d → Dropped n ps (cons p (cons q qs))
+      → (count (cons p (cons q qs)) ≡ count ps → ⊥)
       → Equation Γ 65 (many g ps) (many g (cons p (cons q qs)))
   -- simplify_predicate_node: ⇒
   «SIMP_SPECIAL_IMP_BTRUE_L» : (p : Tree) → Equation Γ 66 (⊤ ⇒ p) p

@@ -110,7 +110,7 @@ pub record Wrote (s : List ℕ) (k : ℕ) (xs : List ℕ) : Type 0 where
   pub stays : Accepted (signature old) new [] predicate
   pub checks : check xs ≡ accepted new
 
-fit-wrote : (c : ℕ) (ys xs : List ℕ) → fit c ys ≡ wrote xs → (ys ≡ xs) × (length ys ≤ frameLimit)
+pub fit-wrote : (c : ℕ) (ys xs : List ℕ) → fit c ys ≡ wrote xs → (ys ≡ xs) × (length ys ≤ frameLimit)
 unfolding fit
 fit-wrote c ys xs e = go (ltb frameLimit (length ys)) refl (ltb c (length ys)) e
   where

@@ -1,0 +1,1 @@
+// Demand 3 as one claim about a whole series of calls.

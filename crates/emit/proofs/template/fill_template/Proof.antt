@@ -1,0 +1,61 @@
+use Rattle.emit.specs.Programs.{template}
+use Rattle.emit.proofs.ProgramTable.{programs, highs, lows, place-program}
+use borrow.Author.Needs.{needs}
+use Rattle.emit.proofs.template.fill_template.Statement.{statement}
+use Rattle.emit.proofs.template.fill_template.Tie as tie
+use Rattle.emit.proofs.template.fill_template.Reads as reads
+use Rattle.emit.proofs.template.fill_template.Lts as lts
+use Rattle.emit.proofs.template.run.Reads as run-reads
+use Rattle.frame.proofs.tags.wide.Reads as wide-reads
+
+-- src/template.rt:181:22
+array-read-wide : tie.Need-array-read-wide
+array-read-wide c = search needs
+
+-- src/template.rt:181:17
+wide-requires : tie.Need-wide-requires
+wide-requires c κs = search needs
+
+-- src/template.rt:181:17
+mul-start : tie.Need-mul-start
+mul-start c = search needs
+
+-- src/template.rt:181:55
+array-read-wide-2 : tie.Need-array-read-wide-2
+array-read-wide-2 c = search needs
+
+-- src/template.rt:181:50
+wide-requires-2 : tie.Need-wide-requires-2
+wide-requires-2 c κs = search needs
+
+-- src/template.rt:181:17
+add-start : tie.Need-add-start
+add-start c = search needs
+
+-- src/template.rt:182:9
+slice-aggregate-run : tie.Need-slice-aggregate-run
+slice-aggregate-run c = search needs
+
+-- src/template.rt:182:5
+run-requires : tie.Need-run-requires
+unfolding programs highs lows
+run-requires c κs = (template (c .before .before .before .before .before .before .args .place), c .before .before .before .before .before .before .pre .1 .0, place-program (c .before .before .before .before .before .before .args .place) (c .before .before .before .before .before .before .pre .0) _ _ (c .before .before .before .wide .ensures .0) (c .before .before .wide2 .ensures .0), c .before .before .before .before .before .before .pre .1 .1)
+
+-- src/template.rt:169:1
+returns : tie.Need-returns
+unfolding programs highs lows
+returns c = record { puts = λ f h. c .run .ensures .puts (template (c .before .before .before .before .before .before .before .args .place)) f (place-program (c .before .before .before .before .before .before .before .args .place) (c .before .before .before .before .before .before .before .pre .0) _ _ (c .before .before .before .before .wide .ensures .0) (c .before .before .before .wide2 .ensures .0)) h }
+
+pub fill-template-spec : {M : Type 1} → statement M
+fill-template-spec =
+    tie.close
+    (tie.spec
+    array-read-wide
+    wide-requires
+    mul-start
+    array-read-wide-2
+    wide-requires-2
+    add-start
+    slice-aggregate-run
+    run-requires
+    returns)

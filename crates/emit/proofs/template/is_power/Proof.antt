@@ -1,0 +1,21 @@
+use Rattle.emit.proofs.MadeTypes.{power-rest}
+use borrow.Author.Needs.{needs}
+use Rattle.emit.proofs.template.is_power.Statement.{statement}
+use Rattle.emit.proofs.template.is_power.Tie as tie
+use Rattle.emit.proofs.template.is_power.Reads as reads
+use Rattle.emit.proofs.template.is_power.Lts as lts
+
+-- src/template.rt:25:1
+returns : tie.Need-returns
+returns c = search needs
+
+-- src/template.rt:25:1
+returns-2 : tie.Need-returns-2
+returns-2 c = search needs
+
+-- src/template.rt:25:1
+returns-3 : tie.Need-returns-3
+returns-3 c = power-rest _ (c .match .rest .0 .1) (c .match .rest .1)
+
+pub is-power-spec : {M : Type 1} → statement M
+is-power-spec = tie.close (tie.spec returns returns-2 returns-3)

@@ -1,0 +1,25 @@
+use Rattle.emit.proofs.Parts.{first-fits, second-fits, first-put, second-put}
+use Rattle.emit.proofs.template.put_operand.Statement.{statement}
+use Rattle.emit.proofs.template.put_operand.Tie as tie
+use Rattle.emit.proofs.template.put_operand.Reads as reads
+use Rattle.emit.proofs.template.put_operand.Lts as lts
+use Rattle.emit.proofs.put.put_copy.Reads as put-copy-reads
+
+-- src/template.rt:79:9
+put-copy-requires : tie.Need-put-copy-requires
+put-copy-requires c κs = first-fits _ _ _ (c .before .if1 .taken) (c .before .before .before .pre)
+
+-- src/template.rt:79:9
+returns : tie.Need-returns
+returns c = first-put _ _ _ _ _ _ _ (c .before .before .if1 .taken) (c .put-copy .ensures)
+
+-- src/template.rt:81:5
+put-copy-requires-2 : tie.Need-put-copy-requires-2
+put-copy-requires-2 c κs = second-fits _ _ _ (c .before .if1 .left) (c .before .before .before .pre)
+
+-- src/template.rt:74:1
+returns-2 : tie.Need-returns-2
+returns-2 c = second-put _ _ _ _ _ _ _ (c .before .before .if1 .left) (c .put-copy2 .ensures)
+
+pub put-operand-spec : {M : Type 1} → statement M
+put-operand-spec = tie.close (tie.spec put-copy-requires returns put-copy-requires-2 returns-2)

@@ -1,0 +1,58 @@
+use native.Mathlib.Omega.{arith}
+use Rattle.emit.proofs.TypeBytes.{type-past}
+use Rattle.emit.proofs.MadeTypes.{inner-has, type-power, type-plain}
+use borrow.Author.Needs.{needs}
+use Rattle.emit.proofs.template.put_type.Statement.{statement}
+use Rattle.emit.proofs.template.put_type.Tie as tie
+use Rattle.emit.proofs.template.put_type.Reads as reads
+use Rattle.emit.proofs.template.put_type.Lts as lts
+use Rattle.emit.proofs.put.put_byte.Reads as put-byte-reads
+use Rattle.emit.proofs.put.put_copy.Reads as put-copy-reads
+use Rattle.emit.proofs.template.inner_at.Reads as inner-at-reads
+use Rattle.emit.proofs.template.is_power.Reads as is-power-reads
+use Rattle.emit.proofs.type_expression.type_end.Reads as type-end-reads
+
+-- src/template.rt:51:9
+inner-at-requires : tie.Need-inner-at-requires
+inner-at-requires c κs = search needs
+
+-- src/template.rt:52:9
+type-end-requires : tie.Need-type-end-requires
+type-end-requires c κs = inner-has _ _ _ _ (c .before .before .pre) (c .inner-at .ensures)
+
+-- src/template.rt:53:8
+is-power-requires : tie.Need-is-power-requires
+is-power-requires c κs = search needs
+
+-- src/template.rt:54:13
+put-byte-requires : tie.Need-put-byte-requires
+put-byte-requires c κs = search needs
+
+-- src/template.rt:55:9
+put-copy-requires : tie.Need-put-copy-requires
+put-copy-requires c κs = let z = type-past _ _ _ (inner-has _ _ _ _ (c .before .before .before .before .before .before .before .before .pre) (c .before .before .before .before .before .before .inner-at .ensures)) (c .before .before .before .before .before .type-end .ensures) in (omega arith, z .1)
+
+-- src/template.rt:55:9
+returns : tie.Need-returns
+returns c = type-power _ _ _ _ _ (c .before .before .before .before .before .before .before .inner-at .ensures) (c .before .before .before .before .before .is-power .ensures) _ _ _ _ _ _ _ (c .before .before .before .before .before .before .type-end .ensures) (c .before .before .before .before .if1 .taken) (c .before .before .put-byte .ensures) (c .put-copy .ensures)
+
+-- src/template.rt:57:5
+put-copy-requires-2 : tie.Need-put-copy-requires-2
+put-copy-requires-2 c κs = let z = type-past _ _ _ (inner-has _ _ _ _ (c .before .before .before .before .before .before .pre) (c .before .before .before .before .inner-at .ensures)) (c .before .before .before .type-end .ensures) in (omega arith, z .1)
+
+-- src/template.rt:47:1
+returns-2 : tie.Need-returns-2
+returns-2 c = type-plain _ _ _ _ _ (c .before .before .before .before .before .inner-at .ensures) (c .before .before .before .is-power .ensures) _ _ _ _ _ (c .before .before .before .before .type-end .ensures) (c .before .before .if1 .left) (c .put-copy2 .ensures)
+
+pub put-type-spec : {M : Type 1} → statement M
+put-type-spec =
+    tie.close
+    (tie.spec
+    inner-at-requires
+    type-end-requires
+    is-power-requires
+    put-byte-requires
+    put-copy-requires
+    returns
+    put-copy-requires-2
+    returns-2)

@@ -1,0 +1,172 @@
+-- The equations of finite and partition keep what a predicate means. Every set is finite here; ℕ, ℕ1, ℤ and a‥b are of
+-- type ℙ(ℤ), which the integers premise rules out.
+-- Main results: finite-keeps (finite(S) and any true predicate), and one NAME-keeps for each equation of places 1 to 15.
+use mathlib.Core.Path.{_≡_, refl, sym, ap, _∙_, fun-ext}
+use mathlib.Core.Bool.{Bool, true, false, _||_}
+use mathlib.Core.List.{List, _∷_}
+use Prim.Native.Nat.{ℕ}
+use Rattle.frame.specs.Types.{Ty, int, pow}
+use Rattle.frame.specs.Trees.{Tree, Forest, nil, cons, leaf, one, two, many, typed, sole, pair, bodied, mapF}
+use Rattle.frame.specs.Tags.{predicate, classOf, lookup, formAt}
+use Rattle.frame.specs.Operators.{#Natural, #Natural1, #Integer, #BUnion, #Pow, #CProd, #Converse, #CSet, #Mapsto, #DomRes, #Partition}
+use Rattle.frame.specs.Places.{Ctx}
+use Rattle.typing.specs.Typing.{element, relation, typeOf, typesIn}
+use Rattle.typing.specs.TypeExpression.{toExpression}
+use Rattle.typing.specs.Accepted.{Accepted}
+use Rattle.rules.specs.Equations.{⊤, ⊥ᵖ, ⋀, ⋁, _≐_, fin, _≐∅}
+use Rattle.meaning.specs.Lists.{any, all}
+use Rattle.meaning.specs.Operations.{partition, opAt, opOf}
+use Rattle.meaning.specs.Meaning.{Interpretation, Vals, truth, setOf, equals, holds, disjointFrom, disjoint, partitions, means, meansAll}
+use Rattle.meaning.specs.Premises.{NoInt, SingleIntegers, Alive}
+use Rattle.meaning.proofs.Lists.{or-false, and-true}
+use Rattle.meaning.proofs.Sets.{is-empty}
+use Rattle.meaning.proofs.Sound.{Formula, Keeps, keeps-truth}
+use Rattle.meaning.proofs.Kit as kit
+use Rattle.meaning.proofs.Many as many
+use Rattle.meaning.proofs.Connectives.{top-single, top-alive}
+
+or-last : (a b : Bool) → (a || (b || (true || false))) ≡ true
+or-last true b = refl
+or-last false true = refl
+or-last false false = refl
+
+module _ (I : Interpretation) (σ : ℕ → Ty) (Γ : Ctx) where
+  -- ---- finite
+  pub fin-truth : (s : Tree) (ρ : Vals I Γ) → truth I (means I (fin s) Γ) ρ ≡ true
+  unfolding means holds opOf opAt classOf lookup
+  fin-truth s ρ = refl
+
+  pub fin-single : (s : Tree) → SingleIntegers s Γ → SingleIntegers (fin s) Γ
+  unfolding SingleIntegers typeOf classOf lookup formAt
+  fin-single s h = (tt, tt, tt, (h, tt))
+
+  pub fin-alive : (s : Tree) → Alive I s Γ → Alive I (fin s) Γ
+  unfolding Alive opOf opAt classOf lookup
+  fin-alive s h = (tt, tt, (h, tt))
+
+  -- finite(S) and a predicate that is true
+  pub finite-keeps : (s r : Tree) → Formula r → SingleIntegers r Γ → (Alive I s Γ → Alive I r Γ) → ((ρ : Vals I Γ) → truth I (means I r Γ) ρ ≡ true) → Keeps I Γ (fin s) r
+  unfolding Alive opOf opAt classOf lookup formAt
+  finite-keeps s r f h l t = keeps-truth I (fin s) r Γ (refl, refl) f h (λ a. l (a .2 .0)) (λ a ρ. fin-truth s ρ ∙ sym (t ρ))
+
+  -- ∅, BOOL, {a, …, b}
+  pub finite-top-keeps : (s : Tree) → Keeps I Γ (fin s) ⊤
+  unfolding means holds opOf opAt classOf lookup formAt
+  finite-top-keeps s = finite-keeps s ⊤ (refl, refl) (top-single I σ Γ) (λ a. top-alive I σ Γ) (λ ρ. refl)
+
+  finite-finite : (s r : Tree) → SingleIntegers r Γ → (Alive I s Γ → Alive I r Γ) → Keeps I Γ (fin s) (fin r)
+  unfolding classOf lookup formAt
+  finite-finite s r h l = finite-keeps s (fin r) (refl, refl) (fin-single r h) (λ a. fin-alive r (l a)) (fin-truth r)
+
+  -- no set of integers passes the premise
+  no-integers : (e : Tree) → typeOf e Γ ≡ pow int → SingleIntegers (fin e) Γ → ⊥
+  unfolding SingleIntegers classOf lookup formAt
+  no-integers e h s = kit.no-int e Γ int (s .3 .0) h
+
+  pub finite-naturals-keeps : SingleIntegers (fin (leaf #Natural)) Γ → Keeps I Γ (fin (leaf #Natural)) ⊥ᵖ
+  unfolding typeOf classOf lookup
+  finite-naturals-keeps s = absurd (no-integers (leaf #Natural) refl s)
+
+  pub finite-positives-keeps : SingleIntegers (fin (leaf #Natural1)) Γ → Keeps I Γ (fin (leaf #Natural1)) ⊥ᵖ
+  unfolding typeOf classOf lookup
+  finite-positives-keeps s = absurd (no-integers (leaf #Natural1) refl s)
+
+  pub finite-integers-keeps : SingleIntegers (fin (leaf #Integer)) Γ → Keeps I Γ (fin (leaf #Integer)) ⊥ᵖ
+  unfolding typeOf classOf lookup
+  finite-integers-keeps s = absurd (no-integers (leaf #Integer) refl s)
+
+  -- id, prj1, prj2: s and t are the types of the elements on either side
+  module _ (g : ℕ) (s t : Ty) where
+    carried-source : SingleIntegers (fin (typed g (relation s t))) Γ → NoInt s
+    unfolding SingleIntegers classOf lookup formAt
+    carried-source h = h .3 .0 .0 .0 .0
+
+    pub finite-carried-keeps : SingleIntegers (fin (typed g (relation s t))) Γ → Keeps I Γ (fin (typed g (relation s t))) (fin (toExpression s))
+    finite-carried-keeps h =
+        finite-finite (typed g (relation s t)) (toExpression s) (kit.type-single s Γ (carried-source h)) (λ a. kit.type-alive I s Γ)
+
+  -- S ∪ … ∪ T
+  fins-truth : (ρ : Vals I Γ) (ks : Forest) → all (λ d. truth I d ρ) (meansAll I (mapF fin ks) Γ) ≡ true
+  unfolding means holds all opOf opAt classOf lookup
+  fins-truth ρ nil = refl
+  fins-truth ρ (cons k ks) = fins-truth ρ ks
+
+  pub finite-union-keeps : (ks : Forest) → SingleIntegers (fin (many #BUnion ks)) Γ → Keeps I Γ (fin (many #BUnion ks)) (⋀ (mapF fin ks))
+  unfolding SingleIntegers Alive opOf opAt classOf lookup formAt
+  finite-union-keeps ks s =
+      finite-keeps (many #BUnion ks) (⋀ (mapF fin ks)) (refl, refl) (kit.and-single I Γ (mapF fin ks) (many.map-single fin Γ Γ fin-single ks (s .3 .0 .3)))
+      (λ a. kit.and-alive I Γ (mapF fin ks) (many.map-alive I fin Γ Γ fin-alive ks (a .2))) (λ ρ. kit.and-truth I Γ (mapF fin ks) ρ ∙ fins-truth ρ ks)
+
+  pub finite-power-keeps : (s : Tree) → SingleIntegers (fin (one #Pow s)) Γ → Keeps I Γ (fin (one #Pow s)) (fin s)
+  unfolding SingleIntegers Alive opOf opAt classOf lookup formAt
+  finite-power-keeps s h = finite-finite (one #Pow s) s (h .3 .0 .3 .0) (λ a. a .2 .0)
+
+  pub finite-converse-keeps : (s : Tree) → SingleIntegers (fin (one #Converse s)) Γ → Keeps I Γ (fin (one #Converse s)) (fin s)
+  unfolding SingleIntegers Alive opOf opAt classOf lookup formAt
+  finite-converse-keeps s h = finite-finite (one #Converse s) s (h .3 .0 .3 .0) (λ a. a .2 .0)
+
+  pub finite-restriction-keeps : (e r : Tree) → SingleIntegers (fin (two #DomRes e r)) Γ → Keeps I Γ (fin (two #DomRes e r)) (fin e)
+  unfolding SingleIntegers Alive opOf opAt classOf lookup formAt
+  finite-restriction-keeps e r h = finite-finite (two #DomRes e r) e (h .3 .0 .3 .0) (λ a. a .2 .0)
+
+  -- S × T: S = ∅, or T = ∅, or both are finite
+  module _ (s t : Tree) where
+    abbrev pub product-new : Tree
+    product-new = ⋁ (cons (_≐∅ Γ s) (pair (_≐∅ Γ t) (⋀ (pair (fin s) (fin t)))))
+
+    product-truth : (ρ : Vals I Γ) → truth I (means I product-new Γ) ρ ≡ true
+    unfolding means holds any all opOf opAt classOf lookup
+    product-truth ρ = or-last (truth I (means I (_≐∅ Γ s) Γ) ρ) (truth I (means I (_≐∅ Γ t) Γ) ρ)
+
+    pub finite-product-keeps : SingleIntegers (fin (two #CProd s t)) Γ → Keeps I Γ (fin (two #CProd s t)) product-new
+    unfolding SingleIntegers Alive opOf opAt classOf lookup formAt
+    finite-product-keeps h =
+        let hs = h .3 .0 .3 .0 in
+        let ht = h .3 .0 .3 .1 .0 in
+        let ds = cons (_≐∅ Γ s) (pair (_≐∅ Γ t) (⋀ (pair (fin s) (fin t)))) in
+        finite-keeps (two #CProd s t) product-new (refl, refl)
+        (kit.or-single I Γ ds (kit.empty-single I Γ s hs, (kit.empty-single I Γ t ht, (kit.and-single I Γ (pair (fin s) (fin t)) (fin-single s hs, (fin-single t ht, tt)), tt))))
+        (λ a. kit.or-alive I Γ ds (kit.empty-alive I Γ s (a .2 .0), (kit.empty-alive I Γ t (a .2 .1 .0), (kit.and-alive I Γ (pair (fin s) (fin t)) (fin-alive s (a .2 .0), (fin-alive t (a .2 .1 .0), tt)), tt))))
+        product-truth
+
+  -- λx·P∣F, a set of maplets E ↦ F
+  pub finite-lambda-keeps : (xs : List Ty) (p e f : Tree) → SingleIntegers (fin (bodied #CSet xs p (two #Mapsto e f))) Γ
+      → Keeps I Γ (fin (bodied #CSet xs p (two #Mapsto e f))) (fin (bodied #CSet xs p e))
+  unfolding SingleIntegers Alive typeOf opOf opAt classOf lookup formAt
+  finite-lambda-keeps xs p e f h =
+      let s = h .3 .0 in
+      finite-finite (bodied #CSet xs p (two #Mapsto e f)) (bodied #CSet xs p e) (s .0, s .1 .0, s .2, (s .3 .0, (s .3 .1 .0 .3 .0, tt)))
+      (λ a. (tt, tt, (a .2 .0, (a .2 .1 .0 .2 .0, tt))))
+
+  -- ---- partition
+  module _ (s : Tree) (u : Ty) (h : typeOf s Γ ≡ pow u) (ρ : Vals I Γ) where
+    partition-at : (ks : Forest)
+        → truth I (means I (many #Partition (cons s ks)) Γ) ρ ≡ holds I partition 901 (pow u ∷ typesIn ks Γ) (means I s Γ ∷ meansAll I ks Γ) ρ
+    unfolding means typeOf opOf opAt classOf lookup
+    partition-at ks = rw h
+
+    partition-none : truth I (means I (many #Partition (sole s)) Γ) ρ ≡ truth I (means I (_≐∅ Γ s) Γ) ρ
+    unfolding means holds partitions disjoint any
+    partition-none =
+        partition-at nil ∙ and-true (equals I (pow u) (setOf I (means I s Γ) ρ u) (λ x. false)) ∙ is-empty (I .size) u (setOf I (means I s Γ) ρ u) ∙ sym (kit.empty-truth I Γ s u h ρ)
+
+    partition-one : (t : Tree) → truth I (means I (many #Partition (pair s t)) Γ) ρ ≡ truth I (means I (s ≐ t) Γ) ρ
+    unfolding means typeOf holds partitions disjoint disjointFrom any
+    partition-one t =
+        partition-at (sole t) ∙ and-true (equals I (pow u) (setOf I (means I s Γ) ρ u) (λ x. setOf I (means I t Γ) ρ u x || false))
+        ∙ ap (λ f. equals I (pow u) (setOf I (means I s Γ) ρ u) f) (fun-ext (λ x. or-false (setOf I (means I t Γ) ρ u x))) ∙ sym (kit.equal-truth I Γ s t (pow u) h ρ)
+
+  pub partition-none-keeps : (s : Tree) → Accepted σ (many #Partition (sole s)) Γ predicate → SingleIntegers (many #Partition (sole s)) Γ → Keeps I Γ (many #Partition (sole s)) (_≐∅ Γ s)
+  unfolding Accepted SingleIntegers Alive typeOf opOf opAt classOf lookup formAt
+  partition-none-keeps s a h =
+      let e = a .fits in
+      keeps-truth I (many #Partition (sole s)) (_≐∅ Γ s) Γ (refl, refl) (refl, refl) (kit.empty-single I Γ s (h .3 .0)) (λ l. kit.empty-alive I Γ s (l .2 .0))
+      (λ l ρ. partition-none s (element (typeOf s Γ)) (cc) ρ)
+
+  pub partition-one-keeps : (s t : Tree) → Accepted σ (many #Partition (pair s t)) Γ predicate → SingleIntegers (many #Partition (pair s t)) Γ
+      → Keeps I Γ (many #Partition (pair s t)) (s ≐ t)
+  unfolding Accepted SingleIntegers Alive typeOf opOf opAt classOf lookup formAt
+  partition-one-keeps s t a h =
+      let e = a .fits in
+      keeps-truth I (many #Partition (pair s t)) (s ≐ t) Γ (refl, refl) (refl, refl) (kit.equal-single I Γ s t (h .3 .0) (h .3 .1 .0)) (λ l. kit.equal-alive I Γ s t (l .2 .0) (l .2 .1 .0))
+      (λ l ρ. partition-one s (element (typeOf s Γ)) (cc) ρ t)

@@ -1,0 +1,253 @@
+-- What the trees that the equations build mean: truth, single integers, no intersection over nothing.
+-- Main results: NAME-truth, NAME-single, NAME-alive for NAME one of not, and, or, implies, equiv, forall, exists, equal,
+-- member, subset, empty (E = ∅), full (E = Ty); type-full (a type's expression is everything), type-type, type-single,
+-- type-alive; single-type, no-int (the integers premise at a tree's type).
+use mathlib.Core.Path.{_≡_, refl, ap, ap₂, _∙_, fun-ext}
+use mathlib.Core.Bool.{Bool, true, false, not, _&&_, _||_, Bool·beq}
+use mathlib.Core.List.{List, [], _∷_}
+use lib.Dec.{eqb, eqb-refl, T}
+use Rattle.frame.specs.Types.{Ty, bool, int, given, pow, prod}
+use Rattle.frame.specs.Trees.{head, Tree, node, Forest}
+use Rattle.frame.specs.Tags.{classOf, lookup, formAt}
+use Rattle.frame.specs.Places.{Ctx, push}
+use Rattle.typing.specs.Typing.{element, typeOf}
+use Rattle.typing.specs.TypeExpression.{toExpression}
+use Rattle.rules.specs.Equations.{¬ᵖ, _⇒_, _⇔_, ⋀, ⋁, ∀ᵖ, ∃ᵖ, _≐_, _∈ᵖ_, _⊆_, ∅, _≐∅, Ty-of, _≐Ty}
+use Rattle.meaning.specs.Lists.{any, all}
+use Rattle.meaning.specs.Operations.{equal, subset, member, opAt, opOf}
+use Rattle.meaning.specs.Meaning.{Interpretation, Vals, truth, val, setOf, some, every, equals, choices, identifierValue, holds, valueOf, quantified, means, meansAll}
+use Rattle.meaning.specs.Premises.{NoInt, Single, AllNoInt, AllSingle, SingleIntegers, SingleIntegersIn, Alive, AliveAll}
+use Rattle.meaning.proofs.Lists.{or-true}
+use Rattle.meaning.proofs.Sets.{is-empty, is-full, every-true}
+
+-- ---- the integers premise at types
+pub single-type : (t : Tree) (Γ : Ctx) → SingleIntegers t Γ → Single (typeOf t Γ)
+unfolding SingleIntegers
+single-type (node (head g n us) ks) Γ s = s .1
+
+pub single-element : (t : Ty) → Single t → NoInt (element t)
+single-element bool s = tt
+single-element int s = tt
+single-element (given n) s = tt
+single-element (pow t) s = s
+single-element (prod t u) s = tt
+
+pub no-int : (t : Tree) (Γ : Ctx) (u : Ty) → SingleIntegers t Γ → typeOf t Γ ≡ pow u → NoInt u
+no-int t Γ u s e = rw e at (single-type t Γ s)
+
+-- ---- a type's expression
+pub type-type : (t : Ty) (Γ : Ctx) → typeOf (toExpression t) Γ ≡ pow t
+unfolding typeOf toExpression classOf lookup formAt
+type-type bool Γ = refl
+type-type int Γ = refl
+type-type (given n) Γ = refl
+type-type (pow t) Γ = rw (type-type t Γ)
+type-type (prod t u) Γ = rw (type-type t Γ, type-type u Γ)
+
+pub type-single : (t : Ty) (Γ : Ctx) → NoInt t → SingleIntegers (toExpression t) Γ
+unfolding SingleIntegers typeOf toExpression classOf lookup formAt
+type-single bool Γ n = (tt, tt, tt, tt)
+type-single int Γ n = absurd n
+type-single (given k) Γ n = ((tt, tt), tt, tt, tt)
+type-single (pow t) Γ n = (tt, rw (type-type t Γ) n, tt, (type-single t Γ n, tt))
+type-single (prod t u) Γ n = (tt, rw (type-type t Γ, type-type u Γ) n, tt, (type-single t Γ (n .0), (type-single u Γ (n .1), tt)))
+
+so : (b : Bool) → T b → b ≡ true
+so true h = refl
+so false h = absurd h
+
+module _ (I : Interpretation) where
+  pub type-alive : (t : Ty) (Γ : Ctx) → Alive I (toExpression t) Γ
+  unfolding Alive toExpression opOf opAt classOf lookup
+  type-alive bool Γ = (tt, tt, tt)
+  type-alive int Γ = (tt, tt, tt)
+  type-alive (given n) Γ = (tt, tt, tt)
+  type-alive (pow t) Γ = (tt, tt, (type-alive t Γ, tt))
+  type-alive (prod t u) Γ = (tt, tt, (type-alive t Γ, (type-alive u Γ, tt)))
+
+  -- a type's expression is everything
+  pub type-full : (t : Ty) (Γ : Ctx) (ρ : Vals I Γ) → setOf I (means I (toExpression t) Γ) ρ t ≡ (λ x. true)
+  unfolding means toExpression opOf opAt classOf lookup valueOf identifierValue
+  type-full bool Γ ρ = refl
+  type-full int Γ ρ = refl
+  type-full (given n) Γ ρ = rw (so (eqb n n) (eqb-refl n))
+  type-full (pow t) Γ ρ = fun-ext (λ s. ap (λ f. every I t (λ x. not (s x) || f x)) (type-full t Γ ρ) ∙ simp (or-true, every-true))
+  type-full (prod t u) Γ ρ = fun-ext (λ p. ap₂ (λ f g. f (p .0) && g (p .1)) (type-full t Γ ρ) (type-full u Γ ρ))
+
+module _ (I : Interpretation) (Γ : Ctx) where
+  -- ---- connectives
+  module _ (p : Tree) where
+    pub not-truth : (ρ : Vals I Γ) → truth I (means I (¬ᵖ p) Γ) ρ ≡ not (truth I (means I p Γ) ρ)
+    unfolding means holds opOf opAt classOf lookup
+    not-truth ρ = refl
+
+    pub not-single : SingleIntegers p Γ → SingleIntegers (¬ᵖ p) Γ
+    unfolding SingleIntegers typeOf classOf lookup formAt
+    not-single s = (tt, tt, tt, (s, tt))
+
+    pub not-alive : Alive I p Γ → Alive I (¬ᵖ p) Γ
+    unfolding Alive opOf opAt classOf lookup
+    not-alive a = (tt, tt, (a, tt))
+
+  module _ (ks : Forest) where
+    pub and-truth : (ρ : Vals I Γ) → truth I (means I (⋀ ks) Γ) ρ ≡ all (λ k. truth I k ρ) (meansAll I ks Γ)
+    unfolding means holds opOf opAt classOf lookup
+    and-truth ρ = refl
+
+    pub and-single : SingleIntegersIn ks Γ → SingleIntegers (⋀ ks) Γ
+    unfolding SingleIntegers typeOf classOf lookup formAt
+    and-single s = (tt, tt, tt, s)
+
+    pub and-alive : AliveAll I ks Γ → Alive I (⋀ ks) Γ
+    unfolding Alive opOf opAt classOf lookup
+    and-alive a = (tt, tt, a)
+
+    pub or-truth : (ρ : Vals I Γ) → truth I (means I (⋁ ks) Γ) ρ ≡ any (λ k. truth I k ρ) (meansAll I ks Γ)
+    unfolding means holds opOf opAt classOf lookup
+    or-truth ρ = refl
+
+    pub or-single : SingleIntegersIn ks Γ → SingleIntegers (⋁ ks) Γ
+    unfolding SingleIntegers typeOf classOf lookup formAt
+    or-single s = (tt, tt, tt, s)
+
+    pub or-alive : AliveAll I ks Γ → Alive I (⋁ ks) Γ
+    unfolding Alive opOf opAt classOf lookup
+    or-alive a = (tt, tt, a)
+
+  module _ (p q : Tree) where
+    pub implies-truth : (ρ : Vals I Γ) → truth I (means I (p ⇒ q) Γ) ρ ≡ (not (truth I (means I p Γ) ρ) || truth I (means I q Γ) ρ)
+    unfolding means holds opOf opAt classOf lookup
+    implies-truth ρ = refl
+
+    pub implies-single : SingleIntegers p Γ → SingleIntegers q Γ → SingleIntegers (p ⇒ q) Γ
+    unfolding SingleIntegers typeOf classOf lookup formAt
+    implies-single s r = (tt, tt, tt, (s, (r, tt)))
+
+    pub implies-alive : Alive I p Γ → Alive I q Γ → Alive I (p ⇒ q) Γ
+    unfolding Alive opOf opAt classOf lookup
+    implies-alive a b = (tt, tt, (a, (b, tt)))
+
+    pub equiv-truth : (ρ : Vals I Γ) → truth I (means I (p ⇔ q) Γ) ρ ≡ Bool·beq (truth I (means I p Γ) ρ) (truth I (means I q Γ) ρ)
+    unfolding means holds opOf opAt classOf lookup
+    equiv-truth ρ = refl
+
+    pub equiv-single : SingleIntegers p Γ → SingleIntegers q Γ → SingleIntegers (p ⇔ q) Γ
+    unfolding SingleIntegers typeOf classOf lookup formAt
+    equiv-single s r = (tt, tt, tt, (s, (r, tt)))
+
+    pub equiv-alive : Alive I p Γ → Alive I q Γ → Alive I (p ⇔ q) Γ
+    unfolding Alive opOf opAt classOf lookup
+    equiv-alive a b = (tt, tt, (a, (b, tt)))
+
+  -- ---- quantifiers
+  module _ (xs : List Ty) (p : Tree) where
+    pub forall-truth : (ρ : Vals I Γ) → truth I (means I (∀ᵖ xs p) Γ) ρ ≡ all (truth I (means I p (push xs Γ))) (choices I xs Γ ρ)
+    unfolding means quantified opOf opAt classOf lookup
+    forall-truth ρ = refl
+
+    pub forall-single : AllSingle xs → AllNoInt xs → SingleIntegers p (push xs Γ) → SingleIntegers (∀ᵖ xs p) Γ
+    unfolding SingleIntegers typeOf classOf lookup formAt
+    forall-single s n r = (s, tt, n, (r, tt))
+
+    pub forall-alive : Alive I p (push xs Γ) → Alive I (∀ᵖ xs p) Γ
+    unfolding Alive opOf opAt classOf lookup
+    forall-alive a = (tt, tt, (a, tt))
+
+    pub exists-truth : (ρ : Vals I Γ) → truth I (means I (∃ᵖ xs p) Γ) ρ ≡ any (truth I (means I p (push xs Γ))) (choices I xs Γ ρ)
+    unfolding means quantified opOf opAt classOf lookup
+    exists-truth ρ = refl
+
+    pub exists-single : AllSingle xs → AllNoInt xs → SingleIntegers p (push xs Γ) → SingleIntegers (∃ᵖ xs p) Γ
+    unfolding SingleIntegers typeOf classOf lookup formAt
+    exists-single s n r = (s, tt, n, (r, tt))
+
+    pub exists-alive : Alive I p (push xs Γ) → Alive I (∃ᵖ xs p) Γ
+    unfolding Alive opOf opAt classOf lookup
+    exists-alive a = (tt, tt, (a, tt))
+
+  -- ---- = ∈ ⊆. The operands' types show in what these mean: first the operator shut, then opened.
+  module _ (a b : Tree) where
+    pub equal-single : SingleIntegers a Γ → SingleIntegers b Γ → SingleIntegers (a ≐ b) Γ
+    unfolding SingleIntegers typeOf classOf lookup formAt
+    equal-single s r = (tt, tt, tt, (s, (r, tt)))
+
+    pub equal-alive : Alive I a Γ → Alive I b Γ → Alive I (a ≐ b) Γ
+    unfolding Alive opOf opAt classOf lookup
+    equal-alive h k = (tt, tt, (h, (k, tt)))
+
+    pub member-single : SingleIntegers a Γ → SingleIntegers b Γ → SingleIntegers (a ∈ᵖ b) Γ
+    unfolding SingleIntegers typeOf classOf lookup formAt
+    member-single s r = (tt, tt, tt, (s, (r, tt)))
+
+    pub member-alive : Alive I a Γ → Alive I b Γ → Alive I (a ∈ᵖ b) Γ
+    unfolding Alive opOf opAt classOf lookup
+    member-alive h k = (tt, tt, (h, (k, tt)))
+
+    pub subset-single : SingleIntegers a Γ → SingleIntegers b Γ → SingleIntegers (a ⊆ b) Γ
+    unfolding SingleIntegers typeOf classOf lookup formAt
+    subset-single s r = (tt, tt, tt, (s, (r, tt)))
+
+    pub subset-alive : Alive I a Γ → Alive I b Γ → Alive I (a ⊆ b) Γ
+    unfolding Alive opOf opAt classOf lookup
+    subset-alive h k = (tt, tt, (h, (k, tt)))
+
+    equal-at : (t : Ty) → typeOf a Γ ≡ t → (ρ : Vals I Γ)
+        → truth I (means I (a ≐ b) Γ) ρ ≡ holds I equal 101 (t ∷ typeOf b Γ ∷ []) (means I a Γ ∷ means I b Γ ∷ []) ρ
+    unfolding means typeOf opOf opAt classOf lookup
+    equal-at t h ρ = rw h
+
+    pub equal-truth : (t : Ty) → typeOf a Γ ≡ t → (ρ : Vals I Γ) → truth I (means I (a ≐ b) Γ) ρ ≡ equals I t (val I (means I a Γ) ρ t) (val I (means I b Γ) ρ t)
+    unfolding holds
+    equal-truth t h ρ = equal-at t h ρ
+
+    member-at : (t : Ty) → typeOf a Γ ≡ t → (ρ : Vals I Γ)
+        → truth I (means I (a ∈ᵖ b) Γ) ρ ≡ holds I member 107 (t ∷ typeOf b Γ ∷ []) (means I a Γ ∷ means I b Γ ∷ []) ρ
+    unfolding means typeOf opOf opAt classOf lookup
+    member-at t h ρ = rw h
+
+    pub member-truth : (t : Ty) → typeOf a Γ ≡ t → (ρ : Vals I Γ) → truth I (means I (a ∈ᵖ b) Γ) ρ ≡ setOf I (means I b Γ) ρ t (val I (means I a Γ) ρ t)
+    unfolding holds
+    member-truth t h ρ = member-at t h ρ
+
+    subset-at : (u : Ty) → typeOf a Γ ≡ pow u → (ρ : Vals I Γ)
+        → truth I (means I (a ⊆ b) Γ) ρ ≡ holds I subset 111 (pow u ∷ typeOf b Γ ∷ []) (means I a Γ ∷ means I b Γ ∷ []) ρ
+    unfolding means typeOf opOf opAt classOf lookup
+    subset-at u h ρ = rw h
+
+    pub subset-truth : (u : Ty) → typeOf a Γ ≡ pow u → (ρ : Vals I Γ)
+        → truth I (means I (a ⊆ b) Γ) ρ ≡ every I u (λ x. not (setOf I (means I a Γ) ρ u x) || setOf I (means I b Γ) ρ u x)
+    unfolding holds
+    subset-truth u h ρ = subset-at u h ρ
+
+  -- ---- E = ∅, E = Ty
+  pub none-of : (t : Ty) (ρ : Vals I Γ) (u : Ty) → setOf I (means I (∅ t) Γ) ρ u ≡ (λ x. false)
+  unfolding means valueOf opOf opAt classOf lookup
+  none-of t ρ u = refl
+
+  module _ (e : Tree) where
+    pub empty-single : SingleIntegers e Γ → SingleIntegers (_≐∅ Γ e) Γ
+    unfolding SingleIntegers typeOf classOf lookup formAt
+    empty-single s = (tt, tt, tt, (s, (((single-type e Γ s, tt), single-type e Γ s, tt, tt), tt)))
+
+    pub empty-alive : Alive I e Γ → Alive I (_≐∅ Γ e) Γ
+    unfolding Alive opOf opAt classOf lookup
+    empty-alive a = (tt, tt, (a, ((tt, tt, tt), tt)))
+
+    pub empty-truth : (u : Ty) → typeOf e Γ ≡ pow u → (ρ : Vals I Γ) → truth I (means I (_≐∅ Γ e) Γ) ρ ≡ not (some I u (setOf I (means I e Γ) ρ u))
+    empty-truth u h ρ =
+        equal-truth e (∅ (typeOf e Γ)) (pow u) h ρ ∙ ap (λ s. equals I (pow u) (setOf I (means I e Γ) ρ u) s) (none-of (typeOf e Γ) ρ u)
+        ∙ is-empty (I .size) u (setOf I (means I e Γ) ρ u)
+
+    pub full-single : SingleIntegers e Γ → SingleIntegers (_≐Ty Γ e) Γ
+    full-single s = equal-single e (Ty-of Γ e) s (type-single (element (typeOf e Γ)) Γ (single-element (typeOf e Γ) (single-type e Γ s)))
+
+    pub full-alive : Alive I e Γ → Alive I (_≐Ty Γ e) Γ
+    full-alive a = equal-alive e (Ty-of Γ e) a (type-alive I (element (typeOf e Γ)) Γ)
+
+    full-at : (u : Ty) → typeOf e Γ ≡ pow u → (ρ : Vals I Γ) → setOf I (means I (Ty-of Γ e) Γ) ρ u ≡ (λ x. true)
+    full-at u h ρ = rw h (type-full I u Γ ρ)
+
+    pub full-truth : (u : Ty) → typeOf e Γ ≡ pow u → (ρ : Vals I Γ) → truth I (means I (_≐Ty Γ e) Γ) ρ ≡ every I u (setOf I (means I e Γ) ρ u)
+    full-truth u h ρ =
+        equal-truth e (Ty-of Γ e) (pow u) h ρ ∙ ap (λ s. equals I (pow u) (setOf I (means I e Γ) ρ u) s) (full-at u h ρ)
+        ∙ is-full (I .size) u (setOf I (means I e Γ) ρ u)

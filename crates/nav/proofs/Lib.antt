@@ -1,0 +1,5 @@
+pub mod View
+pub mod SameTurns
+pub mod Hops
+pub mod PlaceTurns
+pub mod SamePlaces

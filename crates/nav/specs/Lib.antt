@@ -1,0 +1,3 @@
+pub mod Stands
+pub mod Compared
+pub mod PlaceTables

@@ -1,0 +1,154 @@
+// Sameness of two trees of one frame (document 01: "the same tag, payload and types"; "comparing them is two functions that
+// call each other over a falling byte count"). Equal trees have equal bytes, so heads are compared as bytes.
+use frame::reading::HeadAnswer;
+ghost use Prim.Native.Nat.{_+_, _≤_};
+ghost use lib.ListN.{length};
+ghost use Rattle.frame.specs.Tags.{predicate, expression};
+ghost use Rattle.frame.specs.TagCodes.{sortFor, kindsFor};
+ghost use Rattle.nav.specs.Compared.{BothStand, BothStandAll, SamePost, SameAllPost, HeadsPost, BytesPost, Standing, StandingAll, EndPost, EndAllPost};
+
+// Whether two trees are the same; if so, where each ends.
+pub enum Same {
+    Yes(usize, usize),
+    No,
+}
+
+// Whether two heads are the same; if so, where the children of each start, how many they are, and whether the first and the
+// later ones are expressions.
+enum Heads {
+    Agree(usize, usize, usize, bool, bool),
+    Differ,
+}
+
+// Whether the n bytes at a are those at b.
+fn same_bytes(s: &[u8], a: usize, b: usize, n: usize) -> bool
+    requires { ⌜ (a + n ≤ length (now s)) × (b + n ≤ length (now s)) ⌝ }
+    ensures { λ r. ⌜ BytesPost (now (s .entry)) a b n r ⌝ }
+{
+    let mut i = 0;
+    while i < n {
+        if s[a + i] != s[b + i] {
+            return false;
+        }
+        i += 1;
+    }
+    true
+}
+
+// The heads at a and b. Most trees that differ differ in their tags, so these are looked at before a head is read. The head at
+// b needs no reading: with the bytes of the one at a it is the same head.
+fn same_heads(s: &[u8], a: usize, b: usize, e: bool) -> Heads
+    requires { ⌜ BothStand (now s) (sortFor e) a b ⌝ }
+    ensures { λ r. ⌜ HeadsPost (now (s .entry)) (sortFor e) a b r ⌝ }
+{
+    if s[a] != s[b] {
+        return Heads::Differ;
+    }
+    if s[a + 1] != s[b + 1] {
+        return Heads::Differ;
+    }
+    let h = frame::reading::read_head(s, a, e);
+    match h {
+        HeadAnswer::Refused(_c) => Heads::Differ,
+        HeadAnswer::Is {
+            tag: _,
+            payload: _,
+            types: _types,
+            children,
+            count,
+            first,
+            later,
+        } => {
+            let n = children - a;
+            if s.len() - b < n {
+                return Heads::Differ;
+            }
+            let ok = same_bytes(s, a, b, n);
+            if ok {
+                let q = b + n;
+                Heads::Agree(children, q, count, first, later)
+            } else {
+                Heads::Differ
+            }
+        }
+    }
+}
+
+// The predicates at a and b.
+pub fn same_pred(s: &[u8], a: usize, b: usize) -> Same
+    requires { ⌜ BothStand (now s) predicate a b ⌝ }
+    ensures { λ r. ⌜ SamePost (now (s .entry)) predicate a b r ⌝ }
+{
+    let h = same_heads(s, a, b, false);
+    match h {
+        Heads::Differ => Same::No,
+        Heads::Agree(p, q, n, first, later) => same_kids(s, p, q, n, first, later),
+    }
+}
+
+// The expressions at a and b.
+pub fn same_expr(s: &[u8], a: usize, b: usize) -> Same
+    requires { ⌜ BothStand (now s) expression a b ⌝ }
+    ensures { λ r. ⌜ SamePost (now (s .entry)) expression a b r ⌝ }
+{
+    let h = same_heads(s, a, b, true);
+    match h {
+        Heads::Differ => Same::No,
+        Heads::Agree(p, q, n, first, later) => same_kids(s, p, q, n, first, later),
+    }
+}
+
+// The n trees in a row at a and at b, the first and the later ones of these sorts.
+fn same_kids(s: &[u8], a: usize, b: usize, n: usize, first: bool, later: bool) -> Same
+    requires { ⌜ BothStandAll (now s) (kindsFor n first later) a b ⌝ }
+    ensures { λ r. ⌜ SameAllPost (now (s .entry)) (kindsFor n first later) a b r ⌝ }
+{
+    if n == 0 {
+        return Same::Yes(a, b);
+    }
+    if first {
+        let x = same_expr(s, a, b);
+        match x {
+            Same::No => Same::No,
+            Same::Yes(p, q) => same_kids(s, p, q, n - 1, later, later),
+        }
+    } else {
+        let x = same_pred(s, a, b);
+        match x {
+            Same::No => Same::No,
+            Same::Yes(p, q) => same_kids(s, p, q, n - 1, later, later),
+        }
+    }
+}
+
+// Where the tree at `at` ends, an expression where e.
+pub fn end_of(s: &[u8], at: usize, e: bool) -> usize
+    requires { ⌜ Standing (now s) at (sortFor e) ⌝ }
+    ensures { λ r. ⌜ EndPost (now (s .entry)) at (sortFor e) r ⌝ }
+{
+    let h = frame::reading::read_head(s, at, e);
+    match h {
+        HeadAnswer::Refused(_c) => at,
+        HeadAnswer::Is {
+            tag: _,
+            payload: _,
+            types: _,
+            children,
+            count,
+            first,
+            later,
+        } => end_of_kids(s, children, count, first, later),
+    }
+}
+
+// Where the n trees in a row at `at` end, the first and the later ones of these sorts.
+fn end_of_kids(s: &[u8], at: usize, n: usize, first: bool, later: bool) -> usize
+    requires { ⌜ StandingAll (now s) at (kindsFor n first later) ⌝ }
+    ensures { λ r. ⌜ EndAllPost (now (s .entry)) at (kindsFor n first later) r ⌝ }
+{
+    if n == 0 {
+        return at;
+    }
+    let p = end_of(s, at, first);
+    end_of_kids(s, p, n - 1, later, later)
+}

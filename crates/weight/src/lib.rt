@@ -1,0 +1,1 @@
+// The step figure: a weight that falls with each changing step.
