@@ -1,8 +1,8 @@
 -- Going over a frame that was read: from a tree that stands somewhere, and the head that `read_head` answers there, to the
 -- tree's own head and its children.
--- Main results: at-span, at-wf, at-end, at-unique, stands-at, parse-at, at-parse (what it is to stand somewhere);
--- kids-span, kids-wf, kids-end, kids-unique, stand-all (the same of trees in a row); kids-none,
--- kids-some (the first child and the others); head-of, view, no-view (by a head that was read).
+-- Main results: at-span, at-wf, at-end, at-unique, stands-at, parse-at, at-parse, frame-at (what it is to stand somewhere);
+-- kids-span, kids-wf, kids-end, kids-count, kids-unique, stand-all (the same of trees in a row); kids-none, kids-some (the
+-- first child and the others); head-of, view, no-view (by a head that was read).
 use mathlib.Core.Path.{_≡_, refl, sym, ap, ap₂, _∙_, subst}
 use mathlib.Core.Bool.{Bool}
 use mathlib.Core.List.{List, [], _∷_}
@@ -11,17 +11,18 @@ use native.Mathlib.Omega.{arith}
 use lib.ListN.{length}
 use borrow.Author.Tests.{ne-eqb, le-ltb}
 use Rattle.frame.specs.Types.{Ty}
-use Rattle.frame.specs.Trees.{Head, head, Tree, node, Forest, nil, cons, count}
+use Rattle.frame.specs.Trees.{Head, head, Tree, node, Forest, nil, cons, count, nodes}
 use Rattle.frame.specs.Tags.{Sort, predicate, formOf, width, sortsOf}
 use Rattle.frame.specs.TagCodes.{sortFor, firstSort, laterSort, kindsFor}
 use Rattle.frame.specs.Encoding.{encTys, enc, encs}
-use Rattle.frame.specs.Reading.{HeadRes, okH, readHead, ok, okF, readMany, readNode, frameLimit, tree, parse}
+use Rattle.frame.specs.Reading.{HeadRes, okH, readHead, ok, okF, readMany, readNode, frameLimit, Parsed, tree, bad, parse}
 use Rattle.frame.specs.WellFormed.{numberIn, HeadWf, Wf, Wfs}
 use Rattle.frame.specs.Spans.{Bytes, Spans}
 use Rattle.frame.specs.At.{IsAt, KidsAt}
-use Rattle.frame.specs.Post.{headAnswer}
+use Rattle.frame.specs.Post.{headAnswer, frameAnswer}
 use Rattle.frame.specs.declared.reading.HeadAnswer.{HeadAnswer}
 use Rattle.frame.specs.declared.reading.HeadAnswer.the-variants as H
+use Rattle.frame.specs.declared.reading.FrameAnswer.the-variants as F
 use Rattle.frame.proofs.Inversion.{noH-not, no-not, many-inv, many-count, NodeInv, node-inv, head-inv, tagAt}
 use Rattle.frame.proofs.ReadTrees.{head-read, node-enc, node-wf, many-enc, many-wf}
 use Rattle.frame.proofs.ReadBack.{enc-long, node-back, many-back}
@@ -65,6 +66,21 @@ at-parse s bs t a l =
     let r : readNode (suc n) s predicate 0 ≡ ok t n = node-back t (suc n) s predicate 0 n (at-span s bs predicate 0 t n a) (at-wf s bs predicate 0 t n a) (omega arith) in
     let z : n ≡ 0 → ⊥ = omega arith in
     rw (ne-eqb n 0 z, le-ltb frameLimit n l, r, le-ltb n n (omega arith))
+
+-- what `read` answers of a frame that it does not turn down
+pub record FrameAt (s : List ℕ) (k : ℕ) : Type 0 where
+  pub t : Tree
+  pub parsed : parse s ≡ tree t
+  pub many : k ≡ nodes t
+  pub stands : IsAt s predicate 0 t (length s)
+  pub fits : length s ≤ frameLimit
+
+pub frame-at : (s : List ℕ) → Bytes s → (k : ℕ) → F.Nodes k ≡ frameAnswer (parse s) → FrameAt s k
+frame-at s bs k e = go (parse s) refl e
+  where
+    go : (x : Parsed) → parse s ≡ x → F.Nodes k ≡ frameAnswer x → FrameAt s k
+    go (tree t) p e = record { t = t; parsed = p; many = cc; stands = parse-at s bs t p; fits = parse-inv s t p .fits }
+    go (bad c) p e = let z : _≡_ {A = ℕ} 0 1 = cc in absurd (omega arith)
 
 -- ---- trees in a row
 module _ (s : List ℕ) (bs : Bytes s) (es : List Sort) (at : ℕ) (h : at ≤ length s) (ts : Forest) (q : ℕ) (a : KidsAt s es at ts q) where

@@ -9,8 +9,8 @@ ghost use Rattle.frame.specs.Types.{Ty};
 ghost use Rattle.frame.specs.Trees.{Tree, Forest};
 ghost use Rattle.frame.specs.Tags.{Sort, predicate};
 ghost use Rattle.frame.specs.At.{IsAt};
-ghost use Rattle.typing.specs.Identifiers.{namesAgree};
 ghost use Rattle.frame.specs.Reading.{frameLimit};
+ghost use Rattle.typing.specs.Identifiers.{namesAgree};
 ghost use Rattle.typing.specs.Claims.{PowerPost, SameBytes, SameType, Held, TypeAt, TypesAt, NamePost, GivenPost, TypesPost, Rest, NamesPost};
 
 const IDENTIFIER: usize = 1;
@@ -159,7 +159,8 @@ fn note_nodes(s: &[u8], at: usize, table: &mut [u16; 65536]) -> bool
     }
 }
 
-// Whether the names of a frame's tree agree.
+// Whether the names of a frame's tree agree. The table has an entry for each two-byte number: so the time grows with the
+// frame alone, whichever numbers it has.
 pub fn names_ok(s: &[u8]) -> bool
     requires { ⌜ (length (now s) ≤ frameLimit) × ((t : Tree) × IsAt (now s) predicate 0 t (length (now s))) ⌝ }
     ensures { λ r. ⌜ ((t : Tree) → IsAt (now (s .entry)) predicate 0 t (length (now (s .entry))) → r ≡ namesAgree t) ⌝ }
