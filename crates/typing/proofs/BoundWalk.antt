@@ -1,6 +1,6 @@
 -- Number 8: the ways out of bind_node, bind_kids and binding_ok.
--- Main results: leaves-same (only the entries of a tree's own places matter); index-none, index-some, node-plain,
--- node-binding, kids-end, kids-no, kids-yes; frame-bound.
+-- Main results: leaves-same (only the entries of a tree's own places matter); enter-plain, enter-binding; node-leaf,
+-- node-kids; kids-over, kids-no, kids-yes; frame-refused, frame-bound.
 use mathlib.Core.Path.{_≡_, refl, sym, ap, ap₂, _∙_, subst}
 use mathlib.Core.Logic.{_⊎_, inl, inr}
 use mathlib.Core.Bool.{Bool, true, false, _&&_, _||_}
@@ -31,7 +31,7 @@ use Rattle.frame.proofs.View.{at-span, at-end, kids-end, KidsView, kids-none, k
 use Rattle.typing.specs.Typing.{typeAt}
 use Rattle.typing.specs.Binding.{boundTag, indexBound, closedTree, closedForest}
 use Rattle.typing.specs.Leaves.{LeavesAt, LeavesIn}
-use Rattle.typing.specs.Bound.{Opened, Below, Outside, Ready, OpenPost, boundAnswer, Walked, BoundPost, BoundKids, BindingPost}
+use Rattle.typing.specs.Bound.{Opened, Below, Outside, Ready, OpenPost, EnterPost, LeafPost, boundAnswer, Walked, BoundPost, BoundKids, BindingPost}
 use Rattle.typing.specs.declared.binding.Bound.{Bound}
 use Rattle.typing.specs.declared.binding.Bound.the-variants.{Ends, Refused}
 use Rattle.typing.proofs.OpenBinders.{TyAt, opened-length, opened-at, opened-below}
@@ -111,6 +111,23 @@ high-form g h = go (ltb g 902) refl
 pub under-binding : (e : Sort) (g n : ℕ) (us : List Ty) (k : ℕ) (Γ : Ctx) → 801 ≤ g → HeadWf e g n us k → push us Γ ≡ under g us Γ
 under-binding e g n us k Γ h w = ap (λ (ts : List Ty). push ts Γ) (all-bound (formOf g .layout) (formOf g .carried) _ us (high-form g h) (w .many))
 
+-- ---- enter
+module _ (s : List ℕ) (g tp p depth : ℕ) (b : List ℕ) where
+  pub enter-plain : g < 801 → length b ≡ 4096 → EnterPost s g tp p depth b b depth
+  enter-plain l z = record {
+    size = z;
+    kept = λ i h. refl;
+    by = λ e n us k a w. (omega arith, omega arith, λ Γ o. subst (λ (Δ : Ctx). Opened s Δ b depth) (under-plain g us Γ l) o);
+  }
+
+  pub enter-binding : 801 ≤ g → (c : List ℕ) (r : ℕ) → OpenPost s tp p depth b c r → EnterPost s g tp p depth b c r
+  enter-binding l c r o = record {
+    size = o .size;
+    kept = o .kept;
+    by = λ e n us k a w. (let f = o .by us a (w .types) in let z = f .0 in
+        (omega arith, omega arith, λ Γ h. subst (λ (Δ : Ctx). Opened s Δ c r) (under-binding e g n us k Γ l w) (f .1 Γ h)));
+  }
+
 -- ---- a node that is no bound identifier
 closed-other : (g n : ℕ) (us : List Ty) (ks : Forest) (Γ : Ctx) → (g ≡ boundTag → ⊥) → closedForest ks (under g us Γ) ≡ closedTree (node (head g n us) ks) Γ
 unfolding closedTree
@@ -124,11 +141,11 @@ module _ (g n : ℕ) (us : List Ty) (ks : Forest) (Γ : Ctx) (d : g ≡ boundTag
   abbrev here : Tree
   here = node (head g n us) ks
 
-  walk-under : depth ≤ inside → Below depth b₀ b₁
+  walk-node : depth ≤ inside → Below depth b₀ b₁
       → Walked (closedForest ks (under g us Γ)) (LeavesIn ks (under g us Γ) (k + 1) s) inside (k + 1) (k + 1 + nodesIn ks) q b₁ l₀ b₂ l₂ r
       → Walked (closedTree here Γ) (LeavesAt here Γ k s) depth k (k + nodes here) q b₀ l₀ b₂ l₂ r
   unfolding nodes
-  walk-under le h w =
+  walk-node le h w =
       let c = closed-other g n us ks Γ d in
       let z : k + 1 + nodesIn ks ≡ k + suc (nodesIn ks) = omega arith in
       let y : k + 1 ≡ suc k = omega arith in
@@ -144,12 +161,6 @@ module _ (g n : ℕ) (us : List Ty) (ks : Forest) (Γ : Ctx) (d : g ≡ boundTag
       wider : (i : ℕ) → (i < k) ⊎ (k + suc (nodesIn ks) ≤ i) → (i < k + 1) ⊎ (k + 1 + nodesIn ks ≤ i)
       wider i (inl l) = inl (omega arith)
       wider i (inr l) = inr (omega arith)
-
-  pub walk-node : (Δ : Ctx) → Δ ≡ under g us Γ → depth ≤ inside → Below depth b₀ b₁
-      → Walked (closedForest ks Δ) (LeavesIn ks Δ (k + 1) s) inside (k + 1) (k + 1 + nodesIn ks) q b₁ l₀ b₂ l₂ r
-      → Walked (closedTree here Γ) (LeavesAt here Γ k s) depth k (k + nodes here) q b₀ l₀ b₂ l₂ r
-  walk-node Δ e le h w =
-      walk-under le h (subst (λ (X : Ctx). Walked (closedForest ks X) (LeavesIn ks X (k + 1) s) inside (k + 1) (k + 1 + nodesIn ks) q b₁ l₀ b₂ l₂ r) e w)
 
 -- ---- a bound identifier
 no-sorts-three : (x : ℕ) → sortsOf (formOf 3 .layout) x ≡ []
@@ -245,7 +256,7 @@ module _ (s : List ℕ) (e : Sort) (at depth k : ℕ) (b₀ l₀ : List ℕ) (x 
     module _ (y : Ready s at depth k b₀ l₀) where
       -- a bound identifier
       module _ (is : g ≡ boundTag) where
-        pub index-none : depth ≤ n → BoundPost s e at depth k b₀ l₀ b₀ l₀ Refused
+        index-none : depth ≤ n → BoundPost s e at depth k b₀ l₀ b₀ l₀ Refused
         index-none le = record {
           by = λ t Γ q i o. (let v = seen t q i in to-view t Γ q v b₀ l₀ Refused (walk-none s g n (v .us) Γ is depth k q b₀ l₀ (y .binders-size) (y .leaves-size) o (v .ks) le));
         }
@@ -255,7 +266,7 @@ module _ (s : List ℕ) (e : Sort) (at depth k : ℕ) (b₀ l₀ : List ℕ) (x 
             let z : kindsFor m a b ≡ [] = v .top .sorts ∙ no-sorts g _ is in
             kids-none s 0 a b p (v .ks) q (subst (λ (es : List Sort). KidsAt s es p (v .ks) q) z (v .below)) refl
 
-        pub index-some : k < 2048 → n < depth → BoundPost s e at depth k b₀ l₀ b₀ (set l₀ k (getD b₀ (depth - 1 - n) 0)) (Ends p (k + 1))
+        index-some : k < 2048 → n < depth → BoundPost s e at depth k b₀ l₀ b₀ (set l₀ k (getD b₀ (depth - 1 - n) 0)) (Ends p (k + 1))
         index-some r lt = record { by = λ t Γ q i o. (let v = seen t q i in to-view t Γ q v b₀ l₁ (Ends p (k + 1)) (at-leaf t Γ q v o)) }
           where
             l₁ : List ℕ
@@ -267,45 +278,38 @@ module _ (s : List ℕ) (e : Sort) (at depth k : ℕ) (b₀ l₀ : List ℕ) (x 
                 let w : Walk s (node (head g n (v .us)) nil) Γ depth k q b₀ l₀ b₀ (set l₀ k (getD b₀ (depth - 1 - n) 0)) (Ends q (k + 1)) = walk-leaf s g n (v .us) Γ is depth k q b₀ l₀ (y .binders-size) (y .leaves-size) o lt r in
                 rw (z .0, z .1) w
 
+        pub node-leaf : k < 2048 → (l₁ : List ℕ) (r : Bound) → LeafPost depth n k p b₀ l₀ l₁ r → BoundPost s e at depth k b₀ l₀ b₀ l₁ r
+        node-leaf room l₁ r w = go (ltb n depth) refl
+          where
+            go : (c : Bool) → ltb n depth ≡ c → BoundPost s e at depth k b₀ l₀ b₀ l₁ r
+            go true q = let lt = ltb-true n depth q in let f = w .some lt in rw (f .0, f .1) (index-some room lt)
+            go false q = let le = ltb-false n depth q in let f = w .none le in rw (f .0, f .1) (index-none le)
+
       -- any other node
       module _ (ne : g ≡ boundTag → ⊥) where
-        pub plain-next : OneHere s e at depth b₀ → g < 801 → Ready s p depth (k + 1) b₀ l₀ × KidsHere s (kindsFor m a b) p depth b₀
-        plain-next h lt =
-            let v = seen (h .0) (h .2) (h .3) in
-            let w = children-room y h in
-            let c = y .opened in
-            let d = y .place in
-            (record { fits = y .fits; within = w .2; opened = omega arith; place = omega arith; binders-size = y .binders-size; leaves-size = y .leaves-size }, (v .ks, h .1, h .2, v .below, h .4))
+        pub enter-types : OneHere s e at depth b₀ → (d : Sort) × (x : ℕ) × (us : List Ty) × (c : ℕ) × Spans s tp p (encTys us) × HeadWf d g x us c
+        enter-types h = let v = seen (h .0) (h .2) (h .3) in (e, n, v .us, count (v .ks), v .top .types, v .top .wf)
 
-        pub node-plain : g < 801 → (b₁ l₁ : List ℕ) (r : Bound) → BoundKids s (kindsFor m a b) p depth (k + 1) b₀ l₀ b₁ l₁ r → BoundPost s e at depth k b₀ l₀ b₁ l₁ r
-        node-plain lt b₁ l₁ r w = record {
-          by = λ t Γ q i o. (let v = seen t q i in
-              to-view t Γ q v b₁ l₁ r (walk-node g n (v .us) (v .ks) Γ ne s depth depth k q b₀ l₀ b₀ b₁ l₁ r Γ (under-plain g (v .us) Γ lt) (omega arith) (λ j f. refl) (w .by (v .ks) Γ q (v .below) o)));
-        }
+        module _ (b₁ : List ℕ) (inside : ℕ) (op : EnterPost s g tp p depth b₀ b₁ inside) where
+          entered : (t : Tree) (q : ℕ) (v : View s e at t q g n tp p m a b)
+              → (depth ≤ inside) × (inside ≤ depth + length (v .us)) × ((Γ : Ctx) → Opened s Γ b₀ depth → Opened s (under g (v .us) Γ) b₁ inside)
+          entered t q v = op .by e n (v .us) (count (v .ks)) (v .top .types) (v .top .wf)
 
-        module _ (le : 801 ≤ g) where
-          pub binding-types : OneHere s e at depth b₀ → (us : List Ty) × Spans s tp p (encTys us) × TysWf us
-          binding-types h = let v = seen (h .0) (h .2) (h .3) in (v .us, v .top .types, v .top .wf .types)
+          pub node-next : OneHere s e at depth b₀ → Ready s p inside (k + 1) b₁ l₀ × KidsHere s (kindsFor m a b) p inside b₁
+          node-next h =
+              let v = seen (h .0) (h .2) (h .3) in
+              let w = children-room y h in
+              let f = entered (h .0) (h .2) v in
+              let c = y .opened in
+              let d = y .place in
+              let z = f .1 in
+              (record { fits = y .fits; within = w .2; opened = omega (arith, tys-long (v .us), v .top .types .long); place = omega arith; binders-size = op .size; leaves-size = y .leaves-size }, (v .ks, under g (v .us) (h .1), h .2, v .below, f .2 (h .1) (h .4)))
 
-          module _ (b₁ : List ℕ) (inside : ℕ) (op : OpenPost s tp p depth b₀ b₁ inside) where
-            opened-now : (t : Tree) (Γ : Ctx) (q : ℕ) (v : View s e at t q g n tp p m a b) → Opened s Γ b₀ depth → (inside ≡ depth + length (v .us)) × Opened s (push (v .us) Γ) b₁ inside
-            opened-now t Γ q v o = let f = op .by (v .us) (v .top .types) (v .top .wf .types) in (f .0, f .1 Γ o)
-
-            pub binding-next : OneHere s e at depth b₀ → Ready s p inside (k + 1) b₁ l₀ × KidsHere s (kindsFor m a b) p inside b₁
-            binding-next h =
-                let v = seen (h .0) (h .2) (h .3) in
-                let w = children-room y h in
-                let f = opened-now (h .0) (h .1) (h .2) v (h .4) in
-                let c = y .opened in
-                let d = y .place in
-                let z = f .0 in
-                (record { fits = y .fits; within = w .2; opened = omega (arith, tys-long (v .us), v .top .types .long); place = omega arith; binders-size = op .size; leaves-size = y .leaves-size }, (v .ks, push (v .us) (h .1), h .2, v .below, f .1))
-
-            pub node-binding : (b₂ l₂ : List ℕ) (r : Bound) → BoundKids s (kindsFor m a b) p inside (k + 1) b₁ l₀ b₂ l₂ r → BoundPost s e at depth k b₀ l₀ b₂ l₂ r
-            node-binding b₂ l₂ r w = record {
-              by = λ t Γ q i o. (let v = seen t q i in let f = opened-now t Γ q v o in let z = f .0 in
-                  to-view t Γ q v b₂ l₂ r (walk-node g n (v .us) (v .ks) Γ ne s depth inside k q b₀ l₀ b₁ b₂ l₂ r (push (v .us) Γ) (under-binding e g n (v .us) _ Γ le (v .top .wf)) (omega arith) (op .kept) (w .by (v .ks) (push (v .us) Γ) q (v .below) (f .1))));
-            }
+          pub node-kids : (b₂ l₂ : List ℕ) (r : Bound) → BoundKids s (kindsFor m a b) p inside (k + 1) b₁ l₀ b₂ l₂ r → BoundPost s e at depth k b₀ l₀ b₂ l₂ r
+          node-kids b₂ l₂ r w = record {
+            by = λ t Γ q i o. (let v = seen t q i in let f = entered t q v in
+                to-view t Γ q v b₂ l₂ r (walk-node g n (v .us) (v .ks) Γ ne s depth inside k q b₀ l₀ b₁ b₂ l₂ r (f .0) (op .kept) (w .by (v .ks) (under g (v .us) Γ) q (v .below) (f .2 Γ o))));
+          }
 
 -- ---- answers
 answer-no : (c : Bool) (q j : ℕ) → Refused ≡ boundAnswer c q j → c ≡ false

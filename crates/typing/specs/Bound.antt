@@ -4,15 +4,15 @@ use mathlib.Core.Path.{_≡_}
 use mathlib.Core.Logic.{_⊎_}
 use mathlib.Core.Bool.{Bool, true, false}
 use mathlib.Core.List.{List, [], _∷_}
-use Prim.Native.Nat.{ℕ, zero, suc, _+_, _≤_, _<_}
-use lib.ListN.{length, getD}
+use Prim.Native.Nat.{ℕ, zero, suc, _+_, _-_, _≤_, _<_}
+use lib.ListN.{length, getD, set}
 use Rattle.frame.specs.Types.{Ty}
 use Rattle.frame.specs.Trees.{Tree, Forest, nodes, nodesIn}
 use Rattle.frame.specs.Tags.{Sort, predicate}
 use Rattle.frame.specs.Encoding.{encTy, encTys}
 use Rattle.frame.specs.Reading.{frameLimit}
-use Rattle.frame.specs.Places.{Ctx, push}
-use Rattle.frame.specs.WellFormed.{TysWf}
+use Rattle.frame.specs.Places.{Ctx, push, under}
+use Rattle.frame.specs.WellFormed.{TysWf, HeadWf}
 use Rattle.frame.specs.Spans.{Spans}
 use Rattle.frame.specs.At.{IsAt, KidsAt}
 use Rattle.typing.specs.Binding.{closedTree, closedForest}
@@ -51,6 +51,18 @@ pub record OpenPost (s : List ℕ) (at end depth : ℕ) (old new : List ℕ) (r 
   pub size : length new ≡ 4096
   pub kept : Below depth old new
   pub by : (us : List Ty) → Spans s at end (encTys us) → TysWf us → (r ≡ depth + length us) × ((Γ : Ctx) → Opened s Γ old depth → Opened s (push us Γ) new r)
+
+-- those of a node with the tag g, whose types stand from tp up to p
+pub record EnterPost (s : List ℕ) (g tp p depth : ℕ) (old new : List ℕ) (r : ℕ) : Type 0 where
+  pub size : length new ≡ 4096
+  pub kept : Below depth old new
+  pub by : (e : Sort) (n : ℕ) (us : List Ty) (k : ℕ) → Spans s tp p (encTys us) → HeadWf e g n us k
+      → (depth ≤ r) × (r ≤ depth + length us) × ((Γ : Ctx) → Opened s Γ old depth → Opened s (under g us Γ) new r)
+
+-- ---- a bound identifier with the index n at the place k, up to q
+pub record LeafPost (depth n k q : ℕ) (binders l₀ l₁ : List ℕ) (r : Bound) : Type 0 where
+  pub none : depth ≤ n → (r ≡ Refused) × (l₁ ≡ l₀)
+  pub some : n < depth → (r ≡ Ends q (k + 1)) × (l₁ ≡ set l₀ k (getD binders (depth - 1 - n) 0))
 
 -- ---- trees are gone over
 abbrev pub boundAnswer : Bool → ℕ → ℕ → Bound

@@ -14,10 +14,10 @@ ghost use Rattle.frame.specs.TagCodes.{sortFor, kindsFor};
 ghost use Rattle.frame.specs.Encoding.{encTys};
 ghost use Rattle.frame.specs.Reading.{frameLimit};
 ghost use Rattle.frame.specs.Places.{Ctx};
-ghost use Rattle.frame.specs.WellFormed.{TysWf};
+ghost use Rattle.frame.specs.WellFormed.{TysWf, HeadWf};
 ghost use Rattle.frame.specs.Spans.{Spans};
 ghost use Rattle.frame.specs.At.{IsAt, KidsAt};
-ghost use Rattle.typing.specs.Bound.{Opened, Ready, OpenPost, BoundPost, BoundKids, BindingPost};
+ghost use Rattle.typing.specs.Bound.{Opened, Ready, OpenPost, EnterPost, LeafPost, BoundPost, BoundKids, BindingPost};
 
 const BOUND: usize = 3;
 
@@ -49,6 +49,43 @@ fn open_binders(s: &[u8], at: usize, end: usize, binders: &mut [u16; 4096], dept
     }
 }
 
+// How many binders are open at the children of a node.
+fn enter(
+    s: &[u8],
+    tag: usize,
+    types: usize,
+    children: usize,
+    binders: &mut [u16; 4096],
+    depth: usize,
+) -> usize
+    requires { ⌜ (length (now s) ≤ frameLimit) × (depth ≤ types) × (length (now binders) ≡ 4096) × ((e : Sort) × (n : ℕ) × (us : List Ty) × (k : ℕ) × Spans (now s) types children (encTys us) × HeadWf e tag n us k) ⌝ }
+    ensures { λ r. ⌜ EnterPost (now (s .entry)) tag types children depth (now (binders .entry)) (now (binders .exit)) r ⌝ }
+{
+    if tag < FIRST_BINDING {
+        return depth;
+    }
+    open_binders(s, types, children, binders, depth)
+}
+
+// A bound identifier at place k, which ends at `end`: index 0 is the binder that was opened last.
+fn bind_leaf(
+    binders: &[u16; 4096],
+    depth: usize,
+    index: usize,
+    leaves: &mut [u16; 2048],
+    k: usize,
+    end: usize,
+) -> Bound
+    requires { ⌜ (depth ≤ 4096) × (k < 2048) ⌝ }
+    ensures { λ r. ⌜ LeafPost depth index k end (now (binders .entry)) (now (leaves .entry)) (now (leaves .exit)) r ⌝ }
+{
+    if depth <= index {
+        return Bound::Refused;
+    }
+    leaves[k] = binders[depth - 1 - index];
+    Bound::Ends(end, k + 1)
+}
+
 // The tree at `at`, an expression where e, whose place is k.
 fn bind_node(
     s: &[u8],
@@ -75,26 +112,9 @@ fn bind_node(
             later,
         } => {
             if tag == BOUND {
-                if depth <= payload {
-                    return Bound::Refused;
-                }
-                leaves[k] = binders[depth - 1 - payload];
-                return Bound::Ends(children, k + 1);
+                return bind_leaf(binders, depth, payload, leaves, k, children);
             }
-            if tag < FIRST_BINDING {
-                return bind_kids(
-                    s,
-                    children,
-                    count,
-                    first,
-                    later,
-                    binders,
-                    depth,
-                    leaves,
-                    k + 1,
-                );
-            }
-            let inside = open_binders(s, types, children, binders, depth);
+            let inside = enter(s, tag, types, children, binders, depth);
             bind_kids(
                 s,
                 children,
