@@ -12,6 +12,7 @@ pub mod TagTables
 pub mod TypeTurns
 pub mod HeadTurns
 pub mod NodeTurns
+pub mod View
 pub mod FrameTurns
 pub mod LineTurns
 pub mod AtPlace

@@ -6,6 +6,7 @@ pub mod Operators
 pub mod Encoding
 pub mod Reading
 pub mod Post
+pub mod At
 pub mod Lines
 pub mod LineState
 pub mod Places

@@ -2,5 +2,11 @@ pub mod Derived
 pub mod TypeExpression
 pub mod Same
 pub mod Names
+pub mod Claims
+pub mod Noting
+pub mod NotingTypes
+pub mod NotingNodes
+pub mod OpenBinders
+pub mod BoundWalk
 pub mod Decides
 pub mod Checked

@@ -17,6 +17,7 @@ use Rattle.frame.specs.Places.{Ctx, under}
 use Rattle.frame.specs.Sameness.{sameTy}
 use Rattle.frame.specs.WellFormed.{TyWf, TysWf, Wf, Wfs, numberIn}
 use Rattle.typing.specs.Typing.{carriedTy, typeOf, typesIn}
+use Rattle.typing.specs.Members.{In, All}
 use Rattle.typing.specs.Identifiers.{identTag, Named, named, identOf, idents, identsIn, givensTy, givensTys, givens, givensIn, agrees, spares, consistent, namesAgree}
 use Rattle.typing.specs.Signature.{signed, signature}
 use Rattle.typing.specs.Accepted.{TyOk, TysOk, HeadOk, Accepted, AcceptedAll}
@@ -24,16 +25,8 @@ use Rattle.typing.proofs.Derived.{push-ok, result-ok}
 use Rattle.frame.proofs.SameTrees.{both-true, same-ty}
 use Rattle.typing.proofs.Same.{and-both, same-ty-of}
 
--- ---- lists: what holds of each member, and membership
+-- ---- lists: what holds of each member
 module _ {A : Type 0} where
-  abbrev pub In : A → List A → Type 0
-  In x [] = ⊥
-  In x (y ∷ l) = (x ≡ y) ⊎ In x l
-
-  abbrev pub All : (A → Type 0) → List A → Type 0
-  All P [] = Unit {0}
-  All P (x ∷ l) = P x × All P l
-
   pub all-join : (P : A → Type 0) (l m : List A) → All P l → All P m → All P (l ++ m)
   all-join P [] m h k = k
   all-join P (x ∷ l) m h k = (h .0, all-join P l m (h .1) k)

@@ -1,9 +1,12 @@
 pub mod Typing
 pub mod Binding
+pub mod Members
 pub mod Identifiers
+pub mod Claims
 pub mod Check
 pub mod Accepted
 pub mod TypeExpression
 pub mod Signature
 pub mod Leaves
+pub mod Bound
 pub mod Cases

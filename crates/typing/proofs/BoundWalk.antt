@@ -1,0 +1,479 @@
+-- Number 8: the ways out of bind_node, bind_kids and binding_ok.
+-- Main results: leaves-same (only the entries of a tree's own places matter); enter-plain, enter-binding; node-leaf,
+-- node-kids; kids-over, kids-no, kids-yes; frame-refused, frame-bound.
+use mathlib.Core.Path.{_≡_, refl, sym, ap, ap₂, _∙_, subst}
+use mathlib.Core.Logic.{_⊎_, inl, inr}
+use mathlib.Core.Bool.{Bool, true, false, _&&_, _||_}
+use mathlib.Core.List.{List, [], _∷_}
+use Prim.Native.Nat.{ℕ, zero, suc, _+_, _-_, _≤_, _<_}
+use native.Mathlib.Omega.{arith}
+use lib.ListN.{length, getD, set, length-set, replicate, length-replicate}
+use lib.Seq.{getD-set-same, getD-set-other}
+use lib.Dec.{eqb, ltb}
+use borrow.Author.Tests.{eqb-true, ltb-true, ltb-false, lt-ltb, le-ltb, ne-eqb, eq-eqb}
+use Rattle.frame.specs.Types.{Ty}
+use Rattle.frame.specs.Trees.{Head, head, Tree, node, Forest, nil, cons, count, nodes, nodesIn}
+use Rattle.frame.specs.Tags.{pick, Sort, predicate, Layout, these, payload, counted, binding, Form, formOf, formAt, classOf, lookup, typesOf, bindersOf, sortsOf}
+use Rattle.frame.specs.TagCodes.{sortFor, kindsFor, layoutKind, formCode, formAtCode}
+use Rattle.frame.specs.Encoding.{encTy, encTys, enc, encs}
+use Rattle.frame.specs.Reading.{readHead, readMany, frameLimit}
+use Rattle.frame.specs.Places.{Ctx, push, under}
+use Rattle.frame.specs.WellFormed.{TysWf, HeadWf}
+use Rattle.frame.specs.Spans.{Bytes, Spans}
+use Rattle.frame.specs.At.{IsAt, KidsAt}
+use Rattle.frame.specs.Post.{headAnswer}
+use Rattle.frame.specs.declared.reading.HeadAnswer.{HeadAnswer}
+use Rattle.frame.specs.declared.reading.HeadAnswer.the-variants as H
+use Rattle.frame.proofs.Inversion.{true-not}
+use Rattle.frame.proofs.Extents.{nodes-enc}
+use Rattle.frame.proofs.TagTables.{allBelow, below, beyond, code-form}
+use Rattle.frame.proofs.View.{at-span, at-end, kids-end, KidsView, kids-none, kids-some, HeadOf, View, view, no-view}
+use Rattle.typing.specs.Typing.{typeAt}
+use Rattle.typing.specs.Binding.{boundTag, indexBound, closedTree, closedForest}
+use Rattle.typing.specs.Leaves.{LeavesAt, LeavesIn}
+use Rattle.typing.specs.Bound.{Opened, Below, Outside, Ready, OpenPost, EnterPost, LeafPost, boundAnswer, Walked, BoundPost, BoundKids, BindingPost}
+use Rattle.typing.specs.declared.binding.Bound.{Bound}
+use Rattle.typing.specs.declared.binding.Bound.the-variants.{Ends, Refused}
+use Rattle.typing.proofs.OpenBinders.{TyAt, opened-length, opened-at, opened-below}
+use Rattle.typing.proofs.NotingTypes.{tys-long}
+
+-- ---- the table's entries at other places play no part
+leaf-same : (s : List ℕ) (b : Bool) (x y : ℕ) (t : Ty) → x ≡ y → pick {X = Type 0} b (TyAt s x t) (Unit {0}) → pick {X = Type 0} b (TyAt s y t) (Unit {0})
+leaf-same s b x y t e a = subst (λ (i : ℕ). pick {X = Type 0} b (TyAt s i t) (Unit {0})) e a
+
+mutual
+  unfolding LeavesAt nodes
+
+  pub leaves-same : (t : Tree) (Γ : Ctx) (k : ℕ) (s l m : List ℕ) (j : ℕ) → k + nodes t ≤ j → Below j l m → LeavesAt t Γ k s l → LeavesAt t Γ k s m
+  leaves-same (node (head g n us) ks) Γ k s l m j le h a =
+      (leaf-same s (eqb g boundTag) (getD l k 0) (getD m k 0) (typeAt Γ n) (sym (h k (omega arith))) (a .0), leaves-same-in ks (under g us Γ) (suc k) s l m j (omega arith) h (a .1))
+
+  pub leaves-same-in : (ts : Forest) (Γ : Ctx) (k : ℕ) (s l m : List ℕ) (j : ℕ) → k + nodesIn ts ≤ j → Below j l m → LeavesIn ts Γ k s l → LeavesIn ts Γ k s m
+  leaves-same-in nil Γ k s l m j le h a = tt
+  leaves-same-in (cons t ts) Γ k s l m j le h a =
+      (leaves-same t Γ k s l m j (omega arith) h (a .0), leaves-same-in ts Γ (k + nodes t) s l m j (omega arith) h (a .1))
+
+-- ---- which tags have binders
+plain-tags : allBelow 801 (λ k. ltb (layoutKind (formOf k .layout)) 3) ≡ true
+unfolding lookup classOf formAt
+plain-tags = refl
+
+binding-tags : allBelow 902 (λ k. ltb k 801 || (eqb (layoutKind (formOf k .layout)) 3 || eqb (formOf k .carried) 0)) ≡ true
+unfolding lookup classOf formAt
+binding-tags = refl
+
+no-binders : (l : Layout) (us : List Ty) → layoutKind l < 3 → bindersOf l us ≡ []
+no-binders (these es) us h = refl
+no-binders (payload w) us h = refl
+no-binders (counted lo hi e) us h = refl
+no-binders (binding lo hi es) us h = absurd (omega arith)
+
+pub under-plain : (g : ℕ) (us : List Ty) (Γ : Ctx) → g < 801 → Γ ≡ under g us Γ
+under-plain g us Γ l =
+    let h = ltb-true (layoutKind (formOf g .layout)) 3 (below 801 (λ k. ltb (layoutKind (formOf k .layout)) 3) plain-tags g l) in
+    ap (λ (ts : List Ty). push ts Γ) (sym (no-binders (formOf g .layout) us h))
+
+-- from 801 on a tag has binders, or no types at all
+all-bound : (l : Layout) (c x : ℕ) (us : List Ty) → (layoutKind l ≡ 3) ⊎ (c ≡ 0) → length us ≡ typesOf l c x → us ≡ bindersOf l us
+all-bound (binding lo hi es) c x us k e = refl
+all-bound (these es) c x us (inl k) e = absurd (omega arith)
+all-bound (payload w) c x us (inl k) e = absurd (omega arith)
+all-bound (counted lo hi d) c x us (inl k) e = absurd (omega arith)
+all-bound (these es) c x [] (inr k) e = refl
+all-bound (these es) c x (u ∷ us) (inr k) e = absurd (omega arith)
+all-bound (payload w) c x [] (inr k) e = refl
+all-bound (payload w) c x (u ∷ us) (inr k) e = absurd (omega arith)
+all-bound (counted lo hi d) c x [] (inr k) e = refl
+all-bound (counted lo hi d) c x (u ∷ us) (inr k) e = absurd (omega arith)
+
+or-either : (a b c : Bool) → (a || (b || c)) ≡ true → a ≡ false → (b ≡ true) ⊎ (c ≡ true)
+or-either true b c h e = true-not (sym e)
+or-either false true c h e = inl refl
+or-either false false c h e = inr h
+
+unlisted-none : (g : ℕ) → 901 < g → formOf g .carried ≡ 0
+unfolding formAtCode
+unlisted-none g l =
+    let f : formAtCode 0 ≡ formOf g = code-form g 0 (sym (beyond g l)) in
+    sym (ap (λ (fm : Form). fm .carried) f)
+
+high-form : (g : ℕ) → 801 ≤ g → (layoutKind (formOf g .layout) ≡ 3) ⊎ (formOf g .carried ≡ 0)
+high-form g h = go (ltb g 902) refl
+  where
+    go : (b : Bool) → ltb g 902 ≡ b → (layoutKind (formOf g .layout) ≡ 3) ⊎ (formOf g .carried ≡ 0)
+    go true e = on (or-either (ltb g 801) (eqb (layoutKind (formOf g .layout)) 3) (eqb (formOf g .carried) 0) (below 902 (λ k. ltb k 801 || (eqb (layoutKind (formOf k .layout)) 3 || eqb (formOf k .carried) 0)) binding-tags g (ltb-true g 902 e)) (le-ltb g 801 h))
+      where
+        on : (eqb (layoutKind (formOf g .layout)) 3 ≡ true) ⊎ (eqb (formOf g .carried) 0 ≡ true) → (layoutKind (formOf g .layout) ≡ 3) ⊎ (formOf g .carried ≡ 0)
+        on (inl x) = inl (eqb-true (layoutKind (formOf g .layout)) 3 x)
+        on (inr x) = inr (eqb-true (formOf g .carried) 0 x)
+    go false e = inr (unlisted-none g (ltb-false g 902 e))
+
+pub under-binding : (e : Sort) (g n : ℕ) (us : List Ty) (k : ℕ) (Γ : Ctx) → 801 ≤ g → HeadWf e g n us k → push us Γ ≡ under g us Γ
+under-binding e g n us k Γ h w = ap (λ (ts : List Ty). push ts Γ) (all-bound (formOf g .layout) (formOf g .carried) _ us (high-form g h) (w .many))
+
+-- ---- enter
+module _ (s : List ℕ) (g tp p depth : ℕ) (b : List ℕ) where
+  pub enter-plain : g < 801 → length b ≡ 4096 → EnterPost s g tp p depth b b depth
+  enter-plain l z = record {
+    size = z;
+    kept = λ i h. refl;
+    by = λ e n us k a w. (omega arith, omega arith, λ Γ o. subst (λ (Δ : Ctx). Opened s Δ b depth) (under-plain g us Γ l) o);
+  }
+
+  pub enter-binding : 801 ≤ g → (c : List ℕ) (r : ℕ) → OpenPost s tp p depth b c r → EnterPost s g tp p depth b c r
+  enter-binding l c r o = record {
+    size = o .size;
+    kept = o .kept;
+    by = λ e n us k a w. (let f = o .by us a (w .types) in let z = f .0 in
+        (omega arith, omega arith, λ Γ h. subst (λ (Δ : Ctx). Opened s Δ c r) (under-binding e g n us k Γ l w) (f .1 Γ h)));
+  }
+
+-- ---- a node that is no bound identifier
+closed-other : (g n : ℕ) (us : List Ty) (ks : Forest) (Γ : Ctx) → (g ≡ boundTag → ⊥) → closedForest ks (under g us Γ) ≡ closedTree (node (head g n us) ks) Γ
+unfolding closedTree
+closed-other g n us ks Γ d = rw (ne-eqb g boundTag d)
+
+leaves-other : (g n : ℕ) (us : List Ty) (ks : Forest) (Γ : Ctx) (k : ℕ) (s l : List ℕ) → (g ≡ boundTag → ⊥) → LeavesIn ks (under g us Γ) (suc k) s l → LeavesAt (node (head g n us) ks) Γ k s l
+unfolding LeavesAt
+leaves-other g n us ks Γ k s l d a = (subst (λ (b : Bool). pick {X = Type 0} b (TyAt s (getD l k 0) (typeAt Γ n)) (Unit {0})) (sym (ne-eqb g boundTag d)) tt, a)
+
+module _ (g n : ℕ) (us : List Ty) (ks : Forest) (Γ : Ctx) (d : g ≡ boundTag → ⊥) (s : List ℕ) (depth inside k q : ℕ) (b₀ l₀ b₁ b₂ l₂ : List ℕ) (r : Bound) where
+  abbrev here : Tree
+  here = node (head g n us) ks
+
+  walk-node : depth ≤ inside → Below depth b₀ b₁
+      → Walked (closedForest ks (under g us Γ)) (LeavesIn ks (under g us Γ) (k + 1) s) inside (k + 1) (k + 1 + nodesIn ks) q b₁ l₀ b₂ l₂ r
+      → Walked (closedTree here Γ) (LeavesAt here Γ k s) depth k (k + nodes here) q b₀ l₀ b₂ l₂ r
+  unfolding nodes
+  walk-node le h w =
+      let c = closed-other g n us ks Γ d in
+      let z : k + 1 + nodesIn ks ≡ k + suc (nodesIn ks) = omega arith in
+      let y : k + 1 ≡ suc k = omega arith in
+      record {
+        answer = w .answer ∙ ap₂ (λ (b : Bool) (j : ℕ). boundAnswer b q j) c z;
+        leaves = λ e. leaves-other g n us ks Γ k s l₂ d (subst (λ (i : ℕ). LeavesIn ks (under g us Γ) i s l₂) y (w .leaves (c ∙ e)));
+        others = λ i o. w .others i (wider i o);
+        kept = λ i l. w .kept i (omega arith) ∙ h i l;
+        binders-size = w .binders-size;
+        leaves-size = w .leaves-size;
+      }
+    where
+      wider : (i : ℕ) → (i < k) ⊎ (k + suc (nodesIn ks) ≤ i) → (i < k + 1) ⊎ (k + 1 + nodesIn ks ≤ i)
+      wider i (inl l) = inl (omega arith)
+      wider i (inr l) = inr (omega arith)
+
+-- ---- a bound identifier
+no-sorts-three : (x : ℕ) → sortsOf (formOf 3 .layout) x ≡ []
+unfolding lookup classOf formAt
+no-sorts-three x = refl
+
+no-sorts : (g x : ℕ) → g ≡ boundTag → sortsOf (formOf g .layout) x ≡ []
+no-sorts g x e = subst (λ (i : ℕ). sortsOf (formOf i .layout) x ≡ []) (sym e) (no-sorts-three x)
+
+closed-none : (g n : ℕ) (us : List Ty) (ks : Forest) (Γ : Ctx) → g ≡ boundTag → length Γ ≤ n → closedTree (node (head g n us) ks) Γ ≡ false
+unfolding closedTree
+closed-none g n us ks Γ e l = rw (eq-eqb g boundTag e, le-ltb n (length Γ) l)
+
+closed-some : (g n : ℕ) (us : List Ty) (Γ : Ctx) → g ≡ boundTag → n < length Γ → closedTree (node (head g n us) nil) Γ ≡ true
+unfolding closedTree
+closed-some g n us Γ e l = rw (eq-eqb g boundTag e, lt-ltb n (length Γ) l)
+
+leaves-some : (g n : ℕ) (us : List Ty) (Γ : Ctx) (k : ℕ) (s l : List ℕ) → TyAt s (getD l k 0) (typeAt Γ n) → LeavesAt (node (head g n us) nil) Γ k s l
+unfolding LeavesAt
+leaves-some g n us Γ k s l a = (either (eqb g boundTag), tt)
+  where
+    either : (b : Bool) → pick {X = Type 0} b (TyAt s (getD l k 0) (typeAt Γ n)) (Unit {0})
+    either true = a
+    either false = tt
+
+module _ (s : List ℕ) (g n : ℕ) (us : List Ty) (Γ : Ctx) (is : g ≡ boundTag) (depth k q : ℕ) (b l : List ℕ) (bl : length b ≡ 4096) (ll : length l ≡ 2048) (o : Opened s Γ b depth) where
+  -- its index has no binder
+  walk-none : (ks : Forest) → depth ≤ n → Walked (closedTree (node (head g n us) ks) Γ) (LeavesAt (node (head g n us) ks) Γ k s) depth k (k + nodes (node (head g n us) ks)) q b l b l Refused
+  walk-none ks le =
+      let z = opened-length s Γ b depth o in
+      let c = closed-none g n us ks Γ is (omega arith) in
+      record {
+        answer = sym (ap (λ (d : Bool). boundAnswer d q (k + nodes (node (head g n us) ks))) c);
+        leaves = λ f. true-not (sym c ∙ f);
+        others = λ i f. refl;
+        kept = λ i f. refl;
+        binders-size = bl;
+        leaves-size = ll;
+      }
+
+  -- it has one
+  walk-leaf : n < depth → k < 2048
+      → Walked (closedTree (node (head g n us) nil) Γ) (LeavesAt (node (head g n us) nil) Γ k s) depth k (k + nodes (node (head g n us) nil)) q b l b (set l k (getD b (depth - 1 - n) 0)) (Ends q (k + 1))
+  unfolding nodes
+  walk-leaf lt r =
+      let v : ℕ = getD b (depth - 1 - n) 0 in
+      let z = opened-length s Γ b depth o in
+      let c = closed-some g n us Γ is (omega arith) in
+      let w : TyAt s (getD (set l k v) k 0) (typeAt Γ n) = subst (λ (i : ℕ). TyAt s i (typeAt Γ n)) (sym (getD-set-same l k v 0 (omega arith))) (opened-at s Γ b depth o n lt) in
+      record {
+        answer = sym (ap (λ (d : Bool). boundAnswer d q (k + 1)) c);
+        leaves = λ f. leaves-some g n us Γ k s (set l k v) w;
+        others = λ i f. getD-set-other l k i v 0 (apart i f);
+        kept = λ i f. refl;
+        binders-size = bl;
+        leaves-size = length-set l k v ∙ ll;
+      }
+    where
+      apart : (i : ℕ) → (i < k) ⊎ (k + 1 ≤ i) → i ≡ k → ⊥
+      apart i (inl h) e = omega arith
+      apart i (inr h) e = omega arith
+
+-- ---- what is handed on
+abbrev pub OneHere : List ℕ → Sort → ℕ → ℕ → List ℕ → Type 0
+OneHere s e at depth b = (t : Tree) × (Γ : Ctx) × (q : ℕ) × IsAt s e at t q × Opened s Γ b depth
+
+abbrev pub KidsHere : List ℕ → List Sort → ℕ → ℕ → List ℕ → Type 0
+KidsHere s es at depth b = (ts : Forest) × (Γ : Ctx) × (q : ℕ) × KidsAt s es at ts q × Opened s Γ b depth
+
+-- ---- bind_node
+-- the promise, at a tree that is given
+abbrev Walk : List ℕ → Tree → Ctx → ℕ → ℕ → ℕ → List ℕ → List ℕ → List ℕ → List ℕ → Bound → Type 0
+Walk s t Γ depth k q b₀ l₀ b₁ l₁ r = Walked (closedTree t Γ) (LeavesAt t Γ k s) depth k (k + nodes t) q b₀ l₀ b₁ l₁ r
+
+module _ (s : List ℕ) (e : Sort) (at depth k : ℕ) (b₀ l₀ : List ℕ) (x : HeadAnswer) (ex : x ≡ headAnswer (readHead s at e)) where
+  pub bound-never {ℓ} : {X : Type ℓ} (c : ℕ) → x ≡ H.Refused c → Ready s at depth k b₀ l₀ → OneHere s e at depth b₀ → X
+  bound-never c ec y h = no-view s e at (h .0) (h .2) (h .3) x ex c ec
+
+  module _ (bs : Bytes s) (g n tp p m : ℕ) (a b : Bool) (ei : x ≡ H.Is g n tp p m a b) where
+    seen : (t : Tree) (q : ℕ) → IsAt s e at t q → View s e at t q g n tp p m a b
+    seen t q i = view s e at t q i x ex bs g n tp p m a b ei
+
+    pub children-room : Ready s at depth k b₀ l₀ → OneHere s e at depth b₀ → (at + 2 ≤ tp) × (tp ≤ p) × (p ≤ length s)
+    children-room y h = let w = seen (h .0) (h .2) (h .3) .within in (w .0, w .1, omega arith)
+
+    pub place-room : Ready s at depth k b₀ l₀ → OneHere s e at depth b₀ → k < 2048
+    place-room y h = let w = children-room y h in let f = y .fits in let c = y .place in omega arith
+
+    to-view : (t : Tree) (Γ : Ctx) (q : ℕ) (v : View s e at t q g n tp p m a b) (b₁ l₁ : List ℕ) (r : Bound)
+        → Walk s (node (head g n (v .us)) (v .ks)) Γ depth k q b₀ l₀ b₁ l₁ r → Walk s t Γ depth k q b₀ l₀ b₁ l₁ r
+    to-view t Γ q v b₁ l₁ r w = subst (λ (u : Tree). Walk s u Γ depth k q b₀ l₀ b₁ l₁ r) (sym (v .is)) w
+
+    module _ (y : Ready s at depth k b₀ l₀) where
+      -- a bound identifier
+      module _ (is : g ≡ boundTag) where
+        index-none : depth ≤ n → BoundPost s e at depth k b₀ l₀ b₀ l₀ Refused
+        index-none le = record {
+          by = λ t Γ q i o. (let v = seen t q i in to-view t Γ q v b₀ l₀ Refused (walk-none s g n (v .us) Γ is depth k q b₀ l₀ (y .binders-size) (y .leaves-size) o (v .ks) le));
+        }
+
+        leaf-end : (t : Tree) (q : ℕ) (v : View s e at t q g n tp p m a b) → (v .ks ≡ nil) × (p ≡ q)
+        leaf-end t q v =
+            let z : kindsFor m a b ≡ [] = v .top .sorts ∙ no-sorts g _ is in
+            kids-none s 0 a b p (v .ks) q (subst (λ (es : List Sort). KidsAt s es p (v .ks) q) z (v .below)) refl
+
+        index-some : k < 2048 → n < depth → BoundPost s e at depth k b₀ l₀ b₀ (set l₀ k (getD b₀ (depth - 1 - n) 0)) (Ends p (k + 1))
+        index-some r lt = record { by = λ t Γ q i o. (let v = seen t q i in to-view t Γ q v b₀ l₁ (Ends p (k + 1)) (at-leaf t Γ q v o)) }
+          where
+            l₁ : List ℕ
+            l₁ = set l₀ k (getD b₀ (depth - 1 - n) 0)
+
+            at-leaf : (t : Tree) (Γ : Ctx) (q : ℕ) (v : View s e at t q g n tp p m a b) → Opened s Γ b₀ depth → Walk s (node (head g n (v .us)) (v .ks)) Γ depth k q b₀ l₀ b₀ l₁ (Ends p (k + 1))
+            at-leaf t Γ q v o =
+                let z = leaf-end t q v in
+                let w : Walk s (node (head g n (v .us)) nil) Γ depth k q b₀ l₀ b₀ (set l₀ k (getD b₀ (depth - 1 - n) 0)) (Ends q (k + 1)) = walk-leaf s g n (v .us) Γ is depth k q b₀ l₀ (y .binders-size) (y .leaves-size) o lt r in
+                rw (z .0, z .1) w
+
+        pub node-leaf : k < 2048 → (l₁ : List ℕ) (r : Bound) → LeafPost depth n k p b₀ l₀ l₁ r → BoundPost s e at depth k b₀ l₀ b₀ l₁ r
+        node-leaf room l₁ r w = go (ltb n depth) refl
+          where
+            go : (c : Bool) → ltb n depth ≡ c → BoundPost s e at depth k b₀ l₀ b₀ l₁ r
+            go true q = let lt = ltb-true n depth q in let f = w .some lt in rw (f .0, f .1) (index-some room lt)
+            go false q = let le = ltb-false n depth q in let f = w .none le in rw (f .0, f .1) (index-none le)
+
+      -- any other node
+      module _ (ne : g ≡ boundTag → ⊥) where
+        pub enter-types : OneHere s e at depth b₀ → (d : Sort) × (x : ℕ) × (us : List Ty) × (c : ℕ) × Spans s tp p (encTys us) × HeadWf d g x us c
+        enter-types h = let v = seen (h .0) (h .2) (h .3) in (e, n, v .us, count (v .ks), v .top .types, v .top .wf)
+
+        module _ (b₁ : List ℕ) (inside : ℕ) (op : EnterPost s g tp p depth b₀ b₁ inside) where
+          entered : (t : Tree) (q : ℕ) (v : View s e at t q g n tp p m a b)
+              → (depth ≤ inside) × (inside ≤ depth + length (v .us)) × ((Γ : Ctx) → Opened s Γ b₀ depth → Opened s (under g (v .us) Γ) b₁ inside)
+          entered t q v = op .by e n (v .us) (count (v .ks)) (v .top .types) (v .top .wf)
+
+          pub node-next : OneHere s e at depth b₀ → Ready s p inside (k + 1) b₁ l₀ × KidsHere s (kindsFor m a b) p inside b₁
+          node-next h =
+              let v = seen (h .0) (h .2) (h .3) in
+              let w = children-room y h in
+              let f = entered (h .0) (h .2) v in
+              let c = y .opened in
+              let d = y .place in
+              let z = f .1 in
+              (record { fits = y .fits; within = w .2; opened = omega (arith, tys-long (v .us), v .top .types .long); place = omega arith; binders-size = op .size; leaves-size = y .leaves-size }, (v .ks, under g (v .us) (h .1), h .2, v .below, f .2 (h .1) (h .4)))
+
+          pub node-kids : (b₂ l₂ : List ℕ) (r : Bound) → BoundKids s (kindsFor m a b) p inside (k + 1) b₁ l₀ b₂ l₂ r → BoundPost s e at depth k b₀ l₀ b₂ l₂ r
+          node-kids b₂ l₂ r w = record {
+            by = λ t Γ q i o. (let v = seen t q i in let f = entered t q v in
+                to-view t Γ q v b₂ l₂ r (walk-node g n (v .us) (v .ks) Γ ne s depth inside k q b₀ l₀ b₁ b₂ l₂ r (f .0) (op .kept) (w .by (v .ks) (under g (v .us) Γ) q (v .below) (f .2 Γ o))));
+          }
+
+-- ---- answers
+answer-no : (c : Bool) (q j : ℕ) → Refused ≡ boundAnswer c q j → c ≡ false
+answer-no true q j e = let z : _≡_ {A = ℕ} 0 1 = cc in absurd (omega arith)
+answer-no false q j e = refl
+
+answer-yes : (c : Bool) (q j p i : ℕ) → Ends p i ≡ boundAnswer c q j → (c ≡ true) × (p ≡ q) × (i ≡ j)
+answer-yes true q j p i e = (refl, cc, cc)
+answer-yes false q j p i e = let z : _≡_ {A = ℕ} 0 1 = cc in absurd (omega arith)
+
+-- ---- trees in a row
+abbrev WalkAll : List ℕ → Forest → Ctx → ℕ → ℕ → ℕ → List ℕ → List ℕ → List ℕ → List ℕ → Bound → Type 0
+WalkAll s ts Γ depth k q b₀ l₀ b₁ l₁ r = Walked (closedForest ts Γ) (LeavesIn ts Γ k s) depth k (k + nodesIn ts) q b₀ l₀ b₁ l₁ r
+
+walk-nil : (s : List ℕ) (Γ : Ctx) (depth k q : ℕ) (b l : List ℕ) → length b ≡ 4096 → length l ≡ 2048 → WalkAll s nil Γ depth k q b l b l (Ends q k)
+unfolding closedTree LeavesAt nodes
+walk-nil s Γ depth k q b l bl ll =
+    let z : k ≡ k + 0 = omega arith in
+    record { answer = ap (Ends q) z; leaves = λ f. tt; others = λ i f. refl; kept = λ i f. refl; binders-size = bl; leaves-size = ll }
+
+module _ (s : List ℕ) (t : Tree) (ts : Forest) (Γ : Ctx) (depth k q p : ℕ) (b₀ l₀ b₁ l₁ : List ℕ) where
+  walk-stop : Walk s t Γ depth k p b₀ l₀ b₁ l₁ Refused → WalkAll s (cons t ts) Γ depth k q b₀ l₀ b₁ l₁ Refused
+  unfolding closedTree LeavesAt nodes
+  walk-stop w =
+      let c = answer-no (closedTree t Γ) p (k + nodes t) (w .answer) in
+      let d : (closedTree t Γ && closedForest ts Γ) ≡ false = rw c in
+      record {
+        answer = sym (ap (λ (x : Bool). boundAnswer x q (k + (nodes t + nodesIn ts))) d);
+        leaves = λ f. true-not (sym d ∙ f);
+        others = λ i f. w .others i (sooner i f);
+        kept = w .kept;
+        binders-size = w .binders-size;
+        leaves-size = w .leaves-size;
+      }
+    where
+      sooner : (i : ℕ) → (i < k) ⊎ (k + (nodes t + nodesIn ts) ≤ i) → (i < k) ⊎ (k + nodes t ≤ i)
+      sooner i (inl h) = inl h
+      sooner i (inr h) = inr (omega arith)
+
+  walk-cons : (b₂ l₂ : List ℕ) (r : Bound) → Walk s t Γ depth k p b₀ l₀ b₁ l₁ (Ends p (k + nodes t)) → WalkAll s ts Γ depth (k + nodes t) q b₁ l₁ b₂ l₂ r
+      → WalkAll s (cons t ts) Γ depth k q b₀ l₀ b₂ l₂ r
+  unfolding closedTree LeavesAt nodes
+  walk-cons b₂ l₂ r w v =
+      let c = answer-yes (closedTree t Γ) p (k + nodes t) p (k + nodes t) (w .answer) .0 in
+      let d : closedForest ts Γ ≡ (closedTree t Γ && closedForest ts Γ) = rw c in
+      let z : k + nodes t + nodesIn ts ≡ k + (nodes t + nodesIn ts) = omega arith in
+      record {
+        answer = v .answer ∙ ap₂ (λ (x : Bool) (j : ℕ). boundAnswer x q j) d z;
+        leaves = λ f. (leaves-same t Γ k s l₁ l₂ (k + nodes t) (omega arith) (λ i h. v .others i (inl h)) (w .leaves c), v .leaves (d ∙ f));
+        others = λ i f. v .others i (later i f) ∙ w .others i (sooner i f);
+        kept = λ i f. v .kept i f ∙ w .kept i f;
+        binders-size = v .binders-size;
+        leaves-size = v .leaves-size;
+      }
+    where
+      sooner : (i : ℕ) → (i < k) ⊎ (k + (nodes t + nodesIn ts) ≤ i) → (i < k) ⊎ (k + nodes t ≤ i)
+      sooner i (inl h) = inl h
+      sooner i (inr h) = inr (omega arith)
+
+      later : (i : ℕ) → (i < k) ⊎ (k + (nodes t + nodesIn ts) ≤ i) → (i < k + nodes t) ⊎ (k + nodes t + nodesIn ts ≤ i)
+      later i (inl h) = inl (omega arith)
+      later i (inr h) = inr (omega arith)
+
+-- ---- bind_kids
+module _ (s : List ℕ) (n : ℕ) (a b : Bool) (at depth k : ℕ) (b₀ l₀ : List ℕ) (y : Ready s at depth k b₀ l₀) where
+  pub kids-over : n ≡ 0 → BoundKids s (kindsFor n a b) at depth k b₀ l₀ b₀ l₀ (Ends at k)
+  kids-over z = record {
+    by = λ ts Γ q i o. (let v = kids-none s n a b at ts q i z in
+        rw (v .0, v .1) (walk-nil s Γ depth k q b₀ l₀ (y .binders-size) (y .leaves-size)));
+  }
+
+  module _ (d : n ≡ 0 → ⊥) where
+    parts : (ts : Forest) (q : ℕ) → KidsAt s (kindsFor n a b) at ts q → KidsView s n a b at ts q
+    parts ts q i = kids-some s n a b at ts q i d
+
+    pub first-here : KidsHere s (kindsFor n a b) at depth b₀ → OneHere s (sortFor a) at depth b₀
+    first-here h = let v = parts (h .0) (h .2) (h .3) in (v .first, h .1, v .mid, v .one, h .4)
+
+    module _ (b₁ l₁ : List ℕ) (r₁ : Bound) (post : BoundPost s (sortFor a) at depth k b₀ l₀ b₁ l₁ r₁) where
+      pub kids-no : r₁ ≡ Refused → BoundKids s (kindsFor n a b) at depth k b₀ l₀ b₁ l₁ Refused
+      kids-no er = record {
+        by = λ ts Γ q i o. (let v = parts ts q i in
+            rw (v .is) (walk-stop s (v .first) (v .rest) Γ depth k q (v .mid) b₀ l₀ b₁ l₁ (subst (Walk s (v .first) Γ depth k (v .mid) b₀ l₀ b₁ l₁) er (post .by (v .first) Γ (v .mid) (v .one) o))));
+      }
+
+      module _ (p j : ℕ) (er : r₁ ≡ Ends p j) where
+        -- the first has been gone over
+        over : (ts : Forest) (Γ : Ctx) (q : ℕ) (v : KidsView s n a b at ts q) → Opened s Γ b₀ depth
+            → (v .mid ≡ p) × (k + nodes (v .first) ≡ j) × Walk s (v .first) Γ depth k (v .mid) b₀ l₀ b₁ l₁ (Ends (v .mid) (k + nodes (v .first)))
+        over ts Γ q v o =
+            let w = post .by (v .first) Γ (v .mid) (v .one) o in
+            let c = answer-yes (closedTree (v .first) Γ) (v .mid) (k + nodes (v .first)) p j (sym er ∙ w .answer) in
+            let z : r₁ ≡ Ends (v .mid) (k + nodes (v .first)) = er ∙ ap₂ (λ (x i : ℕ). Ends x i) (c .1) (c .2) in
+            (sym (c .1), sym (c .2), subst (Walk s (v .first) Γ depth k (v .mid) b₀ l₀ b₁ l₁) z w)
+
+        pub rest-next : Bytes s → KidsHere s (kindsFor n a b) at depth b₀ → (at + 2 ≤ p) × Ready s p depth j b₁ l₁ × KidsHere s (kindsFor (n - 1) b b) p depth b₁
+        rest-next bs h =
+            let v = parts (h .0) (h .2) (h .3) in
+            let w = over (h .0) (h .1) (h .2) v (h .4) in
+            let x = w .2 in
+            let c = at-end s bs (sortFor a) at (v .first) (v .mid) (v .one) in
+            let f = at-span s bs (sortFor a) at (v .first) (v .mid) (v .one) in
+            let z₀ = w .0 in
+            let z₁ = w .1 in
+            let g = y .opened in
+            let m = y .place in
+            let others : KidsAt s (kindsFor (n - 1) b b) p (v .rest) (h .2) = subst (λ (i : ℕ). KidsAt s (kindsFor (n - 1) b b) i (v .rest) (h .2)) z₀ (v .others) in (
+              omega arith,
+              record {
+                fits = y .fits;
+                within = omega arith;
+                opened = omega arith;
+                place = omega (arith, nodes-enc (v .first), f .long);
+                binders-size = x .binders-size;
+                leaves-size = x .leaves-size;
+              },
+              (v .rest, h .1, h .2, others, opened-below s (h .1) b₀ b₁ depth (x .kept) (h .4)),
+            )
+
+        pub kids-yes : (b₂ l₂ : List ℕ) (r : Bound) → BoundKids s (kindsFor (n - 1) b b) p depth j b₁ l₁ b₂ l₂ r → BoundKids s (kindsFor n a b) at depth k b₀ l₀ b₂ l₂ r
+        kids-yes b₂ l₂ r rest = record { by = λ ts Γ q i o. at-cons ts Γ q (parts ts q i) o }
+          where
+            at-cons : (ts : Forest) (Γ : Ctx) (q : ℕ) → KidsView s n a b at ts q → Opened s Γ b₀ depth → WalkAll s ts Γ depth k q b₀ l₀ b₂ l₂ r
+            at-cons ts Γ q v o =
+                let w = over ts Γ q v o in
+                let x = w .2 in
+                let others : KidsAt s (kindsFor (n - 1) b b) p (v .rest) q = subst (λ (i : ℕ). KidsAt s (kindsFor (n - 1) b b) i (v .rest) q) (w .0) (v .others) in
+                let u = rest .by (v .rest) Γ q others (opened-below s Γ b₀ b₁ depth (x .kept) o) in
+                let z : WalkAll s (v .rest) Γ depth (k + nodes (v .first)) q b₁ l₁ b₂ l₂ r = subst (λ (i : ℕ). WalkAll s (v .rest) Γ depth i q b₁ l₁ b₂ l₂ r) (sym (w .1)) u in
+                rw (v .is) (walk-cons s (v .first) (v .rest) Γ depth k q (v .mid) b₀ l₀ b₁ l₁ b₂ l₂ r x z)
+
+-- ---- binding_ok
+pub ready-first : (s l₀ : List ℕ) → length s ≤ frameLimit → length l₀ ≡ 2048 → Ready s 0 0 0 (replicate 4096 0) l₀
+ready-first s l₀ f z = record {
+  fits = f;
+  within = omega arith;
+  opened = omega arith;
+  place = omega arith;
+  binders-size = length-replicate {A = ℕ} 4096 0;
+  leaves-size = z;
+}
+
+module _ (s : List ℕ) (l₀ : List ℕ) (b₀ b₁ l₁ : List ℕ) (r : Bound) (h : (t : Tree) × IsAt s predicate 0 t (length s)) (post : BoundPost s predicate 0 0 0 b₀ l₀ b₁ l₁ r) where
+  at-root : (t : Tree) → IsAt s predicate 0 t (length s) → Walk s t [] 0 0 (length s) b₀ l₀ b₁ l₁ r
+  at-root t i = post .by t [] (length s) i tt
+
+  root-others : (t : Tree) → IsAt s predicate 0 t (length s) → Outside 0 (nodes t) l₀ l₁
+  root-others t i = let z : 0 + nodes t ≡ nodes t = omega arith in subst (λ (j : ℕ). Outside 0 j l₀ l₁) z (at-root t i .others)
+
+  pub frame-refused : r ≡ Refused → BindingPost s l₀ l₁ false
+  frame-refused er = record {
+    size = at-root (h .0) (h .1) .leaves-size;
+    answer = λ t i. sym (answer-no (closedTree t []) (length s) (0 + nodes t) (sym er ∙ at-root t i .answer));
+    leaves = λ f. true-not f;
+    others = root-others;
+  }
+
+  pub frame-bound : (p j : ℕ) → r ≡ Ends p j → BindingPost s l₀ l₁ true
+  frame-bound p j er = record {
+    size = at-root (h .0) (h .1) .leaves-size;
+    answer = λ t i. sym (closed t i);
+    leaves = λ f t i. at-root t i .leaves (closed t i);
+    others = root-others;
+  }
+    where
+      closed : (t : Tree) → IsAt s predicate 0 t (length s) → closedTree t [] ≡ true
+      closed t i = answer-yes (closedTree t []) (length s) (0 + nodes t) p j (sym er ∙ at-root t i .answer) .0

@@ -1,0 +1,281 @@
+use Prim.Native.Nat.{_+_, _*_, _-_}
+use lib.ListN.{length}
+use borrow.Author.Needs.{needs}
+use native.Mathlib.Omega.{arith}
+use Rattle.typing.proofs.BoundWalk.{bound-never, children-room, place-room, node-leaf, enter-types, node-next, node-kids, kids-over, first-here, kids-no, rest-next, kids-yes}
+use Prim.Native.Nat.{ℕ, _<_}
+use borrow.Fn.Kinds.{In}
+use borrow.Fn.PlainCycle.{Measures, is, falls, and}
+use Rattle.typing.proofs.binding.bind_kids.Reads as bind-kids
+use Rattle.typing.proofs.binding.bind_kids.Kinds as bind-kids-kinds
+use Rattle.typing.proofs.binding.+bind_kids+bind_node.Lts-bind_kids as bind-kids-lts
+use Rattle.typing.proofs.binding.bind_node.Reads as bind-node
+use Rattle.typing.proofs.binding.bind_node.Kinds as bind-node-kinds
+use Rattle.typing.proofs.binding.+bind_kids+bind_node.Lts-bind_node as bind-node-lts
+use Rattle.frame.proofs.reading.read_head.Reads as read-head-reads
+use Rattle.typing.proofs.binding.bind_leaf.Reads as bind-leaf-reads
+use Rattle.typing.proofs.binding.enter.Reads as enter-reads
+use Rattle.typing.proofs.binding.+bind_kids+bind_node.{statement}
+use Rattle.typing.proofs.binding.+bind_kids+bind_node.Tie.{close}
+
+abbrev μ-bind-kids : Measures 3 bind-kids-kinds.ps ℕ
+μ-bind-kids κs a = 2 * (length (a .0 .now) - a .1 .0) + 1
+
+abbrev μ-bind-node : Measures 3 bind-node-kinds.ps ℕ
+μ-bind-node κs a = 2 * (length (a .0 .now) - a .1 .0)
+
+abbrev bind-kids-at : ℕ → In 3 bind-kids-kinds.ps
+bind-kids-at t = and 3 bind-kids-kinds.ps (is 3 bind-kids-kinds.ps μ-bind-kids t) bind-kids.Pre
+
+abbrev bind-kids-below : ℕ → In 3 bind-kids-kinds.ps
+bind-kids-below t =
+    and 3 bind-kids-kinds.ps (falls 3 bind-kids-kinds.ps _<_ μ-bind-kids t) bind-kids.Pre
+
+abbrev bind-node-at : ℕ → In 3 bind-node-kinds.ps
+bind-node-at t = and 3 bind-node-kinds.ps (is 3 bind-node-kinds.ps μ-bind-node t) bind-node.Pre
+
+abbrev bind-node-below : ℕ → In 3 bind-node-kinds.ps
+bind-node-below t =
+    and 3 bind-node-kinds.ps (falls 3 bind-node-kinds.ps _<_ μ-bind-node t) bind-node.Pre
+
+-- src/binding.rt:149:9
+bind-kids-returns : (t : ℕ) → bind-kids-lts.Need-returns (
+  bind-node-below t,
+  bind-node.Post,
+  bind-kids-below t,
+  bind-kids.Post,
+) (bind-kids-at t) bind-kids.Post
+bind-kids-returns t c = kids-over _ _ _ _ _ _ _ _ _ (c .before .before .pre .1 .0) (c .if1 .taken)
+
+-- src/binding.rt:151:9
+bind-kids-bind-node-requires : (t : ℕ) → bind-kids-lts.Need-bind-node-requires (
+  bind-node-below t,
+  bind-node.Post,
+  bind-kids-below t,
+  bind-kids.Post,
+) (bind-kids-at t) bind-kids.Post
+bind-kids-bind-node-requires t c κs = (omega arith, (c .before .before .before .before .pre .1 .0, first-here _ _ _ _ _ _ _ _ _ (c .before .before .before .before .pre .1 .0) (c .before .before .if1 .left) (c .before .before .before .before .pre .1 .1)))
+
+-- src/binding.rt:153:27
+bind-kids-enum-told : (t : ℕ) → bind-kids-lts.Need-enum-told (
+  bind-node-below t,
+  bind-node.Post,
+  bind-kids-below t,
+  bind-kids.Post,
+) (bind-kids-at t) bind-kids.Post
+bind-kids-enum-told t c = search needs
+
+-- src/binding.rt:154:21
+bind-kids-enum-known-a : (t : ℕ) → bind-kids-lts.Need-enum-known-a (
+  bind-node-below t,
+  bind-node.Post,
+  bind-kids-below t,
+  bind-kids.Post,
+) (bind-kids-at t) bind-kids.Post
+bind-kids-enum-known-a t c = search needs
+
+-- src/binding.rt:154:46
+bind-kids-sub-bind-kids : (t : ℕ) → bind-kids-lts.Need-sub-bind-kids (
+  bind-node-below t,
+  bind-node.Post,
+  bind-kids-below t,
+  bind-kids.Post,
+) (bind-kids-at t) bind-kids.Post
+bind-kids-sub-bind-kids t c = omega arith
+
+-- src/binding.rt:154:30
+bind-kids-bind-kids-requires : (t : ℕ) → bind-kids-lts.Need-bind-kids-requires (
+  bind-node-below t,
+  bind-node.Post,
+  bind-kids-below t,
+  bind-kids.Post,
+) (bind-kids-at t) bind-kids.Post
+bind-kids-bind-kids-requires t c κs = let f = rest-next _ _ _ _ _ _ _ _ _ (c .before .before .before .before .before .before .before .before .before .before .pre .1 .0) (c .before .before .before .before .before .before .before .before .if1 .left) _ _ _ (c .before .before .before .before .before .bind-node .ensures) _ _ (c .before .before .before .a .given .1) (λ i. c .before .before .before .before .before .before .before .before .before .shared-slice-known .given i .fits) (c .before .before .before .before .before .before .before .before .before .before .pre .1 .1) in (omega arith, (f .1, f .2))
+
+-- src/binding.rt:134:1
+bind-kids-returns-2 : (t : ℕ) → bind-kids-lts.Need-returns-2 (
+  bind-node-below t,
+  bind-node.Post,
+  bind-kids-below t,
+  bind-kids.Post,
+) (bind-kids-at t) bind-kids.Post
+bind-kids-returns-2 t c = kids-no _ _ _ _ _ _ _ _ _ (c .before .before .before .before .before .before .before .pre .1 .0) (c .before .before .before .before .before .if1 .left) _ _ _ (c .before .before .bind-node .ensures) (c .enum-told .given .1)
+
+-- src/binding.rt:134:1
+bind-kids-returns-3 : (t : ℕ) → bind-kids-lts.Need-returns-3 (
+  bind-node-below t,
+  bind-node.Post,
+  bind-kids-below t,
+  bind-kids.Post,
+) (bind-kids-at t) bind-kids.Post
+bind-kids-returns-3 t c = kids-yes _ _ _ _ _ _ _ _ _ (c .before .before .before .before .before .before .before .before .before .before .before .pre .1 .0) (c .before .before .before .before .before .before .before .before .before .if1 .left) _ _ _ (c .before .before .before .before .before .before .bind-node .ensures) _ _ (c .before .before .before .before .a .given .1) _ _ _ (c .bind-kids .ensures)
+
+-- src/binding.rt:102:9
+bind-node-read-head-requires : (t : ℕ) → bind-node-lts.Need-read-head-requires (
+  read-head-reads.Asked,
+  read-head-reads.Learnt,
+  bind-leaf-reads.Asked,
+  bind-leaf-reads.Learnt,
+  enter-reads.Asked,
+  enter-reads.Learnt,
+  bind-kids-below t,
+  bind-kids.Post,
+) (bind-node-at t) bind-node.Post
+bind-node-read-head-requires t c κs = c .before .pre .1 .0 .within
+
+-- src/binding.rt:104:29
+bind-node-enum-known-h : (t : ℕ) → bind-node-lts.Need-enum-known-h (
+  read-head-reads.Asked,
+  read-head-reads.Learnt,
+  bind-leaf-reads.Asked,
+  bind-leaf-reads.Learnt,
+  enter-reads.Asked,
+  enter-reads.Learnt,
+  bind-kids-below t,
+  bind-kids.Post,
+) (bind-node-at t) bind-node.Post
+bind-node-enum-known-h t c = search needs
+
+-- src/binding.rt:106:13
+bind-node-enum-known-h-2 : (t : ℕ) → bind-node-lts.Need-enum-known-h-2 (
+  read-head-reads.Asked,
+  read-head-reads.Learnt,
+  bind-leaf-reads.Asked,
+  bind-leaf-reads.Learnt,
+  enter-reads.Asked,
+  enter-reads.Learnt,
+  bind-kids-below t,
+  bind-kids.Post,
+) (bind-node-at t) bind-node.Post
+bind-node-enum-known-h-2 t c = search needs
+
+-- src/binding.rt:115:17
+bind-node-bind-leaf-requires : (t : ℕ) → bind-node-lts.Need-bind-leaf-requires (
+  read-head-reads.Asked,
+  read-head-reads.Learnt,
+  bind-leaf-reads.Asked,
+  bind-leaf-reads.Learnt,
+  enter-reads.Asked,
+  enter-reads.Learnt,
+  bind-kids-below t,
+  bind-kids.Post,
+) (bind-node-at t) bind-node.Post
+bind-node-bind-leaf-requires t c κs = (omega (arith, c .before .before .before .before .before .before .before .before .pre .1 .0 .opened, c .before .before .before .before .before .before .before .before .pre .1 .0 .within, c .before .before .before .before .before .before .before .before .pre .1 .0 .fits), place-room _ _ _ _ _ _ _ _ (c .before .before .before .before .before .before .read-head .ensures) (λ i. c .before .before .before .before .before .before .before .shared-slice-known .given i .fits) _ _ _ _ _ _ _ (c .before .before .before .before .h2 .given .1) (c .before .before .before .before .before .before .before .before .pre .1 .0) (c .before .before .before .before .before .before .before .before .pre .1 .1))
+
+-- src/binding.rt:115:17
+bind-node-returns : (t : ℕ) → bind-node-lts.Need-returns (
+  read-head-reads.Asked,
+  read-head-reads.Learnt,
+  bind-leaf-reads.Asked,
+  bind-leaf-reads.Learnt,
+  enter-reads.Asked,
+  enter-reads.Learnt,
+  bind-kids-below t,
+  bind-kids.Post,
+) (bind-node-at t) bind-node.Post
+bind-node-returns t c = node-leaf _ _ _ _ _ _ _ _ (c .before .before .before .before .before .before .before .read-head .ensures) (λ i. c .before .before .before .before .before .before .before .before .shared-slice-known .given i .fits) _ _ _ _ _ _ _ (c .before .before .before .before .before .h2 .given .1) (c .before .before .before .before .before .before .before .before .before .pre .1 .0) (c .before .before .before .if1 .taken) (place-room _ _ _ _ _ _ _ _ (c .before .before .before .before .before .before .before .read-head .ensures) (λ i. c .before .before .before .before .before .before .before .before .shared-slice-known .given i .fits) _ _ _ _ _ _ _ (c .before .before .before .before .before .h2 .given .1) (c .before .before .before .before .before .before .before .before .before .pre .1 .0) (c .before .before .before .before .before .before .before .before .before .pre .1 .1)) _ _ (c .bind-leaf .ensures)
+
+-- src/binding.rt:117:17
+bind-node-enter-requires : (t : ℕ) → bind-node-lts.Need-enter-requires (
+  read-head-reads.Asked,
+  read-head-reads.Learnt,
+  bind-leaf-reads.Asked,
+  bind-leaf-reads.Learnt,
+  enter-reads.Asked,
+  enter-reads.Learnt,
+  bind-kids-below t,
+  bind-kids.Post,
+) (bind-node-at t) bind-node.Post
+bind-node-enter-requires t c κs = let w = children-room _ _ _ _ _ _ _ _ (c .before .before .before .before .before .read-head .ensures) (λ i. c .before .before .before .before .before .before .shared-slice-known .given i .fits) _ _ _ _ _ _ _ (c .before .before .before .h2 .given .1) (c .before .before .before .before .before .before .before .pre .1 .0) (c .before .before .before .before .before .before .before .pre .1 .1) in (c .before .before .before .before .before .before .before .pre .1 .0 .fits, omega arith, c .before .before .before .before .before .before .before .pre .1 .0 .binders-size, enter-types _ _ _ _ _ _ _ _ (c .before .before .before .before .before .read-head .ensures) (λ i. c .before .before .before .before .before .before .shared-slice-known .given i .fits) _ _ _ _ _ _ _ (c .before .before .before .h2 .given .1) (c .before .before .before .before .before .before .before .pre .1 .0) (c .before .if1 .left) (c .before .before .before .before .before .before .before .pre .1 .1))
+
+-- src/binding.rt:127:17
+bind-node-add-bind-kids : (t : ℕ) → bind-node-lts.Need-add-bind-kids (
+  read-head-reads.Asked,
+  read-head-reads.Learnt,
+  bind-leaf-reads.Asked,
+  bind-leaf-reads.Learnt,
+  enter-reads.Asked,
+  enter-reads.Learnt,
+  bind-kids-below t,
+  bind-kids.Post,
+) (bind-node-at t) bind-node.Post
+bind-node-add-bind-kids t c = omega (arith, place-room _ _ _ _ _ _ _ _ (c .before .before .before .before .before .before .before .before .read-head .ensures) (λ i. c .before .before .before .before .before .before .before .before .before .shared-slice-known .given i .fits) _ _ _ _ _ _ _ (c .before .before .before .before .before .before .h2 .given .1) (c .before .before .before .before .before .before .before .before .before .before .pre .1 .0) (c .before .before .before .before .before .before .before .before .before .before .pre .1 .1))
+
+-- src/binding.rt:118:13
+bind-node-bind-kids-requires : (t : ℕ) → bind-node-lts.Need-bind-kids-requires (
+  read-head-reads.Asked,
+  read-head-reads.Learnt,
+  bind-leaf-reads.Asked,
+  bind-leaf-reads.Learnt,
+  enter-reads.Asked,
+  enter-reads.Learnt,
+  bind-kids-below t,
+  bind-kids.Post,
+) (bind-node-at t) bind-node.Post
+bind-node-bind-kids-requires t c κs = let w = children-room _ _ _ _ _ _ _ _ (c .before .before .before .before .before .before .before .before .read-head .ensures) (λ i. c .before .before .before .before .before .before .before .before .before .shared-slice-known .given i .fits) _ _ _ _ _ _ _ (c .before .before .before .before .before .before .h2 .given .1) (c .before .before .before .before .before .before .before .before .before .before .pre .1 .0) (c .before .before .before .before .before .before .before .before .before .before .pre .1 .1) in let f = node-next _ _ _ _ _ _ _ _ (c .before .before .before .before .before .before .before .before .read-head .ensures) (λ i. c .before .before .before .before .before .before .before .before .before .shared-slice-known .given i .fits) _ _ _ _ _ _ _ (c .before .before .before .before .before .before .h2 .given .1) (c .before .before .before .before .before .before .before .before .before .before .pre .1 .0) (c .before .before .before .before .if1 .left) _ _ (c .before .before .enter .ensures) (c .before .before .before .before .before .before .before .before .before .before .pre .1 .1) in (omega arith, f)
+
+-- src/binding.rt:90:1
+bind-node-returns-2 : (t : ℕ) → bind-node-lts.Need-returns-2 (
+  read-head-reads.Asked,
+  read-head-reads.Learnt,
+  bind-leaf-reads.Asked,
+  bind-leaf-reads.Learnt,
+  enter-reads.Asked,
+  enter-reads.Learnt,
+  bind-kids-below t,
+  bind-kids.Post,
+) (bind-node-at t) bind-node.Post
+bind-node-returns-2 t c = bound-never _ _ _ _ _ _ _ _ (c .before .before .before .read-head .ensures) _ (c .before .h .given .1) (c .before .before .before .before .before .pre .1 .0) (c .before .before .before .before .before .pre .1 .1)
+
+-- src/binding.rt:90:1
+bind-node-returns-3 : (t : ℕ) → bind-node-lts.Need-returns-3 (
+  read-head-reads.Asked,
+  read-head-reads.Learnt,
+  bind-leaf-reads.Asked,
+  bind-leaf-reads.Learnt,
+  enter-reads.Asked,
+  enter-reads.Learnt,
+  bind-kids-below t,
+  bind-kids.Post,
+) (bind-node-at t) bind-node.Post
+bind-node-returns-3 t c = node-kids _ _ _ _ _ _ _ _ (c .before .before .before .before .before .before .before .before .before .read-head .ensures) (λ i. c .before .before .before .before .before .before .before .before .before .before .shared-slice-known .given i .fits) _ _ _ _ _ _ _ (c .before .before .before .before .before .before .before .h2 .given .1) (c .before .before .before .before .before .before .before .before .before .before .before .pre .1 .0) (c .before .before .before .before .before .if1 .left) _ _ (c .before .before .before .enter .ensures) _ _ _ (c .bind-kids .ensures)
+
+pub +bind-kids+bind-node-spec : {M : Type 1} → statement M
++bind-kids+bind-node-spec = close μ-bind-kids μ-bind-node (λ t. bind-kids-lts.spec (
+  bind-node-below t,
+  bind-node.Post,
+  bind-kids-below t,
+  bind-kids.Post,
+)
+    (bind-kids-at t)
+    bind-kids.Post
+    (bind-kids-returns t)
+    (bind-kids-bind-node-requires t)
+    (bind-kids-enum-told t)
+    (bind-kids-enum-known-a t)
+    (bind-kids-sub-bind-kids t)
+    (bind-kids-bind-kids-requires t)
+    (bind-kids-returns-2 t)
+    (bind-kids-returns-3 t))
+    λ t. bind-node-lts.spec (
+      read-head-reads.Asked,
+      read-head-reads.Learnt,
+      bind-leaf-reads.Asked,
+      bind-leaf-reads.Learnt,
+      enter-reads.Asked,
+      enter-reads.Learnt,
+      bind-kids-below t,
+      bind-kids.Post,
+    )
+    (bind-node-at t)
+    bind-node.Post
+    (bind-node-read-head-requires t)
+    (bind-node-enum-known-h t)
+    (bind-node-enum-known-h-2 t)
+    (bind-node-bind-leaf-requires t)
+    (bind-node-returns t)
+    (bind-node-enter-requires t)
+    (bind-node-add-bind-kids t)
+    (bind-node-bind-kids-requires t)
+    (bind-node-returns-2 t)
+    (bind-node-returns-3 t)

@@ -1,0 +1,31 @@
+use native.Mathlib.Omega.{arith}
+use Rattle.typing.proofs.Noting.{type-short, type-bytes}
+use borrow.Author.Needs.{needs}
+use Rattle.typing.proofs.identifiers.same_type.Statement.{statement}
+use Rattle.typing.proofs.identifiers.same_type.Tie as tie
+use Rattle.typing.proofs.identifiers.same_type.Reads as reads
+use Rattle.typing.proofs.identifiers.same_type.Lts as lts
+use Rattle.typing.proofs.identifiers.same_bytes.Reads as same-bytes-reads
+
+-- src/identifiers.rt:47:13
+sub-n : tie.Need-sub-n
+sub-n c = search needs
+
+-- src/identifiers.rt:48:18
+add-if1 : tie.Need-add-if1
+add-if1 c = search needs
+
+-- src/identifiers.rt:49:9
+returns : tie.Need-returns
+returns c = type-short _ _ _ _ (omega arith)
+
+-- src/identifiers.rt:51:5
+same-bytes-requires : tie.Need-same-bytes-requires
+same-bytes-requires c κs = search needs
+
+-- src/identifiers.rt:43:1
+returns-2 : tie.Need-returns-2
+returns-2 c = type-bytes _ _ _ _ (c .before .before .before .pre .0) (omega arith) _ (c .same-bytes .ensures)
+
+pub same-type-spec : {M : Type 1} → statement M
+same-type-spec = tie.close (tie.spec sub-n add-if1 returns same-bytes-requires returns-2)

@@ -1,0 +1,117 @@
+-- Number 9 as the code decides it: an identifier claims its type for its number, and a given set in a carried type claims
+-- the power of that set for its own. The names agree exactly if no number has claims of two types (typing/proofs/Claims.antt).
+use mathlib.Core.Path.{_≡_}
+use mathlib.Core.Bool.{Bool, true, false}
+use mathlib.Core.List.{List, [], _∷_, _++_}
+use Prim.Native.Nat.{ℕ, suc, _+_, _-_, _≤_, _<_}
+use lib.ListN.{length, take, drop, getD}
+use Rattle.frame.specs.Types.{Ty, given, pow}
+use Rattle.frame.specs.Trees.{Head, head, Tree, node, Forest, nil, cons}
+use Rattle.frame.specs.Tags.{pick, Sort}
+use Rattle.frame.specs.Encoding.{encTy, encTys, encs}
+use Rattle.frame.specs.Reading.{frameLimit}
+use Rattle.frame.specs.WellFormed.{TyWf, Wfs}
+use Rattle.frame.specs.Spans.{Spans}
+use Rattle.typing.specs.Members.{In, All}
+use Rattle.typing.specs.Identifiers.{Named, named, givensTys, identOf}
+use Rattle.typing.specs.declared.identifiers.Noting.{Noting}
+use Rattle.typing.specs.declared.identifiers.Noting.the-variants.{Ends, Clashed}
+
+-- what given sets claim
+unfoldable pub powers : List ℕ → List Named
+powers [] = []
+powers (n ∷ ns) = named n (pow (given n)) ∷ powers ns
+
+-- the claims of a tree, in the order of its bytes, but an identifier's own after those of the given sets in its type
+unfoldable mutual
+  pub claims : Tree → List Named
+  claims (node (head g n us) ks) = powers (givensTys us) ++ (identOf g n us ++ claimsIn ks)
+
+  pub claimsIn : Forest → List Named
+  claimsIn nil = []
+  claimsIn (cons t ts) = claims t ++ claimsIn ts
+
+-- one number has claims of two types
+pub record Clash (l : List Named) : Type 0 where
+  pub number : ℕ
+  pub one : Ty
+  pub other : Ty
+  pub first : In (named number one) l
+  pub second : In (named number other) l
+  pub differ : one ≡ other → ⊥
+
+-- ---- the table of claims: an entry for each identifier number
+-- the bytes of the type u, from p up to q
+pub record TypeAt (s : List ℕ) (p q : ℕ) (u : Ty) : Type 0 where
+  pub span : Spans s p q (encTy u)
+  pub wf : TyWf u
+
+-- the entry of a number that a given set has claimed: above one more than any position
+abbrev pub givenMark : ℕ
+givenMark = 5000
+
+-- the entry v of the number n says that its type is u: by that mark, or by one more than the position of a type
+pub data Says (s : List ℕ) (n v : ℕ) (u : Ty) : Type 0 where
+  by-mark : v ≡ givenMark → u ≡ pow (given n) → Says s n v u
+  by-place : (p q : ℕ) → v ≡ suc p → p < 4096 → TypeAt s p q u → Says s n v u
+
+-- the table holds these claims, and no others
+pub record Told (s table : List ℕ) (done : List Named) : Type 0 where
+  pub size : length table ≡ 65536
+  pub all : (n : ℕ) (t : Ty) → In (named n t) done → Says s n (getD table n 0) t
+  pub only : (n : ℕ) → (getD table n 0 ≡ 0 → ⊥) → (u : Ty) × In (named n u) done × Says s n (getD table n 0) u
+
+-- ---- contracts
+-- the table before and after these claims were noted; false where one of them clashed
+pub record Noted (s : List ℕ) (before after : List ℕ) (new : List Named) (r : Bool) : Type 0 where
+  pub by : (done : List Named) → Told s before done → pick {X = Type 0} r (Told s after (done ++ new)) (Clash (done ++ new))
+
+-- whether the type at p is the power of the given set n
+pub record PowerPost (s : List ℕ) (p n : ℕ) (r : Bool) : Type 0 where
+  pub yes : r ≡ true → TypeAt s p (p + 4) (pow (given n))
+  pub not : r ≡ false → (q : ℕ) → TypeAt s p q (pow (given n)) → ⊥
+
+-- whether the bytes at a and at b are the same
+pub record SameBytes (s : List ℕ) (a b n : ℕ) (r : Bool) : Type 0 where
+  pub yes : r ≡ true → take n (drop a s) ≡ take n (drop b s)
+  pub not : r ≡ false → take n (drop a s) ≡ take n (drop b s) → ⊥
+
+-- whether the type from p up to q stands at e as well
+pub record SameType (s : List ℕ) (p q e : ℕ) (r : Bool) : Type 0 where
+  pub yes : r ≡ true → (t : Ty) → TypeAt s p q t → TypeAt s e (e + (q - p)) t
+  pub not : r ≡ false → (t : Ty) (x : ℕ) → TypeAt s p q t → TypeAt s e x t → ⊥
+
+-- a frame of these bytes, and a table that holds some claims
+pub record Held (s table : List ℕ) : Type 0 where
+  pub fits : length s ≤ frameLimit
+  pub done : List Named
+  pub told : Told s table done
+
+-- m types stand from `at` up to q
+pub record TypesAt (s : List ℕ) (at m : ℕ) (us : List Ty) (q : ℕ) : Type 0 where
+  pub span : Spans s at q (encTys us)
+  pub wf : All TyWf us
+  pub many : length us ≡ m
+
+pub record NamePost (s : List ℕ) (n p q : ℕ) (before after : List ℕ) (r : Bool) : Type 0 where
+  pub by : (t : Ty) → TypeAt s p q t → Noted s before after (named n t ∷ []) r
+
+-- how the types' given sets were noted
+abbrev pub TypesAnswer : List ℕ → List ℕ → List ℕ → List Ty → ℕ → Noting → Type 0
+TypesAnswer s before after us q (Ends p) = (p ≡ q) × Noted s before after (powers (givensTys us)) true
+TypesAnswer s before after us q Clashed = Noted s before after (powers (givensTys us)) false
+
+pub record TypesPost (s : List ℕ) (at m : ℕ) (before after : List ℕ) (r : Noting) : Type 0 where
+  pub by : (us : List Ty) (q : ℕ) → TypesAt s at m us q → TypesAnswer s before after us q r
+
+abbrev pub GivenPost : List ℕ → ℕ → List ℕ → List ℕ → Bool → Type 0
+GivenPost s n before after r = Noted s before after (named n (pow (given n)) ∷ []) r
+
+-- trees that stand one after the other, from `at` to the end of the frame: of each node that was met its children come
+-- first, then what came after the node
+pub record Rest (s : List ℕ) (at : ℕ) (ts : Forest) (es : List Sort) : Type 0 where
+  pub span : Spans s at (length s) (encs ts)
+  pub wf : Wfs ts es
+
+pub record NamesPost (s : List ℕ) (at : ℕ) (before after : List ℕ) (r : Bool) : Type 0 where
+  pub by : (ts : Forest) (es : List Sort) → Rest s at ts es → Noted s before after (claimsIn ts) r
