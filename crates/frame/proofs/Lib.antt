@@ -8,5 +8,9 @@ pub mod Frames
 pub mod SameTrees
 pub mod TextLines
 pub mod Extents
+pub mod TagTables
+pub mod TypeTurns
+pub mod HeadTurns
+pub mod NodeTurns
 pub mod AtPlace
 pub mod Splices

@@ -1,10 +1,11 @@
 -- Numbers of w bytes, high byte first: reading and writing are inverse. One law over the width for both directions.
--- Main results: number-length, number-small, number-span, number-back, number-bytes, number-injective.
+-- Main results: number-length, number-small, number-span, number-back, number-bytes, number-injective, number-more.
 use mathlib.Core.Path.{_≡_, refl, sym, ap, ap₂, _∙_, subst}
 use mathlib.Core.List.{List, [], _++_, append-nil}
 use Prim.Native.Nat.{ℕ, zero, suc, _+_, _*_, _/_, _%_, _^_, _≤_, _<_}
 use native.Mathlib.Omega.{arith}
-use native.Mathlib.Nat.{add-zero, suc-mul, mul-le-mul-right, one-le-pow, pow-suc, mod-lt, mul-add-div-right, mul-add-mod-self-right, div-eq-of-lt, mod-eq-of-lt, div-add-mod', div-lt-iff-lt-mul}
+use native.Mathlib.Nat.{add-zero, suc-mul, mul-le-mul-right, one-le-pow, pow-suc, mod-lt, mul-add-div-right, mul-add-mod-self-right, div-eq-of-lt, mod-eq-of-lt, div-add-mod', div-lt-iff-lt-mul, mul-assoc, pow-le-pow-right, lt-of-lt-of-le}
+use native.Mathlib.Numerals.{add-one}
 use lib.ListN.{length, getD}
 use lib.Dec.{lit<}
 use Rattle.frame.specs.Encoding.{encNumber}
@@ -101,3 +102,20 @@ number-one s p = omega arith
 pub number-two : (s : List ℕ) (p : ℕ) → numberAt 2 s p ≡ getD s p 0 * 256 + getD s (p + 1) 0
 unfolding numberAt
 number-two s p = omega arith
+
+-- ---- a number read from the left: the next byte is the lowest
+next-byte : (w : ℕ) (s : List ℕ) (p : ℕ) → numberAt (suc w) s p ≡ numberAt w s p * 256 + getD s (p + w) 0
+unfolding numberAt
+next-byte zero s p = let z : p ≡ p + 0 = omega arith in omega (arith, ap (λ (i : ℕ). getD s i 0) z)
+next-byte (suc w) s p =
+    let g : ℕ = getD s p 0 in
+    let z : p + 1 + w ≡ p + suc w = omega arith in
+    let e : g * 256 ^ suc w ≡ g * 256 ^ w * 256 = ap (λ (i : ℕ). g * i) (pow-suc 256 w) ∙ sym (mul-assoc g (256 ^ w) 256) in
+    omega (arith, next-byte w s (p + 1), ap (λ (i : ℕ). getD s i 0) z)
+
+pub number-more : (w : ℕ) (s : List ℕ) (p : ℕ) → numberAt (w + 1) s p ≡ numberAt w s p * 256 + getD s (p + w) 0
+number-more w s p = rw add-one (next-byte w s p)
+
+-- a number of at most seven bytes has room for one byte more
+pub number-room : (w : ℕ) (s : List ℕ) → Bytes s → (p : ℕ) → w < 8 → numberAt w s p < 256 ^ 7
+number-room w s bs p h = lt-of-lt-of-le (number-small w s bs p) (pow-le-pow-right {n = 256} (lit< tt) {i = w} {j = 7} (omega arith))

@@ -18,7 +18,7 @@ use Rattle.frame.proofs.ReadTypes.{tys-read}
 use Rattle.frame.proofs.Inversion.{no-not, many-inv, many-count, node-inv, tagAt, layoutAt, behind, head-inv}
 
 -- ---- the number behind the tag is the one that the finished node says again
-repeat-length : (e : Sort) (n : ℕ) → length (repeat e n) ≡ n
+pub repeat-length : (e : Sort) (n : ℕ) → length (repeat e n) ≡ n
 repeat-length e zero = refl
 repeat-length e (suc n) = ap suc (repeat-length e n)
 

@@ -1,9 +1,11 @@
 pub mod Types
 pub mod Trees
 pub mod Tags
+pub mod TagCodes
 pub mod Operators
 pub mod Encoding
 pub mod Reading
+pub mod Post
 pub mod Lines
 pub mod Places
 pub mod Sameness

@@ -1,0 +1,125 @@
+use Prim.Native.Nat.{_-_}
+use borrow.Author.Needs.{needs}
+use native.Mathlib.Omega.{arith}
+use mathlib.Core.Path.{_≡_, refl, sym, ap, _∙_, subst}
+use Rattle.frame.proofs.TypeTurns.{tys-none, tys-more, tys-no, tys-further}
+use Prim.Native.Nat.{ℕ, _<_}
+use borrow.Fn.Kinds.{In}
+use borrow.Fn.PlainCycle.{Measures, is, falls, and}
+use Rattle.frame.proofs.reading.read_types.Reads as read-types
+use Rattle.frame.proofs.reading.read_types.Kinds as read-types-kinds
+use Rattle.frame.proofs.reading.+read_types.Lts-read_types as read-types-lts
+use Rattle.frame.proofs.reading.read_type.Reads as read-type-reads
+use Rattle.frame.proofs.reading.+read_types.{statement}
+use Rattle.frame.proofs.reading.+read_types.Tie.{close}
+
+abbrev μ-read-types : Measures 1 read-types-kinds.ps ℕ
+μ-read-types κs a = a .1 .1 .0
+
+abbrev read-types-at : ℕ → In 1 read-types-kinds.ps
+read-types-at t =
+    and 1 read-types-kinds.ps (is 1 read-types-kinds.ps μ-read-types t) read-types.Pre
+
+abbrev read-types-below : ℕ → In 1 read-types-kinds.ps
+read-types-below t =
+    and 1 read-types-kinds.ps (falls 1 read-types-kinds.ps _<_ μ-read-types t) read-types.Pre
+
+-- src/reading.rt:124:9
+read-types-returns : (t : ℕ) → read-types-lts.Need-returns (
+  read-type-reads.Asked,
+  read-type-reads.Learnt,
+  read-types-below t,
+  read-types.Post,
+) (read-types-at t) read-types.Post
+read-types-returns t c = tys-none _ _ _ (c .if1 .taken)
+
+-- src/reading.rt:126:30
+read-types-add-read-type : (t : ℕ) → read-types-lts.Need-add-read-type (
+  read-type-reads.Asked,
+  read-type-reads.Learnt,
+  read-types-below t,
+  read-types.Post,
+) (read-types-at t) read-types.Post
+read-types-add-read-type t c = omega arith
+
+-- src/reading.rt:126:9
+read-types-read-type-requires : (t : ℕ) → read-types-lts.Need-read-type-requires (
+  read-type-reads.Asked,
+  read-type-reads.Learnt,
+  read-types-below t,
+  read-types.Post,
+) (read-types-at t) read-types.Post
+read-types-read-type-requires t c κs = omega arith
+
+-- src/reading.rt:128:26
+read-types-enum-known-a : (t : ℕ) → read-types-lts.Need-enum-known-a (
+  read-type-reads.Asked,
+  read-type-reads.Learnt,
+  read-types-below t,
+  read-types.Post,
+) (read-types-at t) read-types.Post
+read-types-enum-known-a t c = search needs
+
+-- src/reading.rt:128:49
+read-types-sub-read-types : (t : ℕ) → read-types-lts.Need-sub-read-types (
+  read-type-reads.Asked,
+  read-type-reads.Learnt,
+  read-types-below t,
+  read-types.Post,
+) (read-types-at t) read-types.Post
+read-types-sub-read-types t c = omega arith
+
+-- src/reading.rt:128:32
+read-types-read-types-requires : (t : ℕ) → read-types-lts.Need-read-types-requires (
+  read-type-reads.Asked,
+  read-type-reads.Learnt,
+  read-types-below t,
+  read-types.Post,
+) (read-types-at t) read-types.Post
+read-types-read-types-requires t c κs = let fw = tys-further _ _ _ (c .before .before .before .before .if1 .left) _ (c .before .before .before .read-type .ensures) _ (c .before .a .given .1) (λ i. c .before .before .before .before .before .shared-slice-known .given i .fits) in omega arith
+
+-- src/reading.rt:129:29
+read-types-enum-known-a-2 : (t : ℕ) → read-types-lts.Need-enum-known-a-2 (
+  read-type-reads.Asked,
+  read-type-reads.Learnt,
+  read-types-below t,
+  read-types.Post,
+) (read-types-at t) read-types.Post
+read-types-enum-known-a-2 t c = search needs
+
+-- src/reading.rt:119:1
+read-types-returns-2 : (t : ℕ) → read-types-lts.Need-returns-2 (
+  read-type-reads.Asked,
+  read-type-reads.Learnt,
+  read-types-below t,
+  read-types.Post,
+) (read-types-at t) read-types.Post
+read-types-returns-2 t c = tys-more _ _ _ (c .before .before .before .before .before .if1 .left) _ (c .before .before .before .before .read-type .ensures) _ (c .before .before .a .given .1) _ (c .read-types .ensures)
+
+-- src/reading.rt:119:1
+read-types-returns-3 : (t : ℕ) → read-types-lts.Need-returns-3 (
+  read-type-reads.Asked,
+  read-type-reads.Learnt,
+  read-types-below t,
+  read-types.Post,
+) (read-types-at t) read-types.Post
+read-types-returns-3 t c = tys-no _ _ _ (c .before .before .before .before .if1 .left) _ (c .before .before .before .read-type .ensures) _ (c .before .a2 .given .1)
+
+pub +read-types-spec : {M : Type 1} → statement M
++read-types-spec = close μ-read-types λ t. read-types-lts.spec (
+  read-type-reads.Asked,
+  read-type-reads.Learnt,
+  read-types-below t,
+  read-types.Post,
+)
+    (read-types-at t)
+    read-types.Post
+    (read-types-returns t)
+    (read-types-add-read-type t)
+    (read-types-read-type-requires t)
+    (read-types-enum-known-a t)
+    (read-types-sub-read-types t)
+    (read-types-read-types-requires t)
+    (read-types-enum-known-a-2 t)
+    (read-types-returns-2 t)
+    (read-types-returns-3 t)

@@ -1,0 +1,30 @@
+use Rattle.frame.specs.TagCodes.{formAtCode}
+use native.Mathlib.Omega.{arith}
+use mathlib.Core.Path.{_≡_, refl, sym, ap, _∙_, subst}
+use Rattle.frame.proofs.TagTables.{layoutAt, types-bound, types-own}
+use borrow.Author.Needs.{needs}
+use Rattle.frame.proofs.tags.types_of.Statement.{statement}
+use Rattle.frame.proofs.tags.types_of.Tie as tie
+use Rattle.frame.proofs.tags.types_of.Reads as reads
+use Rattle.frame.proofs.tags.types_of.Lts as lts
+use Rattle.frame.proofs.tags.carried_of.Reads as carried-of-reads
+use Rattle.frame.proofs.tags.layout_of.Reads as layout-of-reads
+
+-- src/tags.rt:164:8
+layout-of-requires : tie.Need-layout-of-requires
+layout-of-requires c κs = search needs
+
+-- src/tags.rt:165:9
+returns : tie.Need-returns
+returns c = sym (types-bound (layoutAt (c .before .before .args .form)) (formAtCode (c .before .before .args .form) .carried) (c .before .before .args .x) (omega (arith, c .before .layout-of .ensures)))
+
+-- src/tags.rt:167:5
+carried-of-requires : tie.Need-carried-of-requires
+carried-of-requires c κs = search needs
+
+-- src/tags.rt:160:1
+returns-2 : tie.Need-returns-2
+returns-2 c = c .carried-of .ensures ∙ sym (types-own (layoutAt (c .before .before .before .args .form)) (formAtCode (c .before .before .before .args .form) .carried) (c .before .before .before .args .x) (λ z. c .before .if1 .left (c .before .before .layout-of .ensures ∙ z)))
+
+pub types-of-spec : {M : Type 1} → statement M
+types-of-spec = tie.close (tie.spec layout-of-requires returns carried-of-requires returns-2)
