@@ -4,3 +4,5 @@ pub mod Same
 pub mod Names
 pub mod Decides
 pub mod Checked
+pub mod Matching
+pub mod PatternRules

@@ -6,4 +6,5 @@ pub mod Accepted
 pub mod TypeExpression
 pub mod Signature
 pub mod Leaves
+pub mod Patterns
 pub mod Cases
