@@ -12,5 +12,6 @@ pub mod TagTables
 pub mod TypeTurns
 pub mod HeadTurns
 pub mod NodeTurns
+pub mod FrameTurns
 pub mod AtPlace
 pub mod Splices

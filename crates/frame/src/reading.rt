@@ -2,14 +2,14 @@
 // frame's start. A sort is a bool: true for an expression.
 ghost use mathlib.Core.Path.{_≡_};
 ghost use Prim.Native.Nat.{ℕ, _+_, _≤_, _<_};
-ghost use lib.ListN.{length};
+ghost use lib.ListN.{length, replicate};
 ghost use mathlib.Core.Bool.{true};
 ghost use mathlib.Core.List.{List};
 ghost use Rattle.frame.specs.Types.{Ty};
 ghost use Rattle.frame.specs.Tags.{inRange};
 ghost use Rattle.frame.specs.TagCodes.{formAtCode, sortFor, kindsFor};
-ghost use Rattle.frame.specs.Reading.{numberAt, readTy, readTys, okTs, withTys, readHead};
-ghost use Rattle.frame.specs.Post.{typeAnswer, givenAt, typesAnswer, headAnswer, Room, NodePost, KidsPost};
+ghost use Rattle.frame.specs.Reading.{numberAt, readTy, readTys, okTs, withTys, readHead, parse};
+ghost use Rattle.frame.specs.Post.{typeAnswer, givenAt, typesAnswer, headAnswer, Room, NodePost, KidsPost, frameAnswer, tableOf};
 
 // "A type has at most 64 bytes."
 const TYPE_LIMIT: usize = 64;
@@ -225,5 +225,42 @@ fn read_kids(
     match a {
         NodeAnswer::Ends(p, j) => read_kids(s, p, n - 1, later, later, starts, j),
         NodeAnswer::Refused(c) => NodeAnswer::Refused(c),
+    }
+}
+
+// The frame is turned down: its number, and a fresh table.
+fn refused(c: u8) -> FrameRead
+    ensures { λ r. ⌜ (r .answer ≡ FrameAnswer.Refused c) × (r .starts ≡ replicate 2048 0) ⌝ }
+{
+    FrameRead {
+        answer: FrameAnswer::Refused(c),
+        starts: [0; 2048],
+    }
+}
+
+// The frame: its count of nodes with the table of their starts, or the number of what is turned down.
+pub fn read(frame: &[u8]) -> FrameRead
+    ensures { λ r. ⌜ (r .answer ≡ frameAnswer (parse (now (frame .entry)))) × (r .starts ≡ tableOf (parse (now (frame .entry)))) ⌝ }
+{
+    let n = frame.len();
+    if n == 0 {
+        return refused(2);
+    }
+    if FRAME_LIMIT < n {
+        return refused(2);
+    }
+    let mut starts = [0u16; 2048];
+    let a = read_node(frame, 0, false, &mut starts, 0);
+    match a {
+        NodeAnswer::Ends(p, k) => {
+            if p < n {
+                return refused(7);
+            }
+            FrameRead {
+                answer: FrameAnswer::Nodes(k),
+                starts: starts,
+            }
+        }
+        NodeAnswer::Refused(c) => refused(c),
     }
 }
