@@ -6,3 +6,4 @@ pub mod Decides
 pub mod Checked
 pub mod Matching
 pub mod PatternRules
+pub mod BufferLaws

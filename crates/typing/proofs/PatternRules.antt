@@ -42,7 +42,7 @@ module _ (f r : List ℕ) (res : Ty → Ty) where
       decided (judge (rule [] f [] r) (t ∷ [])) (sameTy t (want t)) (limited (encTy (res t)))
       (λ b. subst (λ (x : Ty). judge (rule [] f [] r) (x ∷ []) ≡ limited (encTy (res x))) (sym (same-ty t (want t) b)) complete)
       (λ xs e. (let m = judge-means (rule [] f [] r) (t ∷ []) xs e in
-          same-ty-of t (want t) (subst (λ (x : Ty). x ≡ want x) (sym (ap (ty 0) (m .first))) (sound (m .env) (m .behind)))))
+      same-ty-of t (want t) (subst (λ (x : Ty). x ≡ want x) (sym (ap (ty 0) (m .first))) (sound (m .env) (m .behind)))))
 
 module _ (f l r : List ℕ) (res : List Ty → Ty) where
   two-judged : (want : List Ty → List Ty)
@@ -53,9 +53,9 @@ module _ (f l r : List ℕ) (res : List Ty → Ty) where
       decided (judge (rule [] f l r) (t ∷ u ∷ [])) (sameTys (t ∷ u ∷ []) (want (t ∷ u ∷ []))) (limited (encTy (res (t ∷ u ∷ []))))
       (λ b. subst (λ (x : List Ty). judge (rule [] f l r) x ≡ limited (encTy (res x))) (sym (same-tys _ _ b)) complete)
       (λ xs e. (let m = judge-means (rule [] f l r) (t ∷ u ∷ []) xs e in
-          same-tys-of _ _
-          (subst₂ (λ (x y : Ty). (x ∷ y ∷ []) ≡ want (x ∷ y ∷ [])) (sym (ap (ty 0) (m .first))) (sym (ap (ty 0) (m .last)))
-          (sound (m .env) (m .behind) (m .rest)))))
+      same-tys-of _ _
+      (subst₂ (λ (x y : Ty). (x ∷ y ∷ []) ≡ want (x ∷ y ∷ [])) (sym (ap (ty 0) (m .first))) (sym (ap (ty 0) (m .last)))
+      (sound (m .env) (m .behind) (m .rest)))))
 
 -- ---- one or more operands of one type
 fit-if : (b : Bool) (us ρ : List Ty) → isFit (pick b (fits us ρ) differs) ≡ b
@@ -90,12 +90,12 @@ module _ (f r : List ℕ) (res : List Ty → Ty) (want : Ty → Ty) where
   uniform-judged sound t us complete =
       decided (judge (rule alikePair f [] r) (t ∷ us)) (sameTys (t ∷ us) (alike (want t) (t ∷ us))) (limited (encTy (res (t ∷ us))))
       (λ b. (let e = same-tys _ _ b in
-          let q : t ≡ want t = head-eq e in
-          let s : us ≡ alike t us = tail-eq e ∙ ap (λ (x : Ty). alike x us) (sym q) in
-          rw (of-alike t us s) (subst (λ (x : Ty). ends (rule alikePair f [] r) (x ∷ us) ≡ limited (encTy (res (x ∷ us)))) (sym q) complete)))
+      let q : t ≡ want t = head-eq e in
+      let s : us ≡ alike t us = tail-eq e ∙ ap (λ (x : Ty). alike x us) (sym q) in
+      rw (of-alike t us s) (subst (λ (x : Ty). ends (rule alikePair f [] r) (x ∷ us) ≡ limited (encTy (res (x ∷ us)))) (sym q) complete)))
       (λ xs e. (let m = judge-means (rule alikePair f [] r) (t ∷ us) xs e in
-          let q : t ≡ want t = subst (λ (x : Ty). x ≡ want x) (sym (ap (ty 0) (m .first))) (sound (m .env) (m .behind)) in
-          same-tys-of _ _ (ap₂ (λ (x : Ty) (l : List Ty). x ∷ l) q (alike-of t us (m .pairs) ∙ ap (λ (x : Ty). alike x us) q))))
+      let q : t ≡ want t = subst (λ (x : Ty). x ≡ want x) (sym (ap (ty 0) (m .first))) (sound (m .env) (m .behind)) in
+      same-tys-of _ _ (ap₂ (λ (x : Ty) (l : List Ty). x ∷ l) q (alike-of t us (m .pairs) ∙ ap (λ (x : Ty). alike x us) q))))
 
 -- ---- compositions
 fits-of : (m : Matched) → isFit m ≡ true → (us : List Ty) × (ρ : List Ty) × (m ≡ fits us ρ)
@@ -191,12 +191,12 @@ module _ (p r : List ℕ) (res : List Ty → Ty) (on : Ty → List Ty → List T
       let q = rule p (3 ∷ 4 ∷ 5 ∷ 6 ∷ []) (3 ∷ 4 ∷ 7 ∷ 8 ∷ []) r in
       decided (judge q (t ∷ us)) (sameTys (t ∷ us) (relation (source t) (target t) ∷ on t us)) (limited (encTy (res (t ∷ us))))
       (λ b. (let e = same-tys _ _ b in
-          let h : IsRelation t = head-eq e in
-          let s : us ≡ on t us = tail-eq e in
-          rw (to h s) (chain-ends p r t us (source t) (target t) (source l) (target l) h (last-ones t us ∙ ap (λ (x : Ty). x ∷ []) (last h s)) ∙ ap limited fill)))
+      let h : IsRelation t = head-eq e in
+      let s : us ≡ on t us = tail-eq e in
+      rw (to h s) (chain-ends p r t us (source t) (target t) (source l) (target l) h (last-ones t us ∙ ap (λ (x : Ty). x ∷ []) (last h s)) ∙ ap limited fill)))
       (λ xs e. (let m = judge-means q (t ∷ us) xs e in
-          let h : IsRelation t = subst IsRelation (sym (ap (ty 0) (m .first))) refl in
-          same-tys-of _ _ (ap₂ (λ (x : Ty) (k : List Ty). x ∷ k) h (of (m .pairs)))))
+      let h : IsRelation t = subst IsRelation (sym (ap (ty 0) (m .first))) refl in
+      same-tys-of _ _ (ap₂ (λ (x : Ty) (k : List Ty). x ∷ k) h (of (m .pairs)))))
 
 -- ---- the classes
 -- the shape that the type has that a node of a class carries

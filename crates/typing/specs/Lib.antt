@@ -7,4 +7,5 @@ pub mod TypeExpression
 pub mod Signature
 pub mod Leaves
 pub mod Patterns
+pub mod Buffers
 pub mod Cases

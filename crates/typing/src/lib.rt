@@ -1,1 +1,2 @@
 // The checks 8, 9 and 10, and the type of an expression.
+pub mod type_bytes; // type_bytes.rt: a type's bytes in a buffer
