@@ -6,4 +6,7 @@ pub mod Decides
 pub mod Checked
 pub mod Matching
 pub mod PatternRules
+pub mod RuleTables
+pub mod NodeRules
+pub mod Machine
 pub mod BufferLaws

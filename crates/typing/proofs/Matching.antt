@@ -14,7 +14,7 @@ use Rattle.frame.specs.Sameness.{sameTy}
 use Rattle.frame.proofs.SameTrees.{same-ty, both-true}
 use Rattle.frame.proofs.Inversion.{then-of, true-not}
 use Rattle.typing.specs.Typing.{ty}
-use Rattle.typing.specs.Patterns.{symbolOf, partsOf, Matched, fits, differs, atVariable, atSymbol, matches, filled, Rule, Judged, typed, wrong, limited, isFit, thenMatched, pairsFit, lastOnes, ends, judge}
+use Rattle.typing.specs.Patterns.{symbolOf, partsOf, Matched, fits, differs, atVariable, atSymbol, matches, filled, Rule, Judged, typed, wrong, limited, completed, isFit, thenMatched, pairsFit, lastOnes, ends, judge}
 
 pub differs-not {ℓ} : {X : Type ℓ} {us ρ : List Ty} → differs ≡ fits us ρ → X
 differs-not e = let z : _≡_ {A = ℕ} 0 1 = cc in absurd (omega arith)
@@ -140,14 +140,14 @@ pub record Ends (r : Rule) (ts : List Ty) (xs : List ℕ) : Type 0 where
   pub last : lastOnes ts ≡ meant (r .last) env rest
 
 ends-last : (r : Rule) (ts ρ us : List Ty) → Means (r .first) ts [] us ρ → (m : Matched) → matches (r .last) (lastOnes ts) ρ ≡ m → (xs : List ℕ)
-    → thenMatched m (λ σ. limited (filled (r .result) σ)) ≡ typed xs → pairsFit (r .pair) ts ≡ true → Ends r ts xs
+    → thenMatched m (λ σ. completed (r .result) σ) ≡ typed xs → pairsFit (r .pair) ts ≡ true → Ends r ts xs
 ends-last r ts ρ us a (fits vs σ) em xs e p =
     let l = match-means (r .last) (lastOnes ts) ρ vs σ em in
     record { pairs = p; env = σ; behind = us; rest = vs; first = a .back σ (l .more); last = l .back σ (extends-refl σ) }
 ends-last r ts ρ us a differs em xs e p = wrong-not e
 
 ends-first : (r : Rule) (ts : List Ty) (m : Matched) → matches (r .first) ts [] ≡ m → (xs : List ℕ)
-    → thenMatched m (λ ρ. thenMatched (matches (r .last) (lastOnes ts) ρ) (λ σ. limited (filled (r .result) σ))) ≡ typed xs → pairsFit (r .pair) ts ≡ true → Ends r ts xs
+    → thenMatched m (λ ρ. thenMatched (matches (r .last) (lastOnes ts) ρ) (λ σ. completed (r .result) σ)) ≡ typed xs → pairsFit (r .pair) ts ≡ true → Ends r ts xs
 ends-first r ts (fits us ρ) em xs e p = ends-last r ts ρ us (match-means (r .first) ts [] us ρ em) (matches (r .last) (lastOnes ts) ρ) refl xs e p
 ends-first r ts differs em xs e p = wrong-not e
 

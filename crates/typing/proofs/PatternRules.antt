@@ -17,7 +17,7 @@ use Rattle.frame.proofs.SameTrees.{same-ty, same-tys, same-ty-refl, both-true}
 use Rattle.frame.proofs.Inversion.{then-of, true-not}
 use Rattle.frame.proofs.ReadTrees.{repeat-length}
 use Rattle.typing.specs.Typing.{element, source, target, relation, first, second, ty, lastTy, alike, onward, backward, wants, result, carriedTy, typeAt}
-use Rattle.typing.specs.Patterns.{Matched, fits, differs, matches, filled, Rule, rule, alikePair, onwardPair, backwardPair, ruleAt, ownTypes, Judged, typed, wrong, limited, isFit, thenMatched, pairsFit, lastOnes, ends, judge}
+use Rattle.typing.specs.Patterns.{Matched, fits, differs, matches, filled, Rule, rule, alikePair, onwardPair, backwardPair, ruleAt, ownTypes, Judged, typed, wrong, limited, allBound, completed, isFit, thenMatched, pairsFit, lastOnes, ends, judge}
 use Rattle.typing.proofs.Same.{same-tys-of, same-ty-of}
 use Rattle.typing.proofs.Matching.{differs-not, meant, Means, match-means, Ends, judge-means}
 
@@ -171,10 +171,10 @@ last-ones t [] = refl
 last-ones t (u ∷ us) = last-ones u us
 
 chain-ends : (p r : List ℕ) (t : Ty) (us : List Ty) (a b c d : Ty) → t ≡ relation a b → lastOnes (t ∷ us) ≡ relation c d ∷ []
-    → ends (rule p (3 ∷ 4 ∷ 5 ∷ 6 ∷ []) (3 ∷ 4 ∷ 7 ∷ 8 ∷ []) r) (t ∷ us) ≡ limited (filled r (a ∷ b ∷ c ∷ d ∷ []))
+    → ends (rule p (3 ∷ 4 ∷ 5 ∷ 6 ∷ []) (3 ∷ 4 ∷ 7 ∷ 8 ∷ []) r) (t ∷ us) ≡ completed r (a ∷ b ∷ c ∷ d ∷ [])
 unfolding matches
 chain-ends p r t us a b c d et el =
-    subst₂ (λ (x : Ty) (l : List Ty). thenMatched (matches (3 ∷ 4 ∷ 5 ∷ 6 ∷ []) (x ∷ us) []) (λ ρ. thenMatched (matches (3 ∷ 4 ∷ 7 ∷ 8 ∷ []) l ρ) (λ σ. limited (filled r σ))) ≡ limited (filled r (a ∷ b ∷ c ∷ d ∷ [])))
+    subst₂ (λ (x : Ty) (l : List Ty). thenMatched (matches (3 ∷ 4 ∷ 5 ∷ 6 ∷ []) (x ∷ us) []) (λ ρ. thenMatched (matches (3 ∷ 4 ∷ 7 ∷ 8 ∷ []) l ρ) (λ σ. completed r σ)) ≡ completed r (a ∷ b ∷ c ∷ d ∷ []))
     (sym et) (sym el) refl
 
 module _ (p r : List ℕ) (res : List Ty → Ty) (on : Ty → List Ty → List Ty) where
@@ -182,7 +182,7 @@ module _ (p r : List ℕ) (res : List Ty → Ty) (on : Ty → List Ty → List T
       → (pairsFit p (t ∷ us) ≡ true → us ≡ on t us)
       → (IsRelation t → us ≡ on t us → pairsFit p (t ∷ us) ≡ true)
       → (IsRelation t → us ≡ on t us → IsRelation (lastTy (t ∷ us)))
-      → filled r (source t ∷ target t ∷ source (lastTy (t ∷ us)) ∷ target (lastTy (t ∷ us)) ∷ []) ≡ encTy (res (t ∷ us))
+      → completed r (source t ∷ target t ∷ source (lastTy (t ∷ us)) ∷ target (lastTy (t ∷ us)) ∷ []) ≡ limited (encTy (res (t ∷ us)))
       → judge (rule p (3 ∷ 4 ∷ 5 ∷ 6 ∷ []) (3 ∷ 4 ∷ 7 ∷ 8 ∷ []) r) (t ∷ us)
       ≡ pick (sameTys (t ∷ us) (relation (source t) (target t) ∷ on t us)) (limited (encTy (res (t ∷ us)))) wrong
   unfolding judge
@@ -193,7 +193,7 @@ module _ (p r : List ℕ) (res : List Ty → Ty) (on : Ty → List Ty → List T
       (λ b. (let e = same-tys _ _ b in
       let h : IsRelation t = head-eq e in
       let s : us ≡ on t us = tail-eq e in
-      rw (to h s) (chain-ends p r t us (source t) (target t) (source l) (target l) h (last-ones t us ∙ ap (λ (x : Ty). x ∷ []) (last h s)) ∙ ap limited fill)))
+      rw (to h s) (chain-ends p r t us (source t) (target t) (source l) (target l) h (last-ones t us ∙ ap (λ (x : Ty). x ∷ []) (last h s)) ∙ fill)))
       (λ xs e. (let m = judge-means q (t ∷ us) xs e in
       let h : IsRelation t = subst IsRelation (sym (ap (ty 0) (m .first))) refl in
       same-tys-of _ _ (ap₂ (λ (x : Ty) (k : List Ty). x ∷ k) h (of (m .pairs)))))
@@ -302,7 +302,7 @@ counted-some lo hi x ts k h e l r = let z = leb-true lo x (both-true (leb lo x) 
 
 module _ (n : ℕ) (us : List Ty) (Γ : Ctx) where
   equality-ends : (t u : Ty) → judge (ruleAt equality) (wants equality (t ∷ u ∷ [])) ≡ limited (encTy (result equality n us Γ (wants equality (t ∷ u ∷ []))))
-  unfolding ruleAt judge pairsFit matches filled encTy
+  unfolding ruleAt judge pairsFit matches allBound filled encTy
   equality-ends t u = rw (same-ty-refl (t))
 
   equality-judged : (ts : List Ty) → length ts ≡ 2 → Holds equality n us Γ ts
@@ -313,7 +313,7 @@ module _ (n : ℕ) (us : List Ty) (Γ : Ctx) where
       (two-judged (ruleAt equality .first) (ruleAt equality .last) (ruleAt equality .result) (λ l. result equality n us Γ l) (λ l. wants equality l) (λ ρ p q. refl) t u (equality-ends t u)))
 
   order-ends : (t u : Ty) → judge (ruleAt order) (wants order (t ∷ u ∷ [])) ≡ limited (encTy (result order n us Γ (wants order (t ∷ u ∷ []))))
-  unfolding ruleAt judge pairsFit matches filled encTy
+  unfolding ruleAt judge pairsFit matches allBound filled encTy
   order-ends t u = refl
 
   order-judged : (ts : List Ty) → length ts ≡ 2 → Holds order n us Γ ts
@@ -324,7 +324,7 @@ module _ (n : ℕ) (us : List Ty) (Γ : Ctx) where
       (two-judged (ruleAt order .first) (ruleAt order .last) (ruleAt order .result) (λ l. result order n us Γ l) (λ l. wants order l) (λ ρ p q. refl) t u (order-ends t u)))
 
   membership-ends : (t u : Ty) → judge (ruleAt membership) (wants membership (t ∷ u ∷ [])) ≡ limited (encTy (result membership n us Γ (wants membership (t ∷ u ∷ []))))
-  unfolding ruleAt judge pairsFit matches filled encTy
+  unfolding ruleAt judge pairsFit matches allBound filled encTy
   membership-ends t u = rw (same-ty-refl (t))
 
   membership-judged : (ts : List Ty) → length ts ≡ 2 → Holds membership n us Γ ts
@@ -335,7 +335,7 @@ module _ (n : ℕ) (us : List Ty) (Γ : Ctx) where
       (two-judged (ruleAt membership .first) (ruleAt membership .last) (ruleAt membership .result) (λ l. result membership n us Γ l) (λ l. wants membership l) (λ ρ p q. refl) t u (membership-ends t u)))
 
   inclusion-ends : (t u : Ty) → judge (ruleAt inclusion) (wants inclusion (t ∷ u ∷ [])) ≡ limited (encTy (result inclusion n us Γ (wants inclusion (t ∷ u ∷ []))))
-  unfolding ruleAt judge pairsFit matches filled encTy
+  unfolding ruleAt judge pairsFit matches allBound filled encTy
   inclusion-ends t u = rw (same-ty-refl (element t))
 
   inclusion-judged : (ts : List Ty) → length ts ≡ 2 → Holds inclusion n us Γ ts
@@ -346,7 +346,7 @@ module _ (n : ℕ) (us : List Ty) (Γ : Ctx) where
       (two-judged (ruleAt inclusion .first) (ruleAt inclusion .last) (ruleAt inclusion .result) (λ l. result inclusion n us Γ l) (λ l. wants inclusion l) (λ ρ p q. refl) t u (inclusion-ends t u)))
 
   binaryPred-ends : (t u : Ty) → judge (ruleAt binaryPred) (wants binaryPred (t ∷ u ∷ [])) ≡ limited (encTy (result binaryPred n us Γ (wants binaryPred (t ∷ u ∷ []))))
-  unfolding ruleAt judge pairsFit matches filled encTy
+  unfolding ruleAt judge pairsFit matches allBound filled encTy
   binaryPred-ends t u = refl
 
   binaryPred-judged : (ts : List Ty) → length ts ≡ 2 → Holds binaryPred n us Γ ts
@@ -357,7 +357,7 @@ module _ (n : ℕ) (us : List Ty) (Γ : Ctx) where
       (two-judged (ruleAt binaryPred .first) (ruleAt binaryPred .last) (ruleAt binaryPred .result) (λ l. result binaryPred n us Γ l) (λ l. wants binaryPred l) (λ ρ p q. refl) t u (binaryPred-ends t u)))
 
   maplet-ends : (t u : Ty) → judge (ruleAt maplet) (wants maplet (t ∷ u ∷ [])) ≡ limited (encTy (result maplet n us Γ (wants maplet (t ∷ u ∷ []))))
-  unfolding ruleAt judge pairsFit matches filled encTy
+  unfolding ruleAt judge pairsFit matches allBound filled encTy
   maplet-ends t u = refl
 
   maplet-judged : (ts : List Ty) → length ts ≡ 2 → Holds maplet n us Γ ts
@@ -368,7 +368,7 @@ module _ (n : ℕ) (us : List Ty) (Γ : Ctx) where
       (two-judged (ruleAt maplet .first) (ruleAt maplet .last) (ruleAt maplet .result) (λ l. result maplet n us Γ l) (λ l. wants maplet l) (λ ρ p q. refl) t u (maplet-ends t u)))
 
   relationSet-ends : (t u : Ty) → judge (ruleAt relationSet) (wants relationSet (t ∷ u ∷ [])) ≡ limited (encTy (result relationSet n us Γ (wants relationSet (t ∷ u ∷ []))))
-  unfolding ruleAt judge pairsFit matches filled encTy
+  unfolding ruleAt judge pairsFit matches allBound filled encTy
   relationSet-ends t u = refl
 
   relationSet-judged : (ts : List Ty) → length ts ≡ 2 → Holds relationSet n us Γ ts
@@ -379,7 +379,7 @@ module _ (n : ℕ) (us : List Ty) (Γ : Ctx) where
       (two-judged (ruleAt relationSet .first) (ruleAt relationSet .last) (ruleAt relationSet .result) (λ l. result relationSet n us Γ l) (λ l. wants relationSet l) (λ ρ p q. refl) t u (relationSet-ends t u)))
 
   setMinus-ends : (t u : Ty) → judge (ruleAt setMinus) (wants setMinus (t ∷ u ∷ [])) ≡ limited (encTy (result setMinus n us Γ (wants setMinus (t ∷ u ∷ []))))
-  unfolding ruleAt judge pairsFit matches filled encTy
+  unfolding ruleAt judge pairsFit matches allBound filled encTy
   setMinus-ends t u = rw (same-ty-refl (element t))
 
   setMinus-judged : (ts : List Ty) → length ts ≡ 2 → Holds setMinus n us Γ ts
@@ -390,7 +390,7 @@ module _ (n : ℕ) (us : List Ty) (Γ : Ctx) where
       (two-judged (ruleAt setMinus .first) (ruleAt setMinus .last) (ruleAt setMinus .result) (λ l. result setMinus n us Γ l) (λ l. wants setMinus l) (λ ρ p q. refl) t u (setMinus-ends t u)))
 
   cartesian-ends : (t u : Ty) → judge (ruleAt cartesian) (wants cartesian (t ∷ u ∷ [])) ≡ limited (encTy (result cartesian n us Γ (wants cartesian (t ∷ u ∷ []))))
-  unfolding ruleAt judge pairsFit matches filled encTy
+  unfolding ruleAt judge pairsFit matches allBound filled encTy
   cartesian-ends t u = refl
 
   cartesian-judged : (ts : List Ty) → length ts ≡ 2 → Holds cartesian n us Γ ts
@@ -401,7 +401,7 @@ module _ (n : ℕ) (us : List Ty) (Γ : Ctx) where
       (two-judged (ruleAt cartesian .first) (ruleAt cartesian .last) (ruleAt cartesian .result) (λ l. result cartesian n us Γ l) (λ l. wants cartesian l) (λ ρ p q. refl) t u (cartesian-ends t u)))
 
   directProduct-ends : (t u : Ty) → judge (ruleAt directProduct) (wants directProduct (t ∷ u ∷ [])) ≡ limited (encTy (result directProduct n us Γ (wants directProduct (t ∷ u ∷ []))))
-  unfolding ruleAt judge pairsFit matches filled encTy
+  unfolding ruleAt judge pairsFit matches allBound filled encTy
   directProduct-ends t u = rw (same-ty-refl (source t))
 
   directProduct-judged : (ts : List Ty) → length ts ≡ 2 → Holds directProduct n us Γ ts
@@ -412,7 +412,7 @@ module _ (n : ℕ) (us : List Ty) (Γ : Ctx) where
       (two-judged (ruleAt directProduct .first) (ruleAt directProduct .last) (ruleAt directProduct .result) (λ l. result directProduct n us Γ l) (λ l. wants directProduct l) (λ ρ p q. refl) t u (directProduct-ends t u)))
 
   parallelProduct-ends : (t u : Ty) → judge (ruleAt parallelProduct) (wants parallelProduct (t ∷ u ∷ [])) ≡ limited (encTy (result parallelProduct n us Γ (wants parallelProduct (t ∷ u ∷ []))))
-  unfolding ruleAt judge pairsFit matches filled encTy
+  unfolding ruleAt judge pairsFit matches allBound filled encTy
   parallelProduct-ends t u = rw (append-assoc (encTy (source t)) (encTy (source u)) (4 ∷ (encTy (target t) ++ encTy (target u))))
 
   parallelProduct-judged : (ts : List Ty) → length ts ≡ 2 → Holds parallelProduct n us Γ ts
@@ -423,7 +423,7 @@ module _ (n : ℕ) (us : List Ty) (Γ : Ctx) where
       (two-judged (ruleAt parallelProduct .first) (ruleAt parallelProduct .last) (ruleAt parallelProduct .result) (λ l. result parallelProduct n us Γ l) (λ l. wants parallelProduct l) (λ ρ p q. refl) t u (parallelProduct-ends t u)))
 
   domainRestriction-ends : (t u : Ty) → judge (ruleAt domainRestriction) (wants domainRestriction (t ∷ u ∷ [])) ≡ limited (encTy (result domainRestriction n us Γ (wants domainRestriction (t ∷ u ∷ []))))
-  unfolding ruleAt judge pairsFit matches filled encTy
+  unfolding ruleAt judge pairsFit matches allBound filled encTy
   domainRestriction-ends t u = rw (same-ty-refl (element t))
 
   domainRestriction-judged : (ts : List Ty) → length ts ≡ 2 → Holds domainRestriction n us Γ ts
@@ -434,7 +434,7 @@ module _ (n : ℕ) (us : List Ty) (Γ : Ctx) where
       (two-judged (ruleAt domainRestriction .first) (ruleAt domainRestriction .last) (ruleAt domainRestriction .result) (λ l. result domainRestriction n us Γ l) (λ l. wants domainRestriction l) (λ ρ p q. refl) t u (domainRestriction-ends t u)))
 
   rangeRestriction-ends : (t u : Ty) → judge (ruleAt rangeRestriction) (wants rangeRestriction (t ∷ u ∷ [])) ≡ limited (encTy (result rangeRestriction n us Γ (wants rangeRestriction (t ∷ u ∷ []))))
-  unfolding ruleAt judge pairsFit matches filled encTy
+  unfolding ruleAt judge pairsFit matches allBound filled encTy
   rangeRestriction-ends t u = rw (same-ty-refl (element u))
 
   rangeRestriction-judged : (ts : List Ty) → length ts ≡ 2 → Holds rangeRestriction n us Γ ts
@@ -445,7 +445,7 @@ module _ (n : ℕ) (us : List Ty) (Γ : Ctx) where
       (two-judged (ruleAt rangeRestriction .first) (ruleAt rangeRestriction .last) (ruleAt rangeRestriction .result) (λ l. result rangeRestriction n us Γ l) (λ l. wants rangeRestriction l) (λ ρ p q. refl) t u (rangeRestriction-ends t u)))
 
   upTo-ends : (t u : Ty) → judge (ruleAt upTo) (wants upTo (t ∷ u ∷ [])) ≡ limited (encTy (result upTo n us Γ (wants upTo (t ∷ u ∷ []))))
-  unfolding ruleAt judge pairsFit matches filled encTy
+  unfolding ruleAt judge pairsFit matches allBound filled encTy
   upTo-ends t u = refl
 
   upTo-judged : (ts : List Ty) → length ts ≡ 2 → Holds upTo n us Γ ts
@@ -456,7 +456,7 @@ module _ (n : ℕ) (us : List Ty) (Γ : Ctx) where
       (two-judged (ruleAt upTo .first) (ruleAt upTo .last) (ruleAt upTo .result) (λ l. result upTo n us Γ l) (λ l. wants upTo l) (λ ρ p q. refl) t u (upTo-ends t u)))
 
   arithmetic-ends : (t u : Ty) → judge (ruleAt arithmetic) (wants arithmetic (t ∷ u ∷ [])) ≡ limited (encTy (result arithmetic n us Γ (wants arithmetic (t ∷ u ∷ []))))
-  unfolding ruleAt judge pairsFit matches filled encTy
+  unfolding ruleAt judge pairsFit matches allBound filled encTy
   arithmetic-ends t u = refl
 
   arithmetic-judged : (ts : List Ty) → length ts ≡ 2 → Holds arithmetic n us Γ ts
@@ -467,7 +467,7 @@ module _ (n : ℕ) (us : List Ty) (Γ : Ctx) where
       (two-judged (ruleAt arithmetic .first) (ruleAt arithmetic .last) (ruleAt arithmetic .result) (λ l. result arithmetic n us Γ l) (λ l. wants arithmetic l) (λ ρ p q. refl) t u (arithmetic-ends t u)))
 
   functionImage-ends : (t u : Ty) → judge (ruleAt functionImage) (wants functionImage (t ∷ u ∷ [])) ≡ limited (encTy (result functionImage n us Γ (wants functionImage (t ∷ u ∷ []))))
-  unfolding ruleAt judge pairsFit matches filled encTy
+  unfolding ruleAt judge pairsFit matches allBound filled encTy
   functionImage-ends t u = rw (same-ty-refl (source t))
 
   functionImage-judged : (ts : List Ty) → length ts ≡ 2 → Holds functionImage n us Γ ts
@@ -478,7 +478,7 @@ module _ (n : ℕ) (us : List Ty) (Γ : Ctx) where
       (two-judged (ruleAt functionImage .first) (ruleAt functionImage .last) (ruleAt functionImage .result) (λ l. result functionImage n us Γ l) (λ l. wants functionImage l) (λ ρ p q. refl) t u (functionImage-ends t u)))
 
   relationalImage-ends : (t u : Ty) → judge (ruleAt relationalImage) (wants relationalImage (t ∷ u ∷ [])) ≡ limited (encTy (result relationalImage n us Γ (wants relationalImage (t ∷ u ∷ []))))
-  unfolding ruleAt judge pairsFit matches filled encTy
+  unfolding ruleAt judge pairsFit matches allBound filled encTy
   relationalImage-ends t u = rw (same-ty-refl (source t))
 
   relationalImage-judged : (ts : List Ty) → length ts ≡ 2 → Holds relationalImage n us Γ ts
@@ -489,7 +489,7 @@ module _ (n : ℕ) (us : List Ty) (Γ : Ctx) where
       (two-judged (ruleAt relationalImage .first) (ruleAt relationalImage .last) (ruleAt relationalImage .result) (λ l. result relationalImage n us Γ l) (λ l. wants relationalImage l) (λ ρ p q. refl) t u (relationalImage-ends t u)))
 
   quantifiedSet-ends : (t u : Ty) → judge (ruleAt quantifiedSet) (wants quantifiedSet (t ∷ u ∷ [])) ≡ limited (encTy (result quantifiedSet n us Γ (wants quantifiedSet (t ∷ u ∷ []))))
-  unfolding ruleAt judge pairsFit matches filled encTy
+  unfolding ruleAt judge pairsFit matches allBound filled encTy
   quantifiedSet-ends t u = refl
 
   quantifiedSet-judged : (ts : List Ty) → length ts ≡ 2 → Holds quantifiedSet n us Γ ts
@@ -500,7 +500,7 @@ module _ (n : ℕ) (us : List Ty) (Γ : Ctx) where
       (two-judged (ruleAt quantifiedSet .first) (ruleAt quantifiedSet .last) (ruleAt quantifiedSet .result) (λ l. result quantifiedSet n us Γ l) (λ l. wants quantifiedSet l) (λ ρ p q. refl) t u (quantifiedSet-ends t u)))
 
   comprehension-ends : (t u : Ty) → judge (ruleAt comprehension) (wants comprehension (t ∷ u ∷ [])) ≡ limited (encTy (result comprehension n us Γ (wants comprehension (t ∷ u ∷ []))))
-  unfolding ruleAt judge pairsFit matches filled encTy
+  unfolding ruleAt judge pairsFit matches allBound filled encTy
   comprehension-ends t u = refl
 
   comprehension-judged : (ts : List Ty) → length ts ≡ 2 → Holds comprehension n us Γ ts
@@ -511,7 +511,7 @@ module _ (n : ℕ) (us : List Ty) (Γ : Ctx) where
       (two-judged (ruleAt comprehension .first) (ruleAt comprehension .last) (ruleAt comprehension .result) (λ l. result comprehension n us Γ l) (λ l. wants comprehension l) (λ ρ p q. refl) t u (comprehension-ends t u)))
 
   negation-ends : (t : Ty) → judge (ruleAt negation) (wants negation (t ∷ [])) ≡ limited (encTy (result negation n us Γ (wants negation (t ∷ []))))
-  unfolding ruleAt judge pairsFit matches filled encTy
+  unfolding ruleAt judge pairsFit matches allBound filled encTy
   negation-ends t = refl
 
   negation-judged : (ts : List Ty) → length ts ≡ 1 → Holds negation n us Γ ts
@@ -522,7 +522,7 @@ module _ (n : ℕ) (us : List Ty) (Γ : Ctx) where
       (single t (bool) (judge (ruleAt negation) (t ∷ [])) (limited (encTy (result negation n us Γ (t ∷ [])))) (one-judged (ruleAt negation .first) (ruleAt negation .result) (λ l. result negation n us Γ (l ∷ [])) (λ t. bool) (λ ρ p. refl) t (negation-ends t))))
 
   quantifiedPred-ends : (t : Ty) → judge (ruleAt quantifiedPred) (wants quantifiedPred (t ∷ [])) ≡ limited (encTy (result quantifiedPred n us Γ (wants quantifiedPred (t ∷ []))))
-  unfolding ruleAt judge pairsFit matches filled encTy
+  unfolding ruleAt judge pairsFit matches allBound filled encTy
   quantifiedPred-ends t = refl
 
   quantifiedPred-judged : (ts : List Ty) → length ts ≡ 1 → Holds quantifiedPred n us Γ ts
@@ -533,7 +533,7 @@ module _ (n : ℕ) (us : List Ty) (Γ : Ctx) where
       (single t (bool) (judge (ruleAt quantifiedPred) (t ∷ [])) (limited (encTy (result quantifiedPred n us Γ (t ∷ [])))) (one-judged (ruleAt quantifiedPred .first) (ruleAt quantifiedPred .result) (λ l. result quantifiedPred n us Γ (l ∷ [])) (λ t. bool) (λ ρ p. refl) t (quantifiedPred-ends t))))
 
   finite-ends : (t : Ty) → judge (ruleAt finite) (wants finite (t ∷ [])) ≡ limited (encTy (result finite n us Γ (wants finite (t ∷ []))))
-  unfolding ruleAt judge pairsFit matches filled encTy
+  unfolding ruleAt judge pairsFit matches allBound filled encTy
   finite-ends t = refl
 
   finite-judged : (ts : List Ty) → length ts ≡ 1 → Holds finite n us Γ ts
@@ -544,7 +544,7 @@ module _ (n : ℕ) (us : List Ty) (Γ : Ctx) where
       (single t (pow (element t)) (judge (ruleAt finite) (t ∷ [])) (limited (encTy (result finite n us Γ (t ∷ [])))) (one-judged (ruleAt finite .first) (ruleAt finite .result) (λ l. result finite n us Γ (l ∷ [])) (λ t. pow (element t)) (λ ρ p. refl) t (finite-ends t))))
 
   boolExpr-ends : (t : Ty) → judge (ruleAt boolExpr) (wants boolExpr (t ∷ [])) ≡ limited (encTy (result boolExpr n us Γ (wants boolExpr (t ∷ []))))
-  unfolding ruleAt judge pairsFit matches filled encTy
+  unfolding ruleAt judge pairsFit matches allBound filled encTy
   boolExpr-ends t = refl
 
   boolExpr-judged : (ts : List Ty) → length ts ≡ 1 → Holds boolExpr n us Γ ts
@@ -555,7 +555,7 @@ module _ (n : ℕ) (us : List Ty) (Γ : Ctx) where
       (single t (bool) (judge (ruleAt boolExpr) (t ∷ [])) (limited (encTy (result boolExpr n us Γ (t ∷ [])))) (one-judged (ruleAt boolExpr .first) (ruleAt boolExpr .result) (λ l. result boolExpr n us Γ (l ∷ [])) (λ t. bool) (λ ρ p. refl) t (boolExpr-ends t))))
 
   cardinal-ends : (t : Ty) → judge (ruleAt cardinal) (wants cardinal (t ∷ [])) ≡ limited (encTy (result cardinal n us Γ (wants cardinal (t ∷ []))))
-  unfolding ruleAt judge pairsFit matches filled encTy
+  unfolding ruleAt judge pairsFit matches allBound filled encTy
   cardinal-ends t = refl
 
   cardinal-judged : (ts : List Ty) → length ts ≡ 1 → Holds cardinal n us Γ ts
@@ -566,7 +566,7 @@ module _ (n : ℕ) (us : List Ty) (Γ : Ctx) where
       (single t (pow (element t)) (judge (ruleAt cardinal) (t ∷ [])) (limited (encTy (result cardinal n us Γ (t ∷ [])))) (one-judged (ruleAt cardinal .first) (ruleAt cardinal .result) (λ l. result cardinal n us Γ (l ∷ [])) (λ t. pow (element t)) (λ ρ p. refl) t (cardinal-ends t))))
 
   powerset-ends : (t : Ty) → judge (ruleAt powerset) (wants powerset (t ∷ [])) ≡ limited (encTy (result powerset n us Γ (wants powerset (t ∷ []))))
-  unfolding ruleAt judge pairsFit matches filled encTy
+  unfolding ruleAt judge pairsFit matches allBound filled encTy
   powerset-ends t = refl
 
   powerset-judged : (ts : List Ty) → length ts ≡ 1 → Holds powerset n us Γ ts
@@ -577,7 +577,7 @@ module _ (n : ℕ) (us : List Ty) (Γ : Ctx) where
       (single t (pow (element t)) (judge (ruleAt powerset) (t ∷ [])) (limited (encTy (result powerset n us Γ (t ∷ [])))) (one-judged (ruleAt powerset .first) (ruleAt powerset .result) (λ l. result powerset n us Γ (l ∷ [])) (λ t. pow (element t)) (λ ρ p. refl) t (powerset-ends t))))
 
   generalised-ends : (t : Ty) → judge (ruleAt generalised) (wants generalised (t ∷ [])) ≡ limited (encTy (result generalised n us Γ (wants generalised (t ∷ []))))
-  unfolding ruleAt judge pairsFit matches filled encTy
+  unfolding ruleAt judge pairsFit matches allBound filled encTy
   generalised-ends t = refl
 
   generalised-judged : (ts : List Ty) → length ts ≡ 1 → Holds generalised n us Γ ts
@@ -588,7 +588,7 @@ module _ (n : ℕ) (us : List Ty) (Γ : Ctx) where
       (single t (pow (pow (element (element t)))) (judge (ruleAt generalised) (t ∷ [])) (limited (encTy (result generalised n us Γ (t ∷ [])))) (one-judged (ruleAt generalised .first) (ruleAt generalised .result) (λ l. result generalised n us Γ (l ∷ [])) (λ t. pow (pow (element (element t)))) (λ ρ p. refl) t (generalised-ends t))))
 
   domain-ends : (t : Ty) → judge (ruleAt domain) (wants domain (t ∷ [])) ≡ limited (encTy (result domain n us Γ (wants domain (t ∷ []))))
-  unfolding ruleAt judge pairsFit matches filled encTy
+  unfolding ruleAt judge pairsFit matches allBound filled encTy
   domain-ends t = refl
 
   domain-judged : (ts : List Ty) → length ts ≡ 1 → Holds domain n us Γ ts
@@ -599,7 +599,7 @@ module _ (n : ℕ) (us : List Ty) (Γ : Ctx) where
       (single t (relation (source t) (target t)) (judge (ruleAt domain) (t ∷ [])) (limited (encTy (result domain n us Γ (t ∷ [])))) (one-judged (ruleAt domain .first) (ruleAt domain .result) (λ l. result domain n us Γ (l ∷ [])) (λ t. relation (source t) (target t)) (λ ρ p. refl) t (domain-ends t))))
 
   range-ends : (t : Ty) → judge (ruleAt range) (wants range (t ∷ [])) ≡ limited (encTy (result range n us Γ (wants range (t ∷ []))))
-  unfolding ruleAt judge pairsFit matches filled encTy
+  unfolding ruleAt judge pairsFit matches allBound filled encTy
   range-ends t = refl
 
   range-judged : (ts : List Ty) → length ts ≡ 1 → Holds range n us Γ ts
@@ -610,7 +610,7 @@ module _ (n : ℕ) (us : List Ty) (Γ : Ctx) where
       (single t (relation (source t) (target t)) (judge (ruleAt range) (t ∷ [])) (limited (encTy (result range n us Γ (t ∷ [])))) (one-judged (ruleAt range .first) (ruleAt range .result) (λ l. result range n us Γ (l ∷ [])) (λ t. relation (source t) (target t)) (λ ρ p. refl) t (range-ends t))))
 
   extremum-ends : (t : Ty) → judge (ruleAt extremum) (wants extremum (t ∷ [])) ≡ limited (encTy (result extremum n us Γ (wants extremum (t ∷ []))))
-  unfolding ruleAt judge pairsFit matches filled encTy
+  unfolding ruleAt judge pairsFit matches allBound filled encTy
   extremum-ends t = refl
 
   extremum-judged : (ts : List Ty) → length ts ≡ 1 → Holds extremum n us Γ ts
@@ -621,7 +621,7 @@ module _ (n : ℕ) (us : List Ty) (Γ : Ctx) where
       (single t (pow int) (judge (ruleAt extremum) (t ∷ [])) (limited (encTy (result extremum n us Γ (t ∷ [])))) (one-judged (ruleAt extremum .first) (ruleAt extremum .result) (λ l. result extremum n us Γ (l ∷ [])) (λ t. pow int) (λ ρ p. refl) t (extremum-ends t))))
 
   converse-ends : (t : Ty) → judge (ruleAt converse) (wants converse (t ∷ [])) ≡ limited (encTy (result converse n us Γ (wants converse (t ∷ []))))
-  unfolding ruleAt judge pairsFit matches filled encTy
+  unfolding ruleAt judge pairsFit matches allBound filled encTy
   converse-ends t = refl
 
   converse-judged : (ts : List Ty) → length ts ≡ 1 → Holds converse n us Γ ts
@@ -632,7 +632,7 @@ module _ (n : ℕ) (us : List Ty) (Γ : Ctx) where
       (single t (relation (source t) (target t)) (judge (ruleAt converse) (t ∷ [])) (limited (encTy (result converse n us Γ (t ∷ [])))) (one-judged (ruleAt converse .first) (ruleAt converse .result) (λ l. result converse n us Γ (l ∷ [])) (λ t. relation (source t) (target t)) (λ ρ p. refl) t (converse-ends t))))
 
   unaryMinus-ends : (t : Ty) → judge (ruleAt unaryMinus) (wants unaryMinus (t ∷ [])) ≡ limited (encTy (result unaryMinus n us Γ (wants unaryMinus (t ∷ []))))
-  unfolding ruleAt judge pairsFit matches filled encTy
+  unfolding ruleAt judge pairsFit matches allBound filled encTy
   unaryMinus-ends t = refl
 
   unaryMinus-judged : (ts : List Ty) → length ts ≡ 1 → Holds unaryMinus n us Γ ts
@@ -643,7 +643,7 @@ module _ (n : ℕ) (us : List Ty) (Γ : Ctx) where
       (single t (int) (judge (ruleAt unaryMinus) (t ∷ [])) (limited (encTy (result unaryMinus n us Γ (t ∷ [])))) (one-judged (ruleAt unaryMinus .first) (ruleAt unaryMinus .result) (λ l. result unaryMinus n us Γ (l ∷ [])) (λ t. int) (λ ρ p. refl) t (unaryMinus-ends t))))
 
   associativePred-ends : (t : Ty) (ts : List Ty) → let w = bool in ends (ruleAt associativePred) (w ∷ ts) ≡ limited (encTy (result associativePred n us Γ (w ∷ ts)))
-  unfolding ruleAt matches filled encTy
+  unfolding ruleAt matches allBound filled encTy
   associativePred-ends t ts = refl
 
   associativePred-judged : (ts : List Ty) → 0 < length ts → Holds associativePred n us Γ ts
@@ -654,7 +654,7 @@ module _ (n : ℕ) (us : List Ty) (Γ : Ctx) where
       (uniform-judged (ruleAt associativePred .first) (ruleAt associativePred .result) (λ l. result associativePred n us Γ l) (λ t. bool) (λ ρ p. refl) t vs (associativePred-ends t vs)))
 
   partition-ends : (t : Ty) (ts : List Ty) → let w = pow (element t) in ends (ruleAt partition) (w ∷ ts) ≡ limited (encTy (result partition n us Γ (w ∷ ts)))
-  unfolding ruleAt matches filled encTy
+  unfolding ruleAt matches allBound filled encTy
   partition-ends t ts = refl
 
   partition-judged : (ts : List Ty) → 0 < length ts → Holds partition n us Γ ts
@@ -665,7 +665,7 @@ module _ (n : ℕ) (us : List Ty) (Γ : Ctx) where
       (uniform-judged (ruleAt partition .first) (ruleAt partition .result) (λ l. result partition n us Γ l) (λ t. pow (element t)) (λ ρ p. refl) t vs (partition-ends t vs)))
 
   setExtension-ends : (t : Ty) (ts : List Ty) → let w = t in ends (ruleAt setExtension) (w ∷ ts) ≡ limited (encTy (result setExtension n us Γ (w ∷ ts)))
-  unfolding ruleAt matches filled encTy
+  unfolding ruleAt matches allBound filled encTy
   setExtension-ends t ts = refl
 
   setExtension-judged : (ts : List Ty) → 0 < length ts → Holds setExtension n us Γ ts
@@ -676,7 +676,7 @@ module _ (n : ℕ) (us : List Ty) (Γ : Ctx) where
       (uniform-judged (ruleAt setExtension .first) (ruleAt setExtension .result) (λ l. result setExtension n us Γ l) (λ t. t) (λ ρ p. refl) t vs (setExtension-ends t vs)))
 
   setOperation-ends : (t : Ty) (ts : List Ty) → let w = pow (element t) in ends (ruleAt setOperation) (w ∷ ts) ≡ limited (encTy (result setOperation n us Γ (w ∷ ts)))
-  unfolding ruleAt matches filled encTy
+  unfolding ruleAt matches allBound filled encTy
   setOperation-ends t ts = refl
 
   setOperation-judged : (ts : List Ty) → 0 < length ts → Holds setOperation n us Γ ts
@@ -687,7 +687,7 @@ module _ (n : ℕ) (us : List Ty) (Γ : Ctx) where
       (uniform-judged (ruleAt setOperation .first) (ruleAt setOperation .result) (λ l. result setOperation n us Γ l) (λ t. pow (element t)) (λ ρ p. refl) t vs (setOperation-ends t vs)))
 
   override-ends : (t : Ty) (ts : List Ty) → let w = relation (source t) (target t) in ends (ruleAt override) (w ∷ ts) ≡ limited (encTy (result override n us Γ (w ∷ ts)))
-  unfolding ruleAt matches filled encTy
+  unfolding ruleAt matches allBound filled encTy
   override-ends t ts = refl
 
   override-judged : (ts : List Ty) → 0 < length ts → Holds override n us Γ ts
@@ -698,7 +698,7 @@ module _ (n : ℕ) (us : List Ty) (Γ : Ctx) where
       (uniform-judged (ruleAt override .first) (ruleAt override .result) (λ l. result override n us Γ l) (λ t. relation (source t) (target t)) (λ ρ p. refl) t vs (override-ends t vs)))
 
   sum-ends : (t : Ty) (ts : List Ty) → let w = int in ends (ruleAt sum) (w ∷ ts) ≡ limited (encTy (result sum n us Γ (w ∷ ts)))
-  unfolding ruleAt matches filled encTy
+  unfolding ruleAt matches allBound filled encTy
   sum-ends t ts = refl
 
   sum-judged : (ts : List Ty) → 0 < length ts → Holds sum n us Γ ts
@@ -708,8 +708,8 @@ module _ (n : ℕ) (us : List Ty) (Γ : Ctx) where
       (λ t vs. plain sum n us Γ (t ∷ vs) (t ∷ vs)
       (uniform-judged (ruleAt sum .first) (ruleAt sum .result) (λ l. result sum n us Γ l) (λ t. int) (λ ρ p. refl) t vs (sum-ends t vs)))
 
-  forwardComposition-fill : (a b c d : Ty) → filled (ruleAt forwardComposition .result) (a ∷ b ∷ c ∷ d ∷ []) ≡ encTy (relation a d)
-  unfolding ruleAt filled encTy
+  forwardComposition-fill : (a b c d : Ty) → completed (ruleAt forwardComposition .result) (a ∷ b ∷ c ∷ d ∷ []) ≡ limited (encTy (relation a d))
+  unfolding ruleAt allBound filled encTy
   forwardComposition-fill a b c d = refl
 
   forwardComposition-judged : (ts : List Ty) → 0 < length ts → Holds forwardComposition n us Γ ts
@@ -720,8 +720,8 @@ module _ (n : ℕ) (us : List Ty) (Γ : Ctx) where
       (chain-judged onwardPair (ruleAt forwardComposition .result) (λ l. result forwardComposition n us Γ l) (λ t us. onward (target t) us) t vs
       (onward-of t vs) (of-onward t vs) (onward-last t vs) (forwardComposition-fill (source t) (target t) (source (lastTy (t ∷ vs))) (target (lastTy (t ∷ vs))))))
 
-  backwardComposition-fill : (a b c d : Ty) → filled (ruleAt backwardComposition .result) (a ∷ b ∷ c ∷ d ∷ []) ≡ encTy (relation c b)
-  unfolding ruleAt filled encTy
+  backwardComposition-fill : (a b c d : Ty) → completed (ruleAt backwardComposition .result) (a ∷ b ∷ c ∷ d ∷ []) ≡ limited (encTy (relation c b))
+  unfolding ruleAt allBound filled encTy
   backwardComposition-fill a b c d = refl
 
   backwardComposition-judged : (ts : List Ty) → 0 < length ts → Holds backwardComposition n us Γ ts
@@ -733,35 +733,35 @@ module _ (n : ℕ) (us : List Ty) (Γ : Ctx) where
       (backward-of t vs) (of-backward t vs) (backward-last t vs) (backwardComposition-fill (source t) (target t) (source (lastTy (t ∷ vs))) (target (lastTy (t ∷ vs))))))
 
   literalPred-judged : (ts : List Ty) → length ts ≡ 0 → Holds literalPred n us Γ ts
-  unfolding ruleAt judge pairsFit matches filled encTy sameTys
+  unfolding ruleAt judge pairsFit matches allBound filled encTy sameTys
   literalPred-judged ts h = none-of (Holds literalPred n us Γ) ts h (plain literalPred n us Γ [] [] refl)
 
   literal-judged : (ts : List Ty) → length ts ≡ 0 → Holds literal n us Γ ts
-  unfolding ruleAt judge pairsFit matches filled encTy sameTys
+  unfolding ruleAt judge pairsFit matches allBound filled encTy sameTys
   literal-judged ts h = none-of (Holds literal n us Γ) ts h (plain literal n us Γ [] [] refl)
 
   integerSet-judged : (ts : List Ty) → length ts ≡ 0 → Holds integerSet n us Γ ts
-  unfolding ruleAt judge pairsFit matches filled encTy sameTys
+  unfolding ruleAt judge pairsFit matches allBound filled encTy sameTys
   integerSet-judged ts h = none-of (Holds integerSet n us Γ) ts h (plain integerSet n us Γ [] [] refl)
 
   boolSet-judged : (ts : List Ty) → length ts ≡ 0 → Holds boolSet n us Γ ts
-  unfolding ruleAt judge pairsFit matches filled encTy sameTys
+  unfolding ruleAt judge pairsFit matches allBound filled encTy sameTys
   boolSet-judged ts h = none-of (Holds boolSet n us Γ) ts h (plain boolSet n us Γ [] [] refl)
 
   truthValue-judged : (ts : List Ty) → length ts ≡ 0 → Holds truthValue n us Γ ts
-  unfolding ruleAt judge pairsFit matches filled encTy sameTys
+  unfolding ruleAt judge pairsFit matches allBound filled encTy sameTys
   truthValue-judged ts h = none-of (Holds truthValue n us Γ) ts h (plain truthValue n us Γ [] [] refl)
 
   integerRelation-judged : (ts : List Ty) → length ts ≡ 0 → Holds integerRelation n us Γ ts
-  unfolding ruleAt judge pairsFit matches filled encTy sameTys
+  unfolding ruleAt judge pairsFit matches allBound filled encTy sameTys
   integerRelation-judged ts h = none-of (Holds integerRelation n us Γ) ts h (plain integerRelation n us Γ [] [] refl)
 
   unlisted-judged : (ts : List Ty) → length ts ≡ 0 → Holds unlisted n us Γ ts
-  unfolding ruleAt judge pairsFit matches filled encTy sameTys
+  unfolding ruleAt judge pairsFit matches allBound filled encTy sameTys
   unlisted-judged ts h = none-of (Holds unlisted n us Γ) ts h (plain unlisted n us Γ [] [] refl)
 
   identifier-ends : (t : Ty) → let w = t in judge (ruleAt identifier) (w ∷ []) ≡ limited (encTy w)
-  unfolding ruleAt judge pairsFit matches filled encTy
+  unfolding ruleAt judge pairsFit matches allBound filled encTy
   identifier-ends t = refl
 
   identifier-judged : (ts : List Ty) → length ts ≡ 0 → Holds identifier n us Γ ts
@@ -771,7 +771,7 @@ module _ (n : ℕ) (us : List Ty) (Γ : Ctx) where
       (one-judged (ruleAt identifier .first) (ruleAt identifier .result) (λ t. t) (λ t. t) (λ ρ p. refl) (carriedTy us) (identifier-ends (carriedTy us)))
 
   emptySet-ends : (t : Ty) → let w = pow (element t) in judge (ruleAt emptySet) (w ∷ []) ≡ limited (encTy w)
-  unfolding ruleAt judge pairsFit matches filled encTy
+  unfolding ruleAt judge pairsFit matches allBound filled encTy
   emptySet-ends t = refl
 
   emptySet-judged : (ts : List Ty) → length ts ≡ 0 → Holds emptySet n us Γ ts
@@ -781,7 +781,7 @@ module _ (n : ℕ) (us : List Ty) (Γ : Ctx) where
       (one-judged (ruleAt emptySet .first) (ruleAt emptySet .result) (λ t. t) (λ t. pow (element t)) (λ ρ p. refl) (carriedTy us) (emptySet-ends (carriedTy us)))
 
   projection1-ends : (t : Ty) → let w = relation (prod (first (source t)) (second (source t))) (first (source t)) in judge (ruleAt projection1) (w ∷ []) ≡ limited (encTy w)
-  unfolding ruleAt judge pairsFit matches filled encTy
+  unfolding ruleAt judge pairsFit matches allBound filled encTy
   projection1-ends t = rw (same-ty-refl (first (source t)), append-assoc (encTy (first (source t))) (encTy (second (source t))) (encTy (first (source t))))
 
   projection1-judged : (ts : List Ty) → length ts ≡ 0 → Holds projection1 n us Γ ts
@@ -791,7 +791,7 @@ module _ (n : ℕ) (us : List Ty) (Γ : Ctx) where
       (one-judged (ruleAt projection1 .first) (ruleAt projection1 .result) (λ t. t) (λ t. relation (prod (first (source t)) (second (source t))) (first (source t))) (λ ρ p. refl) (carriedTy us) (projection1-ends (carriedTy us)))
 
   projection2-ends : (t : Ty) → let w = relation (prod (first (source t)) (second (source t))) (second (source t)) in judge (ruleAt projection2) (w ∷ []) ≡ limited (encTy w)
-  unfolding ruleAt judge pairsFit matches filled encTy
+  unfolding ruleAt judge pairsFit matches allBound filled encTy
   projection2-ends t = rw (same-ty-refl (second (source t)), append-assoc (encTy (first (source t))) (encTy (second (source t))) (encTy (second (source t))))
 
   projection2-judged : (ts : List Ty) → length ts ≡ 0 → Holds projection2 n us Γ ts
@@ -801,7 +801,7 @@ module _ (n : ℕ) (us : List Ty) (Γ : Ctx) where
       (one-judged (ruleAt projection2 .first) (ruleAt projection2 .result) (λ t. t) (λ t. relation (prod (first (source t)) (second (source t))) (second (source t))) (λ ρ p. refl) (carriedTy us) (projection2-ends (carriedTy us)))
 
   identity-ends : (t : Ty) → let w = relation (source t) (source t) in judge (ruleAt identity) (w ∷ []) ≡ limited (encTy w)
-  unfolding ruleAt judge pairsFit matches filled encTy
+  unfolding ruleAt judge pairsFit matches allBound filled encTy
   identity-ends t = rw (same-ty-refl (source t))
 
   identity-judged : (ts : List Ty) → length ts ≡ 0 → Holds identity n us Γ ts
@@ -811,7 +811,7 @@ module _ (n : ℕ) (us : List Ty) (Γ : Ctx) where
       (one-judged (ruleAt identity .first) (ruleAt identity .result) (λ t. t) (λ t. relation (source t) (source t)) (λ ρ p. refl) (carriedTy us) (identity-ends (carriedTy us)))
 
   bound-ends : (t : Ty) → judge (ruleAt bound) (t ∷ []) ≡ limited (encTy t)
-  unfolding ruleAt judge pairsFit matches filled encTy
+  unfolding ruleAt judge pairsFit matches allBound filled encTy
   bound-ends t = refl
 
   bound-judged : (ts : List Ty) → length ts ≡ 0 → Holds bound n us Γ ts

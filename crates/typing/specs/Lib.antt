@@ -7,5 +7,6 @@ pub mod TypeExpression
 pub mod Signature
 pub mod Leaves
 pub mod Patterns
+pub mod RuleNumbers
 pub mod Buffers
 pub mod Cases

@@ -262,6 +262,15 @@ abbrev pub thenMatched : Matched → (List Ty → Judged) → Judged
 thenMatched (fits us ρ) go = go ρ
 thenMatched differs go = wrong
 
+-- every variable of a pattern has a type
+unfoldable pub allBound : List ℕ → List Ty → Bool
+allBound [] ρ = true
+allBound (b ∷ ps) ρ = pick (ltb b variables) true (ltb (b - variables) (length ρ)) && allBound ps ρ
+
+-- the type of the node
+abbrev pub completed : List ℕ → List Ty → Judged
+completed r ρ = pick (allBound r ρ) (limited (filled r ρ)) wrong
+
 -- each two in a row
 unfoldable pub pairsFit : List ℕ → List Ty → Bool
 pairsFit p [] = true
@@ -276,7 +285,7 @@ lastOnes (t ∷ u ∷ us) = lastOnes (u ∷ us)
 
 abbrev pub ends : Rule → List Ty → Judged
 ends r ts =
-    thenMatched (matches (r .first) ts []) (λ ρ. thenMatched (matches (r .last) (lastOnes ts) ρ) (λ σ. limited (filled (r .result) σ)))
+    thenMatched (matches (r .first) ts []) (λ ρ. thenMatched (matches (r .last) (lastOnes ts) ρ) (λ σ. completed (r .result) σ))
 
 unfoldable pub judge : Rule → List Ty → Judged
 judge r ts = pick (pairsFit (r .pair) ts) (ends r ts) wrong
