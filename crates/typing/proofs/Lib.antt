@@ -9,4 +9,8 @@ pub mod PatternRules
 pub mod RuleTables
 pub mod NodeRules
 pub mod Machine
+pub mod MatchTurns
+pub mod PairTurns
+pub mod FillTurns
+pub mod JudgeTurns
 pub mod BufferLaws

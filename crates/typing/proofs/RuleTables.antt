@@ -16,7 +16,7 @@ use Rattle.frame.proofs.TagTables.{allBelow, below}
 use Rattle.frame.proofs.Inversion.{true-not}
 use Rattle.frame.proofs.SameTrees.{both-true}
 use Rattle.typing.specs.Typing.{carriedTy, typeAt, shape, element, source, first, second, relation}
-use Rattle.typing.specs.Patterns.{Rule, rule, ruleAt, ownTypes}
+use Rattle.typing.specs.Patterns.{Rule, rule, ruleAt, ownTypes, cut}
 use Rattle.typing.specs.RuleNumbers.{ruleNumber}
 use Rattle.typing.proofs.PatternRules.{shapeFor}
 
@@ -104,11 +104,6 @@ module _ (t : ℕ) (h : t / 50 < 19) where
         subst (RuleOf t) (sym (e ∙ ap (λ (i : ℕ). getD tagRules (i + t % 50) 0) ef)) d
 
 -- ---- the patterns of a rule
--- up to the end mark
-abbrev pub cut : List ℕ → List ℕ
-cut [] = []
-cut (b ∷ ps) = pick (eqb b 2) [] (b ∷ cut ps)
-
 abbrev pub patternAt : ℕ → List ℕ
 patternAt i = cut (drop i patterns)
 

@@ -8,5 +8,6 @@ pub mod Signature
 pub mod Leaves
 pub mod Patterns
 pub mod RuleNumbers
+pub mod PatternPosts
 pub mod Buffers
 pub mod Cases

@@ -5,7 +5,11 @@ use crate::type_bytes::type_end;
 use frame::tags::wide;
 ghost use mathlib.Core.Path.{_≡_};
 ghost use Prim.Native.Nat.{ℕ, _+_, _-_, _*_, _≤_, _<_};
-ghost use lib.ListN.{length};
+ghost use lib.ListN.{length, drop};
+ghost use Rattle.frame.specs.Tags.{classOf};
+ghost use Rattle.typing.specs.Patterns.{cut, ruleAt};
+ghost use Rattle.typing.specs.RuleNumbers.{ruleNumber};
+ghost use Rattle.typing.specs.PatternPosts.{MatchPre, MatchPost, PairsPre, PairsPost, FillPre, FillPost, JudgePre, JudgePost};
 
 // "A type has at most 64 bytes, derived ones too."
 const TYPE_LIMIT: usize = 64;
@@ -58,7 +62,9 @@ const PATTERNS: [u8; 126] =
     *b"\x02\x00\x02\x01\x02\x05\x02\x06\x02\x03\x00\x02\x03\x01\x02\x03\x05\x02\x03\x06\x02\x05\x05\x02\x03\x03\x05\x02\x04\x05\x06\x02\x03\x04\x01\x01\x02\x03\x04\x05\x05\x02\x03\x04\x05\x06\x02\x03\x04\x05\x07\x02\x03\x04\x05\x08\x02\x03\x04\x06\x05\x02\x03\x04\x07\x06\x02\x03\x04\x07\x08\x02\x03\x03\x04\x05\x06\x02\x03\x04\x04\x05\x06\x05\x02\x03\x04\x04\x05\x06\x06\x02\x03\x04\x05\x04\x06\x07\x02\x03\x04\x04\x05\x07\x04\x06\x08\x02\x03\x04\x05\x06\x03\x04\x06\x07\x02\x03\x04\x05\x06\x03\x04\x07\x05\x02";
 
 // The number of the rule of a tag. The rules 1 to 5 are those of nodes that carry their type, 6 that of a bound identifier.
-pub fn rule_of(tag: usize) -> usize {
+pub fn rule_of(tag: usize) -> usize
+    ensures { λ r. ⌜ (r ≡ ruleNumber (classOf tag)) × (r < 49) ⌝ }
+{
     let block = tag / 50;
     if 19 <= block {
         return 0;
@@ -82,7 +88,10 @@ fn match_pattern(
     starts: &mut [usize; 4],
     ends: &mut [usize; 4],
     k: usize,
-) -> Fit {
+) -> Fit
+    requires { ⌜ MatchPre (now types) at n (now starts) (now ends) k ⌝ }
+    ensures { λ r. ⌜ MatchPost (cut (drop i (now (patterns .entry)))) (now (types .entry)) at n (now (starts .entry)) (now (ends .entry)) k (now (starts .exit)) (now (ends .exit)) r ⌝ }
+{
     if patterns.len() <= i {
         return Fit::Fits(k);
     }
@@ -106,7 +115,7 @@ fn match_pattern(
     if v < k {
         let from = starts[v];
         let len = ends[v] - from;
-        if n < at + len {
+        if n - at < len {
             return Fit::Differs;
         }
         if !same_bytes(types, from, at, len) {
@@ -132,7 +141,10 @@ fn match_pairs(
     n: usize,
     starts: &mut [usize; 4],
     ends: &mut [usize; 4],
-) -> Pairs {
+) -> Pairs
+    requires { ⌜ PairsPre (now types) at n (now starts) (now ends) ⌝ }
+    ensures { λ r. ⌜ PairsPost (cut (drop i (now (patterns .entry)))) (now (types .entry)) at n (now (starts .entry)) (now (ends .entry)) (now (starts .exit)) (now (ends .exit)) r ⌝ }
+{
     if n <= at {
         return Pairs::Last(at);
     }
@@ -157,7 +169,10 @@ fn fill_pattern(
     starts: &[usize; 4],
     ends: &[usize; 4],
     k: usize,
-) -> Filled {
+) -> Filled
+    requires { ⌜ FillPre (now types) m limit (now starts) (now ends) k ⌝ }
+    ensures { λ r. ⌜ FillPost (cut (drop i (now (patterns .entry)))) (now (types .entry)) m limit (now (starts .entry)) (now (ends .entry)) k (now (types .exit)) r ⌝ }
+{
     if patterns.len() <= i {
         return Filled::To(m);
     }
@@ -178,18 +193,21 @@ fn fill_pattern(
     }
     let from = starts[v];
     let to = ends[v];
-    let e = m + (to - from);
-    if limit < e {
+    let len = to - from;
+    if limit - m < len {
         return Filled::Over;
     }
     copy_within(types, from, to, m);
-    fill_pattern(patterns, i + 1, types, e, limit, starts, ends, k)
+    fill_pattern(patterns, i + 1, types, m + len, limit, starts, ends, k)
 }
 
-// A rule at the types of the operands, which stand from `from` up to n. The type of the node is left from `from` on.
-pub fn judge_types(rule: usize, types: &mut [u8], from: usize, n: usize) -> Typed {
+// The rule of a tag at the types of the operands, which stand from `from` up to n. The type of the node is left from `from` on.
+pub fn judge_types(tag: usize, types: &mut [u8], from: usize, n: usize) -> Typed
+    requires { ⌜ JudgePre (now types) from n ⌝ }
+    ensures { λ r. ⌜ JudgePost (ruleAt (classOf tag)) (now (types .entry)) from n (now (types .exit)) r ⌝ }
+{
     let patterns = PATTERNS;
-    let row = rule * 4;
+    let row = rule_of(tag) * 4;
     let mut starts = [0usize; 4];
     let mut ends = [0usize; 4];
     let pairs = match_pairs(
