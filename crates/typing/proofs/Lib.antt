@@ -13,4 +13,8 @@ pub mod MatchTurns
 pub mod PairTurns
 pub mod FillTurns
 pub mod JudgeTurns
+pub mod OwnTurns
+pub mod OpenTurns
+pub mod StackTurns
+pub mod TreeTurns
 pub mod BufferLaws

@@ -1,7 +1,6 @@
 -- Typing in prefix order with a stack of open nodes: what the nodes that are open, and the operands that are to come, say of the
 -- whole tree.
--- Main definitions: Open, closeUp (the answer that an open node and those below it come to). Main results: machine-start, machine-push,
--- machine-pop: opening a node and closing one leave the answer as it is.
+-- Main results: machine-start, machine-push, machine-pop: opening a node and closing one leave the answer as it is.
 use mathlib.Core.Path.{_≡_, refl, sym, ap, ap₂, _∙_, subst}
 use mathlib.Core.Bool.{Bool, true, false, _&&_}
 use mathlib.Core.List.{List, [], _∷_, _++_, append-assoc, append-nil}
@@ -10,57 +9,13 @@ use Rattle.frame.specs.Types.{Ty}
 use Rattle.frame.specs.Trees.{Head, head, Tree, node, Forest, nil, cons}
 use Rattle.frame.specs.Tags.{pick, classOf}
 use Rattle.frame.specs.Places.{Ctx, under}
+use Rattle.typing.specs.Machine.{Answer, is, bad, Open, opened, inner, operands, good, typeIn, given, closeUp, deliver, answerOf}
 use Rattle.typing.specs.Typing.{result, typeOf, typesIn, nodeTyped, typedTree, typedForest}
-
-pub data Answer : Type 0 where
-  is : Ty → Answer
-  bad : Answer
-
--- an open node: its head and context, the types of the operands that have come, and the operands that are to come
-pub record Open : Type 0 where
-  pub tag : ℕ
-  pub payload : ℕ
-  pub types : List Ty
-  pub ctx : Ctx
-  pub done : List Ty
-  pub todo : Forest
-
-abbrev pub opened : ℕ → ℕ → List Ty → Ctx → List Ty → Forest → Open
-opened g n us Γ ts ks = record { tag = g; payload = n; types = us; ctx = Γ; done = ts; todo = ks }
-
--- the context of its operands
-abbrev pub inner : Open → Ctx
-inner o = under (o .tag) (o .types) (o .ctx)
-
-abbrev pub operands : Open → List Ty
-operands o = o .done ++ typesIn (o .todo) (inner o)
-
-abbrev pub good : Open → Bool
-good o = nodeTyped (o .tag) (o .payload) (o .types) (o .ctx) (operands o) && typedForest (o .todo) (inner o)
-
-abbrev pub typeIn : Open → Ty
-typeIn o = result (classOf (o .tag)) (o .payload) (o .types) (o .ctx) (operands o)
-
--- one operand more has come
-abbrev pub given : Open → Ty → Open
-given o t = opened (o .tag) (o .payload) (o .types) (o .ctx) (o .done ++ (t ∷ [])) (o .todo)
-
-unfoldable pub closeUp : Open → List Open → Answer
-closeUp o [] = pick (good o) (is (typeIn o)) bad
-closeUp o (p ∷ ps) = let r = closeUp (given p (typeIn o)) ps in pick (good o) r bad
-
--- a type goes to the node below
-abbrev pub deliver : Ty → List Open → Answer
-deliver t [] = is t
-deliver t (p ∷ ps) = closeUp (given p t) ps
 
 close-up : (o : Open) (ps : List Open) → closeUp o ps ≡ pick (good o) (deliver (typeIn o) ps) bad
 unfolding closeUp
 close-up o [] = refl
 close-up o (p ∷ ps) = refl
-
-abbrev pub answerOf : Tree → Ctx → Answer
-answerOf t Γ = pick (typedTree t Γ) (is (typeOf t Γ)) bad
 
 pub machine-start : (g n : ℕ) (us : List Ty) (Γ : Ctx) (ks : Forest) → closeUp (opened g n us Γ [] ks) [] ≡ answerOf (node (head g n us) ks) Γ
 unfolding closeUp typedTree typeOf
@@ -89,6 +44,13 @@ module _ (g n : ℕ) (us : List Ty) (Γ : Ctx) (ts : List Ty) where
       ∙ ap (λ (l : List Ty). pick (typedTree k Γ′) (pick (nodeTyped g n us Γ l && typedForest ks Γ′) (deliver (result (classOf g) n us Γ l) ps) bad) bad) e
       ∙ ap (λ (a : Answer). pick (typedTree k Γ′) a bad) (sym (close-up (given (opened g n us Γ ts ks) t) ps))
       ∙ sym (close-up (opened h m vs Γ′ [] ls) (opened g n us Γ ts ks ∷ ps))
+
+  -- an operand that is not well typed
+  pub machine-bad : (h m : ℕ) (vs : List Ty) (ls ks : Forest) (ps : List Open) → typedTree (node (head h m vs) ls) (under g us Γ) ≡ false → closeUp (opened g n us Γ ts (cons (node (head h m vs) ls) ks)) ps ≡ bad
+  unfolding typedTree
+  machine-bad h m vs ls ks ps e =
+      machine-push h m vs ls ks ps ∙ close-up (opened h m vs Γ′ [] ls) (opened g n us Γ ts ks ∷ ps)
+      ∙ ap (λ (b : Bool). pick b (deliver (typeIn (opened h m vs Γ′ [] ls)) (opened g n us Γ ts ks ∷ ps)) bad) e
 
   pub machine-pop : (ps : List Open) → closeUp (opened g n us Γ ts nil) ps ≡ pick (nodeTyped g n us Γ ts) (deliver (result (classOf g) n us Γ ts) ps) bad
   unfolding typeOf typedTree

@@ -18,6 +18,7 @@ use Rattle.frame.proofs.Inversion.{then-of, true-not}
 use Rattle.frame.proofs.ReadTrees.{repeat-length}
 use Rattle.typing.specs.Typing.{element, source, target, relation, first, second, ty, lastTy, alike, onward, backward, wants, result, carriedTy, typeAt}
 use Rattle.typing.specs.Patterns.{Matched, fits, differs, matches, filled, Rule, rule, alikePair, onwardPair, backwardPair, ruleAt, ownTypes, Judged, typed, wrong, limited, allBound, completed, isFit, thenMatched, pairsFit, lastOnes, ends, judge}
+use Rattle.typing.specs.Machine.{Operands}
 use Rattle.typing.proofs.Same.{same-tys-of, same-ty-of}
 use Rattle.typing.proofs.Matching.{differs-not, meant, Means, match-means, Ends, judge-means}
 
@@ -253,10 +254,6 @@ shapeFor unaryMinus t = t
 shapeFor quantifiedSet t = t
 shapeFor comprehension t = t
 shapeFor unlisted t = t
-
--- so many operands as a class has
-abbrev pub Operands : Class → ℕ → ℕ → Type 0
-Operands c x k = (k ≡ length (sortsOf (formAt c .layout) x)) × (inRange (formAt c .layout) x ≡ true)
 
 abbrev Holds : Class → ℕ → List Ty → Ctx → List Ty → Type 0
 Holds c n us Γ ts =

@@ -9,5 +9,7 @@ pub mod Leaves
 pub mod Patterns
 pub mod RuleNumbers
 pub mod PatternPosts
+pub mod Machine
+pub mod TypingPosts
 pub mod Buffers
 pub mod Cases

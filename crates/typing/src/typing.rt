@@ -12,7 +12,10 @@ use frame::tags::form_of;
 use frame::tags::is_sort;
 ghost use mathlib.Core.Path.{_≡_};
 ghost use Prim.Native.Nat.{ℕ, _+_, _-_, _*_, _≤_, _<_};
-ghost use lib.ListN.{length};
+ghost use lib.ListN.{length, getD, set};
+ghost use Rattle.frame.specs.Tags.{classOf};
+ghost use Rattle.typing.specs.PatternPosts.{JudgePre};
+ghost use Rattle.typing.specs.TypingPosts.{PutPre, PutPost, ownPlace, OwnPre, OwnPost, OpenPre, OpenPost, ClosePost, TurnPre, TurnPost, TypePre, TypePost};
 
 // "A type has at most 64 bytes, derived ones too."
 const TYPE_LIMIT: usize = 64;
@@ -41,6 +44,12 @@ pub enum Opened {
     Bad,
 }
 
+fn wide16(x: u16) -> usize
+    ensures { λ r. ⌜ r ≡ x ⌝ }
+{
+    x as usize
+}
+
 // An open node is put on the stack.
 fn push(
     tags: &mut [usize; 2048],
@@ -50,14 +59,20 @@ fn push(
     tag: usize,
     left: usize,
     from: usize,
-) {
+)
+    requires { ⌜ top < 2048 ⌝ }
+    ensures { λ r. ⌜ (now (tags .exit) ≡ set (now (tags .entry)) top tag) × (now (lefts .exit) ≡ set (now (lefts .entry)) top left) × (now (froms .exit) ≡ set (now (froms .entry)) top from) ⌝ }
+{
     tags[top] = tag;
     lefts[top] = left;
     froms[top] = from;
 }
 
 // The type that stands at p of the frame, into the buffer at `end`; a longer one than the limit is no type of a node.
-fn put_type(s: &[u8], p: usize, types: &mut [u8], end: usize) -> Typed {
+fn put_type(s: &[u8], p: usize, types: &mut [u8], end: usize) -> Typed
+    requires { ⌜ PutPre (now s) p (now types) end ⌝ }
+    ensures { λ r. ⌜ PutPost (now (s .entry)) p (now (types .entry)) end (now (types .exit)) r ⌝ }
+{
     let e = type_end(s, p);
     if TYPE_LIMIT < e - p {
         return Typed::Bad;
@@ -74,7 +89,10 @@ fn own_type(
     leaf: usize,
     types: &mut [u8],
     end: usize,
-) -> Typed {
+) -> Typed
+    requires { ⌜ OwnPre (classOf tag) (now s) (ownPlace (classOf tag) carried leaf) (now types) end ⌝ }
+    ensures { λ r. ⌜ OwnPost (classOf tag) (now (s .entry)) (ownPlace (classOf tag) carried leaf) (now (types .entry)) end (now (types .exit)) r ⌝ }
+{
     let rule = rule_of(tag);
     if rule == BOUND_RULE {
         return put_type(s, leaf, types, end);
@@ -99,7 +117,10 @@ fn open_node(
     top: usize,
     types: &mut [u8],
     end: usize,
-) -> Opened {
+) -> Opened
+    requires { ⌜ OpenPre (now s) at leaf top (now types) end ⌝ }
+    ensures { λ r. ⌜ OpenPost (now (s .entry)) at leaf (now (tags .entry)) (now (lefts .entry)) (now (froms .entry)) top (now (types .entry)) end (now (tags .exit)) (now (lefts .exit)) (now (froms .exit)) (now (types .exit)) r ⌝ }
+{
     let h = read_head(s, at, is_sort(form_of(number(s, at, 2)), true));
     match h {
         HeadAnswer::Refused(_c) => Opened::Bad,
@@ -125,12 +146,12 @@ fn open_node(
 }
 
 // The node at the top has all its operands: its type takes their place, and it is an operand of the node below.
-fn close_top(tags: &[usize; 2048], froms: &[usize; 2048], types: &mut [u8], state: State) -> Turned {
+fn close_top(tag: usize, from: usize, types: &mut [u8], state: State) -> Turned
+    requires { ⌜ JudgePre (now types) from (state .end) ⌝ }
+    ensures { λ r. ⌜ ClosePost tag state (now (types .entry)) from (now (types .exit)) r ⌝ }
+{
     let top = state.top;
-    let end = state.end;
-    let from = froms[top];
-    let rule = rule_of(tags[top]);
-    let t = judge_types(rule, types, from, end);
+    let t = judge_types(tag, types, from, state.end);
     match t {
         Typed::Bad => Turned::Done(Typed::Bad),
         Typed::Is(m) => {
@@ -156,16 +177,19 @@ fn one_turn(
     froms: &mut [usize; 2048],
     types: &mut [u8],
     state: State,
-) -> Turned {
+) -> Turned
+    requires { ⌜ TurnPre (now tags) (now lefts) (now froms) (now s) (now leaves) (now types) state ⌝ }
+    ensures { λ r. ⌜ TurnPost (now (tags .entry)) (now (lefts .entry)) (now (froms .entry)) (now (s .entry)) (now (leaves .entry)) (now (types .entry)) state (now (tags .exit)) (now (lefts .exit)) (now (froms .exit)) (now (types .exit)) r ⌝ }
+{
     let top = state.top;
     let left = lefts[top];
     if left == 0 {
-        return close_top(tags, froms, types, state);
+        return close_top(tags[top], froms[top], types, state);
     }
     lefts[top] = left - 1;
     let at = state.at;
     let place = state.place;
-    let leaf = leaves[place] as usize;
+    let leaf = wide16(leaves[place]);
     let o = open_node(s, at, leaf, tags, lefts, froms, top + 1, types, state.end);
     match o {
         Opened::Bad => Turned::Done(Typed::Bad),
@@ -188,8 +212,11 @@ pub fn type_tree(
     lefts: &mut [usize; 2048],
     froms: &mut [usize; 2048],
     types: &mut [u8],
-) -> Typed {
-    let leaf = leaves[place] as usize;
+) -> Typed
+    requires { ⌜ TypePre (now s) at place (now leaves) (now tags) (now lefts) (now froms) (now types) ⌝ }
+    ensures { λ r. ⌜ TypePost (now (s .entry)) at place (now (leaves .entry)) (now (types .exit)) r ⌝ }
+{
+    let leaf = wide16(leaves[place]);
     let o = open_node(s, at, leaf, tags, lefts, froms, 0, types, 0);
     let Opened::To(p, m) = o else {
         return Typed::Bad;
