@@ -10,3 +10,17 @@ pub mod OpenBinders
 pub mod BoundWalk
 pub mod Decides
 pub mod Checked
+pub mod Matching
+pub mod PatternRules
+pub mod RuleTables
+pub mod NodeRules
+pub mod Machine
+pub mod MatchTurns
+pub mod PairTurns
+pub mod FillTurns
+pub mod JudgeTurns
+pub mod OwnTurns
+pub mod OpenTurns
+pub mod StackTurns
+pub mod TreeTurns
+pub mod BufferLaws

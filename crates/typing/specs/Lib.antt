@@ -9,4 +9,10 @@ pub mod TypeExpression
 pub mod Signature
 pub mod Leaves
 pub mod Bound
+pub mod Patterns
+pub mod RuleNumbers
+pub mod PatternPosts
+pub mod Machine
+pub mod TypingPosts
+pub mod Buffers
 pub mod Cases

@@ -1,0 +1,78 @@
+use mathlib.Core.Path.{_≡_, refl, sym, subst}
+use Prim.Native.Nat.{ℕ, _+_, _≤_, _<_, _-_}
+use native.Mathlib.Omega.{arith}
+use lib.ListN.{length, getD}
+use Rattle.typing.specs.Buffers.{Copied}
+use Rattle.typing.proofs.BufferLaws.{copied-none, copied-more, copy-unread}
+use Rattle.typing.proofs.type_bytes.copy_within.Statement.{statement}
+use Rattle.typing.proofs.type_bytes.copy_within.Tie as tie
+use Rattle.typing.proofs.type_bytes.copy_within.Reads as reads
+use Rattle.typing.proofs.type_bytes.copy_within.Lts as lts
+
+abbrev Inv-loop : tie.InvT-loop
+Inv-loop types₀ a e to n i₀ types i = (i ≤ n) × Copied types₀ a i types₀ types to
+
+abbrev μ-loop : tie.MeasureT-loop
+μ-loop types₀ a e to n i₀ types i = n - i
+
+-- src/type_bytes.rt:57:13
+sub-n : tie.Need-sub-n Inv-loop μ-loop
+sub-n c = omega arith
+
+-- src/type_bytes.rt:59:5
+loop-holds : tie.Need-loop-holds Inv-loop μ-loop
+loop-holds c = (omega arith, copied-none _ _ _ _)
+
+-- src/type_bytes.rt:60:31
+add-types : tie.Need-add-types Inv-loop μ-loop
+add-types c = omega arith
+
+-- src/type_bytes.rt:60:25
+slice-read-types : tie.Need-slice-read-types Inv-loop μ-loop
+slice-read-types c = omega (arith, c .before .before .loop .inv .1 .long)
+
+-- src/type_bytes.rt:60:15
+add-types-2 : tie.Need-add-types-2 Inv-loop μ-loop
+add-types-2 c = omega arith
+
+-- src/type_bytes.rt:60:9
+slice-write-types : tie.Need-slice-write-types Inv-loop μ-loop
+slice-write-types c = omega (arith, c .before .before .loop .inv .1 .long)
+
+-- src/type_bytes.rt:61:9
+add-i : tie.Need-add-i Inv-loop μ-loop
+add-i c = omega arith
+
+-- src/type_bytes.rt:59:5
+loop-less : tie.Need-loop-less Inv-loop μ-loop
+loop-less c = omega arith
+
+-- src/type_bytes.rt:59:5
+loop-again : tie.Need-loop-again Inv-loop μ-loop
+loop-again c = (omega arith, copied-more _ _ _ _ (c .before .before .loop .i) _ _ (copy-unread _ (c .before .before .before .args .a) (c .before .before .before .args .e) (c .before .before .before .args .to) (c .before .before .loop .i) _ (c .before .before .before .pre .3) (omega arith) (c .before .before .loop .inv .1)) (omega arith) (c .before .before .loop .inv .1))
+
+-- src/type_bytes.rt:53:1
+same-length : tie.Need-same-length Inv-loop μ-loop
+same-length c = c .before .loop .inv .1 .long
+
+-- src/type_bytes.rt:53:1
+returns : tie.Need-returns Inv-loop μ-loop
+returns c = let z : c .before .loop .i ≡ c .before .before .args .e - c .before .before .args .a = omega arith in subst (λ (i : ℕ). Copied (c .before .before .args .types .now) (c .before .before .args .a) i (c .before .before .args .types .now) (c .before .loop .types) (c .before .before .args .to)) z (c .before .loop .inv .1)
+
+pub copy-within-spec : {M : Type 1} → statement M
+copy-within-spec =
+    tie.close
+    (tie.spec
+    Inv-loop
+    μ-loop
+    sub-n
+    loop-holds
+    add-types
+    slice-read-types
+    add-types-2
+    slice-write-types
+    add-i
+    loop-less
+    loop-again
+    same-length
+    returns)
