@@ -1,0 +1,108 @@
+-- Laws for each way out of the check, on plain values.
+-- Main results: read-stands, read-fits, type-pre, typed-by, refused-read, bound-out, names-out, typed-out, accepted-out.
+use mathlib.Core.Path.{_≡_, refl, sym, ap, _∙_}
+use mathlib.Core.Bool.{Bool, true, false}
+use mathlib.Core.List.{List, []}
+use Prim.Native.Nat.{ℕ, _+_, _*_, _≤_}
+use native.Mathlib.Omega.{arith}
+use lib.ListN.{length}
+use Rattle.frame.specs.Trees.{Tree, nodes}
+use Rattle.frame.specs.Tags.{predicate}
+use Rattle.frame.specs.Encoding.{enc}
+use Rattle.frame.specs.Reading.{Parsed, tree, bad, parse, frameLimit}
+use Rattle.frame.specs.Spans.{Bytes}
+use Rattle.frame.specs.At.{IsAt}
+use Rattle.frame.specs.Post.{frameAnswer}
+use Rattle.frame.specs.declared.reading.FrameAnswer.the-variants as F
+use Rattle.frame.proofs.Frames.{parse-inv}
+use Rattle.frame.proofs.Extents.{nodes-enc}
+use Rattle.frame.proofs.View.{FrameAt, frame-at, parse-at, at-span}
+use Rattle.typing.specs.Typing.{typedTree}
+use Rattle.typing.specs.Binding.{closedTree}
+use Rattle.typing.specs.Identifiers.{namesAgree}
+use Rattle.typing.specs.Leaves.{LeavesAt}
+use Rattle.typing.specs.Check.{Checked, accepted, refused, checkTree, checkParsed, check}
+use Rattle.typing.specs.TypingPosts.{Lent, TypePre, TypePost, Typing}
+use Rattle.typing.specs.declared.patterns.Typed.{Typed}
+use Rattle.typing.specs.declared.patterns.Typed.the-variants as T
+use Rattle.checking.specs.Posts.{checkAnswer, TypedPre, TypedPost, ReadPre}
+use Rattle.checking.specs.declared.CheckAnswer.the-variants as A
+
+-- ---- typing
+few-nodes : (s : List ℕ) → Bytes s → length s ≤ frameLimit → (t : Tree) → IsAt s predicate 0 t (length s) → nodes t ≤ 2048
+few-nodes s bs l t h = omega (arith, nodes-enc t, at-span s bs predicate 0 t (length s) h .long)
+
+pub type-pre : (s leaves tags lefts froms types : List ℕ) → Bytes s → TypedPre s leaves → length tags ≡ 2048 → length lefts ≡ 2048 → length froms ≡ 2048 → length types ≡ 131136
+    → TypePre s 0 0 leaves tags lefts froms types
+type-pre s leaves tags lefts froms types bs p a b c d =
+    let n = few-nodes s bs (p .fits) (p .whole) (p .stands) in
+    record {
+      sort = predicate;
+      tree = p .whole;
+      to = length s;
+      Γ = [];
+      stands = p .stands;
+      leafs = p .leafs;
+      lent = record { of-tags = a; of-lefts = b; of-froms = c };
+      frame = p .fits;
+      places = omega arith;
+      buffer = omega arith;
+    }
+
+abbrev pub isTyped : Typed → Bool
+isTyped (T.Is n) = true
+isTyped T.Bad = false
+
+pub typed-by : (s leaves types : List ℕ) (r : Typed) → Bytes s → TypedPre s leaves → length types ≡ 131136 → TypePost s 0 0 leaves types r → (b : Bool) → b ≡ isTyped r → TypedPost s leaves b
+typed-by s leaves types r bs p l q b e = record { answer = λ t h k. e ∙ go t r (q .answer predicate t (length s) [] h k (room t h) (buffer t h)) }
+  where
+    room : (t : Tree) → IsAt s predicate 0 t (length s) → 0 + nodes t ≤ 2048
+    room t h = omega (arith, few-nodes s bs (p .fits) t h)
+
+    buffer : (t : Tree) → IsAt s predicate 0 t (length s) → 64 * nodes t + 64 ≤ length types
+    buffer t h = omega (arith, few-nodes s bs (p .fits) t h)
+
+    go : (t : Tree) (x : Typed) → Typing x t [] types → isTyped x ≡ typedTree t []
+    go t (T.Is n) y = sym (y .0)
+    go t T.Bad y = sym y
+
+-- ---- a frame that was read
+pub read-pre : (s : List ℕ) → Bytes s → (n : ℕ) → F.Nodes n ≡ frameAnswer (parse s) → ReadPre s n
+read-pre s bs n e = let f = frame-at s bs n e in record { t = f .t; parsed = f .parsed; many = f .many }
+
+pub refused-read : (s : List ℕ) (c : ℕ) → F.Refused c ≡ frameAnswer (parse s) → A.Refused c ≡ checkAnswer (check s)
+unfolding check
+refused-read s c e = go (parse s) e
+  where
+    go : (x : Parsed) → F.Refused c ≡ frameAnswer x → A.Refused c ≡ checkAnswer (checkParsed x)
+    go (tree t) e = let z : _≡_ {A = ℕ} 0 1 = cc in absurd (omega arith)
+    go (bad d) e = cc
+
+module _ (s : List ℕ) (bs : Bytes s) (n : ℕ) (p : ReadPre s n) where
+  pub read-stands : IsAt s predicate 0 (p .t) (length s)
+  read-stands = parse-at s bs (p .t) (p .parsed)
+
+  pub read-fits : length s ≤ frameLimit
+  read-fits = parse-inv s (p .t) (p .parsed) .fits
+
+  checks : check s ≡ checkTree (p .t)
+  unfolding check
+  checks = rw (p .parsed)
+
+  pub bound-out : closedTree (p .t) [] ≡ false → A.Refused 8 ≡ checkAnswer (check s)
+  unfolding checkTree
+  bound-out a = rw (checks, a)
+
+  module _ (a : closedTree (p .t) [] ≡ true) where
+    pub names-out : namesAgree (p .t) ≡ false → A.Refused 9 ≡ checkAnswer (check s)
+    unfolding checkTree
+    names-out b = rw (checks, a, b)
+
+    module _ (b : namesAgree (p .t) ≡ true) where
+      pub typed-out : typedTree (p .t) [] ≡ false → A.Refused 10 ≡ checkAnswer (check s)
+      unfolding checkTree
+      typed-out c = rw (checks, a, b, c)
+
+      pub accepted-out : typedTree (p .t) [] ≡ true → A.Accepted n ≡ checkAnswer (check s)
+      unfolding checkTree
+      accepted-out c = rw (checks, a, b, c) (ap A.Accepted (p .many))

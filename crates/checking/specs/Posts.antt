@@ -1,0 +1,36 @@
+-- What the code of the check answers, by the definition of Check.antt.
+use mathlib.Core.Path.{_≡_}
+use mathlib.Core.Bool.{Bool}
+use mathlib.Core.List.{List, []}
+use Prim.Native.Nat.{ℕ, _≤_}
+use lib.ListN.{length}
+use Rattle.frame.specs.Trees.{Tree, nodes}
+use Rattle.frame.specs.Tags.{predicate}
+use Rattle.frame.specs.Reading.{tree, parse, frameLimit}
+use Rattle.frame.specs.At.{IsAt}
+use Rattle.typing.specs.Typing.{typedTree}
+use Rattle.typing.specs.Leaves.{LeavesAt}
+use Rattle.typing.specs.Check.{Checked, accepted, refused}
+use Rattle.checking.specs.declared.CheckAnswer.{CheckAnswer}
+use Rattle.checking.specs.declared.CheckAnswer.the-variants as A
+
+-- "Where an answer is an enum, a definition gives this paper's number and values for each case of the enum."
+abbrev pub checkAnswer : Checked → CheckAnswer
+checkAnswer (accepted t) = A.Accepted (nodes t)
+checkAnswer (refused n) = A.Refused n
+
+-- a closed tree stands in the frame, and the table has the types of its bound identifiers
+pub record TypedPre (s leaves : List ℕ) : Type 0 where
+  pub whole : Tree
+  pub stands : IsAt s predicate 0 whole (length s)
+  pub leafs : LeavesAt whole [] 0 s leaves
+  pub fits : length s ≤ frameLimit
+
+pub record TypedPost (s leaves : List ℕ) (r : Bool) : Type 0 where
+  pub answer : (t : Tree) → IsAt s predicate 0 t (length s) → LeavesAt t [] 0 s leaves → r ≡ typedTree t []
+
+-- the frame was read as a tree of n nodes
+pub record ReadPre (s : List ℕ) (n : ℕ) : Type 0 where
+  pub t : Tree
+  pub parsed : parse s ≡ tree t
+  pub many : n ≡ nodes t

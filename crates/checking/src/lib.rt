@@ -1,0 +1,75 @@
+// A frame checked: numbers 2 to 10 in their order (document 01, "Numbers of what is turned down, in checking order").
+use frame::reading::FrameAnswer;
+use typing::binding::binding_ok;
+use typing::identifiers::names_ok;
+use typing::patterns::Typed;
+use typing::typing::type_tree;
+ghost use mathlib.Core.Path.{_≡_};
+ghost use Rattle.typing.specs.Check.{check as checked};
+ghost use Rattle.checking.specs.Posts.{TypedPre, TypedPost, ReadPre, checkAnswer};
+
+// What a check answers.
+pub enum CheckAnswer {
+    // how many nodes the frame has
+    Accepted(usize),
+    // a number of document 01, 2 to 10
+    Refused(u8),
+}
+
+// Whether every node of a frame's tree is typed. The buffer has room for a type of 64 bytes for each of 2,048 nodes.
+fn typing_ok(s: &[u8], leaves: &[u16; 2048]) -> bool
+    requires { ⌜ TypedPre (now s) (now leaves) ⌝ }
+    ensures { λ r. ⌜ TypedPost (now (s .entry)) (now (leaves .entry)) r ⌝ }
+{
+    let mut tags = [0usize; 2048];
+    let mut lefts = [0usize; 2048];
+    let mut froms = [0usize; 2048];
+    let mut types = [0u8; 131136];
+    let a = type_tree(
+        s,
+        0,
+        0,
+        leaves,
+        &mut tags,
+        &mut lefts,
+        &mut froms,
+        &mut types,
+    );
+    match a {
+        Typed::Is(_n) => true,
+        Typed::Bad => false,
+    }
+}
+
+// Numbers 8, 9 and 10 of a frame that was read, with n nodes.
+fn check_tree(s: &[u8], n: usize) -> CheckAnswer
+    requires { ⌜ ReadPre (now s) n ⌝ }
+    ensures { λ r. ⌜ r ≡ checkAnswer (checked (now (s .entry))) ⌝ }
+{
+    let mut leaves = [0u16; 2048];
+    let closed = binding_ok(s, &mut leaves);
+    if !closed {
+        return CheckAnswer::Refused(8);
+    }
+    let agree = names_ok(s);
+    if !agree {
+        return CheckAnswer::Refused(9);
+    }
+    let typed = typing_ok(s, &leaves);
+    if !typed {
+        return CheckAnswer::Refused(10);
+    }
+    CheckAnswer::Accepted(n)
+}
+
+// Numbers 2 to 7 by reading, then 8, 9 and 10 over the whole tree.
+pub fn check(frame: &[u8]) -> CheckAnswer
+    ensures { λ r. ⌜ r ≡ checkAnswer (checked (now (frame .entry))) ⌝ }
+{
+    let read = frame::reading::read(frame);
+    let answer = read.answer;
+    match answer {
+        FrameAnswer::Refused(c) => CheckAnswer::Refused(c),
+        FrameAnswer::Nodes(n) => check_tree(frame, n),
+    }
+}
