@@ -1,6 +1,8 @@
-// Reads lines of hexadecimal from standard input and prints, for each, the count of nodes of its frame, or REFUSED and the number.
+// Reads lines of hexadecimal from standard input and prints, for each, the count of nodes of its frame and what the
+// checks say of it, or REFUSED and the number.
 ghost use Prim.Native.Nat.{_≤_};
 ghost use lib.ListN.{length};
+use checking::CheckAnswer;
 use frame::lines::LineAnswer;
 use frame::lines::LineState;
 use frame::reading::FrameAnswer;
@@ -12,19 +14,38 @@ fn print_refused(c: u8) {
     io::print_decimal(STDOUT_FILENO, c as u64);
 }
 
-// The answer for the frame that stands in the first n bytes of s.
-fn print_frame(s: &[u8], n: usize) {
-    if s.len() < n {
-        return;
+// What the checks say of a frame that was read.
+fn print_checked(s: &[u8]) {
+    let answer = checking::check(s);
+    match answer {
+        CheckAnswer::Accepted(_n) => {
+            io::write_all(STDOUT_FILENO, b" CHECKED");
+        }
+        CheckAnswer::Refused(c) => {
+            io::write_all(STDOUT_FILENO, b" ");
+            print_refused(c)
+        }
     }
-    let got = frame::reading::read(&s[..n]);
+}
+
+fn print_answers(s: &[u8]) {
+    let got = frame::reading::read(s);
     let answer = got.answer;
     match answer {
         FrameAnswer::Nodes(k) => {
             io::print_decimal(STDOUT_FILENO, k as u64);
+            print_checked(s)
         }
         FrameAnswer::Refused(c) => print_refused(c),
     }
+}
+
+// The answers for the frame that stands in the first n bytes of s.
+fn print_frame(s: &[u8], n: usize) {
+    if s.len() < n {
+        return;
+    }
+    print_answers(&s[..n])
 }
 
 fn print_line(state: LineState, buf: &[u8; 4096]) {
