@@ -1,2 +1,4 @@
 // The rules in code: which place of the source answers at a node, and on which operands.
 pub mod decision; // decision.rt: what a rule decides
+pub mod operands; // operands.rt: decisions on the children of a node
+pub mod negation; // negation.rt: ¬
