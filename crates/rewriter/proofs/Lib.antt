@@ -1,2 +1,4 @@
 pub mod Shapes
 pub mod Negations
+pub mod TypeTurns
+pub mod EmptyTurns

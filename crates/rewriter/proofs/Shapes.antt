@@ -1,25 +1,30 @@
 -- The shape that a tag gives to a tree that stands at a place, where its children are, and decisions with a fixed pattern.
 -- Main results: here-few, here-placed, first-placed, second-placed; tag-of; bare, single, double (the shape by the tag);
 -- Node and node-here (what the tables say of a place), fixed-0, fixed-1, fixed-2 (decisions on a node, its child, its two children).
-use mathlib.Core.Path.{_≡_, refl, sym, ap, _∙_}
-use mathlib.Core.List.{List, [], _∷_}
-use Prim.Native.Nat.{ℕ, _+_, _≤_, _<_}
+use mathlib.Core.Path.{_≡_, refl, sym, ap, ap₂, _∙_}
+use mathlib.Core.Bool.{Bool, true, false, _&&_}
+use mathlib.Core.List.{List, [], _∷_, _++_}
+use Prim.Native.Nat.{ℕ, _+_, _/_, _≤_, _<_}
 use native.Mathlib.Omega.{arith}
 use lib.ListN.{getD}
+use lib.Dec.{eqb, leb}
+use borrow.Author.Tests.{leb-true, ne-eqb}
 use Rattle.frame.specs.Types.{Ty}
-use Rattle.frame.specs.Trees.{head, Tree, node, Forest, nil, cons, count, tagOf, nodes}
-use Rattle.frame.specs.Tags.{Sort, predicate, formOf, sortsOf}
-use Rattle.frame.specs.Encoding.{enc}
+use Rattle.frame.specs.Trees.{head, Tree, node, Forest, nil, cons, count, tagOf, nodes, many, mapF}
+use Rattle.frame.specs.Tags.{Sort, predicate, formOf, sortsOf, pick, lookup, classOf, formAt, inRange}
+use Rattle.frame.specs.Encoding.{encNumber, encTys, encHead, enc, encs}
 use Rattle.frame.specs.WellFormed.{Wf, Wfs, numberIn}
 use Rattle.frame.specs.Places.{Ctx, under, found, find}
 use Rattle.frame.proofs.Splices.{find-lt}
-use Rattle.nav.specs.PlaceTables.{Table, Placed, TagPost}
+use Rattle.frame.proofs.SameTrees.{both-true}
+use Rattle.rules.proofs.Operands.{count-map}
+use Rattle.nav.specs.PlaceTables.{Table, Placed, TagPost, ChildrenPost}
 use Rattle.nav.proofs.Hops.{framed-few, Sorted, place-sorted}
 use Rattle.nav.proofs.SamePlaces.{only-child, two-children}
-use Rattle.rules.specs.Change.{Change, to, same}
+use Rattle.rules.specs.Change.{Change, to, same, _orElse_, with2, joined}
 use Rattle.emit.specs.Template.{filled}
 use Rattle.emit.specs.Programs.{template}
-use Rattle.rewriter.specs.Decision.{filling, FixedMeans}
+use Rattle.rewriter.specs.Decision.{filling, FixedMeans, eachFilled, EachMeans, Means}
 use Rattle.rewriter.specs.Decides.{Here, HereTwo, Decides}
 use Rattle.rewriter.specs.declared.decision.Decision.{Decision}
 use Rattle.rewriter.specs.declared.decision.Decision.the-variants as D
@@ -177,3 +182,112 @@ module _ (rule : Ctx → Tree → Change) (s st nx : List ℕ) (k tag : ℕ) (pt
               rw (er, o .is, ej (place-few tb (fs .0)))
               (fixed-at t place place (rule Γ x) (new Γ (o .n) (o .us) (o .a) (o .b)) (ans Γ (o .n) (o .us) (o .a) (o .b)) (k + 1) (getD nx (k + 1) 0) k (under g (o .us) Γ) Γ (o .a) (o .b) x (fs .0) (fs .1) fx (bytes Γ (o .n) (o .us) (o .a) (o .b)));
         }
+
+-- ---- a pattern for each child
+each-bytes : (place : ℕ) (Δ : Ctx) (us : List Ty) (f : Tree → Tree) → ((a : Tree) → enc (f a) ≡ filled (template place) (filling Δ a a us))
+    → (ks : Forest) → encs (mapF f ks) ≡ eachFilled place Δ us ks
+unfolding enc eachFilled
+each-bytes place Δ us f h nil = refl
+each-bytes place Δ us f h (cons a ks) = ap₂ (λ (x y : List ℕ). x ++ y) (h a) (each-bytes place Δ us f h ks)
+
+-- the bytes of an operator over a list
+abbrev pub Joins : ℕ → Type 0
+Joins o = (ls : Forest) → enc (many o ls) ≡ encNumber 2 o ++ (count ls ∷ encs ls)
+
+pub joins-and : Joins 351
+unfolding enc encHead encTys encNumber lookup classOf formAt
+joins-and ls = let z : count ls / 1 ≡ count ls = omega arith in rw z
+
+pub joins-or : Joins 352
+unfolding enc encHead encTys encNumber lookup classOf formAt
+joins-or ls = let z : count ls / 1 ≡ count ls = omega arith in rw z
+
+pub joined-many : (o : ℕ) (f : Tree → Tree) (ks : Forest) → 2 ≤ count ks → joined o (mapF f ks) ≡ many o (mapF f ks)
+joined-many o f nil h = absurd (omega arith)
+joined-many o f (cons a nil) h = absurd (omega arith)
+joined-many o f (cons a (cons b ks)) h = refl
+
+pub each-means : (t : Tree) (place at binder : ℕ) (c : Change) (o : ℕ) → Joins o → (f : Tree → Tree) (ks : Forest) → c ≡ to place (many o (mapF f ks))
+    → (Ξ : Ctx) (g n : ℕ) (vs : List Ty) → find t [] at ≡ found Ξ (node (head g n vs) ks)
+    → (Θ : Ctx) (b : Tree) → find t [] binder ≡ found Θ b
+    → ((a : Tree) → enc (f a) ≡ filled (template place) (filling (under g vs Ξ) a a (ownTypes b)))
+    → EachMeans t place at binder c
+each-means t place at binder c o j f ks ans Ξ g n vs fa Θ (node (head h m us) ls) fb bytes =
+    record {
+      new = many o (mapF f ks);
+      answer = ans;
+      o = o;
+      Δ = under g vs Ξ;
+      g = g;
+      us = us;
+      ks = ks;
+      at-node = (Ξ, n, vs, fa);
+      at-binder = (Θ, h, m, ls, fb);
+      bytes = j (mapF f ks) ∙ ap₂ (λ (x : ℕ) (y : List ℕ). encNumber 2 o ++ (x ∷ y)) (count-map f ks) (each-bytes place (under g vs Ξ) us f bytes ks);
+    }
+
+-- the children of a tag that is followed by a count from 2 on
+abbrev pub Counts : ℕ → Type 0
+Counts g = (n : ℕ) (us : List Ty) (m : ℕ) → inRange (formOf g .layout) (numberIn g n us m) ≡ (leb 2 m && leb m 255)
+
+pub some-two : (g : ℕ) → Counts g → (n : ℕ) (us : List Ty) (ks : Forest) → Sorted (node (head g n us) ks) → 2 ≤ count ks
+some-two g h n us ks (e, w) =
+    leb-true 2 (count ks) (both-true (leb 2 (count ks)) (leb (count ks) 255) (sym (h n us (count ks)) ∙ w .0 .range) .0)
+
+sorted-is : (v w : Tree) → v ≡ w → Sorted v → Sorted w
+sorted-is v w z o = rw z at o
+
+module _ (rule : Ctx → Tree → Change) (s st nx : List ℕ) (k tag : ℕ) (pt : TagPost s st k tag) (g : ℕ) (key : tag ≡ g) (place : ℕ) where
+  pub by-each : Counts g → (o : ℕ) → Joins o → (f : Ctx → Tree → Tree)
+      → ((Γ : Ctx) (n : ℕ) (us : List Ty) (ks : Forest) → 2 ≤ count ks → rule Γ (node (head g n us) ks) ≡ to place (many o (mapF (f Γ) ks)))
+      → ((Γ : Ctx) (us : List Ty) (a : Tree) → enc (f Γ a) ≡ filled (template place) (filling (under g us Γ) a a us))
+      → (r : Decision) → r ≡ D.Each place k k → Decides rule s st nx k r
+  by-each cs o jo f ans bytes r er =
+      record {
+        means = λ t n Γ v tb q w Ξ kept.
+            let y = any g v (sym (pt .tag t n Γ v (tb .framed) q) ∙ key) in
+            let x : Tree = node (head g (y .n) (y .us)) (y .ks) in
+            let fx : find t [] k ≡ found Γ x = q ∙ ap (found Γ) (y .is) in
+            let l = some-two g cs (y .n) (y .us) (y .ks) (sorted-is v x (y .is) (place-sorted s t st n (tb .framed) k Γ v q)) in
+            rw (er, y .is)
+            (each-means t place k k (rule Γ x) o jo (f Γ) (y .ks) (ans Γ (y .n) (y .us) (y .ks) l) Γ g (y .n) (y .us) fx Γ x fx (bytes Γ (y .us)));
+      }
+
+  -- an operator over a list, where it has just two operands
+  pub by-pair : (new : Ctx → Tree → Tree → Tree)
+      → ((Γ : Ctx) (n : ℕ) (us : List Ty) (ks : Forest) → rule Γ (node (head g n us) ks) ≡ with2 ks (λ a b. to place (new Γ a b)))
+      → ((Γ : Ctx) (us : List Ty) (a b : Tree) → enc (new Γ a b) ≡ filled (template place) (filling (under g us Γ) a b us))
+      → (j : ℕ) → (k + 1 < 2048 → j ≡ getD nx (k + 1) 0) → (m : ℕ) → ChildrenPost s st k m
+      → (r : Decision) → r ≡ pick (eqb m 2) (D.Fixed place place (k + 1) j k) D.Rests → Decides rule s st nx k r
+  by-pair new ans bytes j ej m pm r er =
+      record {
+        means = λ t n Γ v tb q w Ξ kept.
+            let y = any g v (sym (pt .tag t n Γ v (tb .framed) q) ∙ key) in
+            let x : Tree = node (head g (y .n) (y .us)) (y .ks) in
+            let fx : find t [] k ≡ found Γ x = q ∙ ap (found Γ) (y .is) in
+            let em : m ≡ count (y .ks) = pm .many t n Γ x (tb .framed) fx in
+            rw (er, y .is, em) (go t n Γ (y .n) (y .us) (y .ks) tb fx w Ξ kept);
+      }
+    where
+      go : (t : Tree) (n : ℕ) (Γ : Ctx) (i : ℕ) (us : List Ty) (ks : Forest) → Table s t st nx n → find t [] k ≡ found Γ (node (head g i us) ks)
+          → (w : Tree) (Ξ : Ctx) (kept : List ℕ)
+          → Means t w Ξ kept (pick (eqb (count ks) 2) (D.Fixed place place (k + 1) j k) D.Rests) (rule Γ (node (head g i us) ks))
+      go t n Γ i us nil tb fx w Ξ kept = ans Γ i us nil
+      go t n Γ i us (cons a nil) tb fx w Ξ kept = ans Γ i us (cons a nil)
+      go t n Γ i us (cons a (cons b nil)) tb fx w Ξ kept =
+          let fs = two-children t nx (tb .follows) k Γ g i us a b fx in
+          let x : Tree = node (head g i us) (cons a (cons b nil)) in
+          rw (ej (place-few tb (fs .0)))
+          (fixed-at t place place (rule Γ x) (new Γ a b) (ans Γ i us (cons a (cons b nil))) (k + 1) (getD nx (k + 1) 0) k (under g us Γ) Γ a b x (fs .0) (fs .1) fx (bytes Γ us a b))
+      go t n Γ i us (cons a (cons b (cons d ks))) tb fx w Ξ kept =
+          let z : eqb (count (cons a (cons b (cons d ks)))) 2 ≡ false = ne-eqb (count (cons a (cons b (cons d ks)))) 2 (λ h. omega arith) in
+          rw z (ans Γ i us (cons a (cons b (cons d ks))))
+
+-- answers of which nothing comes after
+pub or-same : (c : Change) → c orElse same ≡ c
+or-same (to p u) = refl
+or-same same = refl
+
+-- a rule on two operands, where no later place answers
+pub two-or-none : (ks : Forest) (k : Tree → Tree → Change) → with2 ks k orElse same ≡ with2 ks k
+two-or-none ks k = or-same (with2 ks k)

@@ -1,10 +1,12 @@
 -- The rules that are decided by places, at the trees whose tags they look at first.
 use Rattle.frame.specs.Trees.{Tree, two}
-use Rattle.frame.specs.Operators.{#Equal}
+use Rattle.frame.specs.Tags.{pick}
+use Rattle.frame.specs.Operators.{#Equal, #BInter}
 use Rattle.frame.specs.Places.{Ctx}
-use Rattle.rules.specs.Change.{Change, _orElse_}
+use Rattle.rules.specs.Change.{Change, same, _orElse_, isTag}
 use Rattle.rules.specs.Simplify.{simplifyNot}
 use Rattle.rules.specs.Negation.{rewriteNotInner}
+use Rattle.rules.specs.EqualsEmptySet.{rewriteEqualsEmptySet}
 
 -- ¬ a: logic, then negation
 abbrev pub negationOf : Ctx → Tree → Change
@@ -13,3 +15,7 @@ negationOf Γ a = simplifyNot a orElse rewriteNotInner a
 -- ¬ a = b
 abbrev pub unequal : Tree → Tree → Change
 unequal a b = rewriteNotInner (two #Equal a b)
+
+-- a set equated to ∅, unless it is an intersection
+abbrev pub emptyButInter : Ctx → Tree → Change
+emptyButInter Γ e = pick (isTag #BInter e) same (rewriteEqualsEmptySet Γ e)
