@@ -2,3 +2,4 @@ pub mod Shapes
 pub mod Negations
 pub mod TypeTurns
 pub mod EmptyTurns
+pub mod FiniteTurns

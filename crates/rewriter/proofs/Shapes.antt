@@ -25,7 +25,7 @@ use Rattle.rules.specs.Change.{Change, to, same, _orElse_, with2, joined}
 use Rattle.emit.specs.Template.{filled}
 use Rattle.emit.specs.Programs.{template}
 use Rattle.rewriter.specs.Decision.{filling, FixedMeans, eachFilled, EachMeans, Means}
-use Rattle.rewriter.specs.Decides.{Here, HereTwo, Decides}
+use Rattle.rewriter.specs.Decides.{Here, HereTwo, Decides, DecidesTwo}
 use Rattle.rewriter.specs.declared.decision.Decision.{Decision}
 use Rattle.rewriter.specs.declared.decision.Decision.the-variants as D
 
@@ -291,3 +291,34 @@ or-same same = refl
 -- a rule on two operands, where no later place answers
 pub two-or-none : (ks : Forest) (k : Tree → Tree → Change) → with2 ks k orElse same ≡ with2 ks k
 two-or-none ks k = or-same (with2 ks k)
+
+-- a rule that goes on to a node's two children
+module _ (s st nx : List ℕ) (k tag : ℕ) (pt : TagPost s st k tag) (g : ℕ) (key : tag ≡ g) (e d : Sort) (tk : Takes g (e ∷ d ∷ [])) (j : ℕ)
+    (ej : k + 1 < 2048 → j ≡ getD nx (k + 1) 0) where
+  pub two-here : Here s st nx k → HereTwo s st nx (k + 1) j
+  two-here h =
+      let o = double g e d tk (h .v) (place-sorted s (h .t) st (h .n) (h .table .framed) k (h .Γ) (h .v) (h .there))
+          (sym (pt .tag (h .t) (h .n) (h .Γ) (h .v) (h .table .framed) (h .there)) ∙ key) in
+      let fs = two-children (h .t) nx (h .table .follows) k (h .Γ) g (o .n) (o .us) (o .a) (o .b) (h .there ∙ ap (found (h .Γ)) (o .is)) in
+      record {
+        t = h .t;
+        n = h .n;
+        table = h .table;
+        Γ = under g (o .us) (h .Γ);
+        v = o .a;
+        w = o .b;
+        first = fs .0;
+        second = rw (ej (place-few (h .table) (fs .0))) (fs .1);
+      }
+
+  pub by-two : (rule : Ctx → Tree → Change) (on : Tree → Tree → Change)
+      → ((Γ : Ctx) (n : ℕ) (us : List Ty) (a b : Tree) → rule Γ (node (head g n us) (cons a (cons b nil))) ≡ on a b)
+      → (r : Decision) → DecidesTwo on s st nx (k + 1) j r → Decides rule s st nx k r
+  by-two rule on ans r de =
+      record {
+        means = λ t n Γ v tb f w Ξ kept.
+            let o = double g e d tk v (place-sorted s t st n (tb .framed) k Γ v f) (sym (pt .tag t n Γ v (tb .framed) f) ∙ key) in
+            let fs = two-children t nx (tb .follows) k Γ g (o .n) (o .us) (o .a) (o .b) (f ∙ ap (found Γ) (o .is)) in
+            rw (o .is, ans Γ (o .n) (o .us) (o .a) (o .b))
+            (de .means t n (under g (o .us) Γ) (o .a) (o .b) tb (fs .0) (rw (ej (place-few tb (fs .0))) (fs .1)) w Ξ kept);
+      }

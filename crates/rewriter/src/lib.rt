@@ -3,3 +3,4 @@ pub mod decision; // decision.rt: what a rule decides
 pub mod operands; // operands.rt: decisions on the children of a node
 pub mod negation; // negation.rt: ¬
 pub mod equals; // equals.rt: a set equated to ∅ or to a type expression
+pub mod finite; // finite.rt: finite(S)
