@@ -3,3 +3,4 @@ pub mod Negations
 pub mod TypeTurns
 pub mod EmptyTurns
 pub mod FiniteTurns
+pub mod LogicTurns

@@ -4,12 +4,16 @@ use mathlib.Core.Bool.{Bool}
 use mathlib.Core.List.{List, []}
 use Prim.Native.Nat.{ℕ, _+_, _<_}
 use lib.ListN.{getD}
+use lib.Dec.{eqb}
+use Rattle.frame.specs.Tags.{pick}
 use Rattle.frame.specs.Trees.{Tree}
 use Rattle.frame.specs.Places.{Ctx, found, find}
 use Rattle.nav.specs.PlaceTables.{Table}
 use Rattle.rules.specs.Change.{Change}
 use Rattle.rewriter.specs.declared.decision.Decision.{Decision}
+use Rattle.rewriter.specs.declared.decision.Decision.the-variants as D
 use Rattle.rewriter.specs.Decision.{Means}
+use Rattle.rewriter.specs.RulesAt.{opposes}
 
 -- k is a place of some tree with these tables
 pub record Here (s st nx : List ℕ) (k : ℕ) : Type 0 where
@@ -40,3 +44,11 @@ pub record Decides (rule : Ctx → Tree → Change) (s st nx : List ℕ) (k : �
 pub record DecidesTwo (rule : Tree → Tree → Change) (s st nx : List ℕ) (a b : ℕ) (r : Decision) : Type 0 where
   pub means : (t : Tree) (n : ℕ) (Γ : Ctx) (v w : Tree) → Table s t st nx n → find t [] a ≡ found Γ v → find t [] b ≡ found Γ w
       → (x : Tree) (Ξ : Ctx) (kept : List ℕ) → Means t x Ξ kept r (rule v w)
+
+-- r says whether the tree at place a is the negation of that at place b
+pub record OpposesPost (s st nx : List ℕ) (a b : ℕ) (r : Bool) : Type 0 where
+  pub says : (t : Tree) (n : ℕ) (Γ : Ctx) (v w : Tree) → Table s t st nx n → find t [] a ≡ found Γ v → find t [] b ≡ found Γ w → r ≡ opposes v w
+
+-- ¬ of the tree at place p, by its tag: what a negation negates, or a new negation
+abbrev pub negatedAt : ℕ → ℕ → ℕ → Decision
+negatedAt place tag p = pick (eqb tag 701) (D.Fixed place 64 (p + 1) (p + 1) p) (D.Fixed place place p p p)

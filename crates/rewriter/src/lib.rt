@@ -4,3 +4,4 @@ pub mod operands; // operands.rt: decisions on the children of a node
 pub mod negation; // negation.rt: ¬
 pub mod equals; // equals.rt: a set equated to ∅ or to a type expression
 pub mod finite; // finite.rt: finite(S)
+pub mod logic; // logic.rt: ⇒ and ⇔
