@@ -4,3 +4,4 @@ pub mod TypeTurns
 pub mod EmptyTurns
 pub mod FiniteTurns
 pub mod LogicTurns
+pub mod QuantTurns

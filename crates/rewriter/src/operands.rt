@@ -51,3 +51,14 @@ pub fn fixed_if_two(m: usize, place: usize, first: usize, second: usize, binder:
     }
     Decision::Rests
 }
+
+// The same, with the binders of another node.
+pub fn each_under(place: usize, node: usize, binder: usize) -> Decision
+    ensures { λ r. ⌜ r ≡ Each place node binder ⌝ }
+{
+    Decision::Each {
+        place: place,
+        node: node,
+        binder: binder,
+    }
+}
