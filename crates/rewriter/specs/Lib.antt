@@ -1,1 +1,3 @@
 pub mod Decision
+pub mod Decides
+pub mod RulesAt

@@ -1,2 +1,8 @@
 // The rules in code: which place of the source answers at a node, and on which operands.
 pub mod decision; // decision.rt: what a rule decides
+pub mod operands; // operands.rt: decisions on the children of a node
+pub mod negation; // negation.rt: ¬
+pub mod equals; // equals.rt: a set equated to ∅ or to a type expression
+pub mod finite; // finite.rt: finite(S)
+pub mod logic; // logic.rt: ⇒ and ⇔
+pub mod quantified; // quantified.rt: quantifiers, and partitions

@@ -1,0 +1,7 @@
+pub mod Shapes
+pub mod Negations
+pub mod TypeTurns
+pub mod EmptyTurns
+pub mod FiniteTurns
+pub mod LogicTurns
+pub mod QuantTurns

@@ -1,0 +1,118 @@
+use Rattle.rewriter.proofs.LogicTurns.{both-placed, turned, two-few, out-75, out-76, out-77, out-78, out-79, out-80, out-81, eqv-none}
+use Rattle.rewriter.proofs.Shapes.{first-placed, second-placed}
+use native.Mathlib.Omega.{arith}
+use borrow.Author.Needs.{needs}
+use Rattle.rewriter.proofs.logic.equivalence_at.Statement.{statement}
+use Rattle.rewriter.proofs.logic.equivalence_at.Tie as tie
+use Rattle.rewriter.proofs.logic.equivalence_at.Reads as reads
+use Rattle.rewriter.proofs.logic.equivalence_at.Lts as lts
+use Rattle.nav.proofs.places.same_at.Reads as same-at-reads
+use Rattle.nav.proofs.places.tag_at.Reads as tag-at-reads
+use Rattle.rewriter.proofs.logic.negated.Reads as negated-reads
+use Rattle.rewriter.proofs.logic.opposes_at.Reads as opposes-at-reads
+use Rattle.rewriter.proofs.operands.fixed.Reads as fixed-reads
+
+-- src/logic.rt:46:9
+tag-at-requires : tie.Need-tag-at-requires
+tag-at-requires c κs = first-placed (c .before .pre)
+
+-- src/logic.rt:47:9
+tag-at-requires-2 : tie.Need-tag-at-requires-2
+tag-at-requires-2 c κs = second-placed (c .before .before .pre)
+
+-- src/logic.rt:49:9
+fixed-requires : tie.Need-fixed-requires
+fixed-requires c κs = search needs
+
+-- src/logic.rt:49:9
+returns : tie.Need-returns
+returns c = out-75 _ _ _ _ _ _ _ (c .before .before .before .tag-at .ensures) (c .before .before .tag-at2 .ensures) (c .before .if1 .taken) _ (c .fixed .ensures)
+
+-- src/logic.rt:52:9
+fixed-requires-2 : tie.Need-fixed-requires-2
+fixed-requires-2 c κs = search needs
+
+-- src/logic.rt:52:9
+returns-2 : tie.Need-returns-2
+returns-2 c = out-76 _ _ _ _ _ _ _ (c .before .before .before .before .tag-at .ensures) (c .before .before .before .tag-at2 .ensures) (c .before .before .if1 .left) (c .before .if2 .taken) _ (c .fixed2 .ensures)
+
+-- src/logic.rt:54:8
+same-at-requires : tie.Need-same-at-requires
+same-at-requires c κs = both-placed (c .before .before .before .before .before .pre)
+
+-- src/logic.rt:55:9
+fixed-requires-3 : tie.Need-fixed-requires-3
+fixed-requires-3 c κs = search needs
+
+-- src/logic.rt:55:9
+returns-3 : tie.Need-returns-3
+returns-3 c = out-77 _ _ _ _ _ _ _ (c .before .before .before .before .before .before .tag-at .ensures) (c .before .before .before .before .before .tag-at2 .ensures) (c .before .before .before .before .if1 .left) (c .before .before .before .if2 .left) _ (c .before .before .same-at .ensures) (c .before .if3 .taken) _ (c .fixed3 .ensures)
+
+-- src/logic.rt:58:9
+negated-requires : tie.Need-negated-requires
+negated-requires c κs = two-few (c .before .before .before .before .before .before .before .before .pre) .0
+
+-- src/logic.rt:58:9
+returns-4 : tie.Need-returns-4
+returns-4 c = out-78 _ _ _ _ _ _ _ (c .before .before .before .before .before .before .before .tag-at .ensures) (c .before .before .before .before .before .before .tag-at2 .ensures) (c .before .before .before .before .before .if1 .left) (c .before .before .before .before .if2 .left) _ (c .before .before .before .same-at .ensures) (c .before .before .if3 .left) (c .before .if4 .taken) _ (c .negated .ensures)
+
+-- src/logic.rt:61:9
+negated-requires-2 : tie.Need-negated-requires-2
+negated-requires-2 c κs = two-few (c .before .before .before .before .before .before .before .before .before .pre) .1
+
+-- src/logic.rt:61:9
+returns-5 : tie.Need-returns-5
+returns-5 c = out-79 _ _ _ _ _ _ _ (c .before .before .before .before .before .before .before .before .tag-at .ensures) (c .before .before .before .before .before .before .before .tag-at2 .ensures) (c .before .before .before .before .before .before .if1 .left) (c .before .before .before .before .before .if2 .left) _ (c .before .before .before .before .same-at .ensures) (c .before .before .before .if3 .left) (c .before .before .if4 .left) (c .before .if5 .taken) _ (c .negated2 .ensures)
+
+-- src/logic.rt:63:8
+opposes-at-requires : tie.Need-opposes-at-requires
+opposes-at-requires c κs = turned (c .before .before .before .before .before .before .before .before .before .pre)
+
+-- src/logic.rt:64:9
+fixed-requires-4 : tie.Need-fixed-requires-4
+fixed-requires-4 c κs = search needs
+
+-- src/logic.rt:64:9
+returns-6 : tie.Need-returns-6
+returns-6 c = out-80 _ _ _ _ _ _ _ (c .before .before .before .before .before .before .before .before .before .before .tag-at .ensures) (c .before .before .before .before .before .before .before .before .before .tag-at2 .ensures) (c .before .before .before .before .before .before .before .before .if1 .left) (c .before .before .before .before .before .before .before .if2 .left) _ (c .before .before .before .before .before .before .same-at .ensures) (c .before .before .before .before .before .if3 .left) (c .before .before .before .before .if4 .left) (c .before .before .before .if5 .left) _ (c .before .before .opposes-at .ensures) (c .before .if6 .taken) _ (c .fixed4 .ensures)
+
+-- src/logic.rt:66:8
+opposes-at-requires-2 : tie.Need-opposes-at-requires-2
+opposes-at-requires-2 c κs = c .before .before .before .before .before .before .before .before .before .before .before .pre
+
+-- src/logic.rt:67:9
+fixed-requires-5 : tie.Need-fixed-requires-5
+fixed-requires-5 c κs = search needs
+
+-- src/logic.rt:67:9
+returns-7 : tie.Need-returns-7
+returns-7 c = out-81 _ _ _ _ _ _ _ (c .before .before .before .before .before .before .before .before .before .before .before .before .tag-at .ensures) (c .before .before .before .before .before .before .before .before .before .before .before .tag-at2 .ensures) (c .before .before .before .before .before .before .before .before .before .before .if1 .left) (c .before .before .before .before .before .before .before .before .before .if2 .left) _ (c .before .before .before .before .before .before .before .before .same-at .ensures) (c .before .before .before .before .before .before .before .if3 .left) (c .before .before .before .before .before .before .if4 .left) (c .before .before .before .before .before .if5 .left) _ (c .before .before .before .before .opposes-at .ensures) (c .before .before .before .if6 .left) _ (c .before .before .opposes-at2 .ensures) (c .before .if7 .taken) _ (c .fixed5 .ensures)
+
+-- src/logic.rt:42:1
+returns-8 : tie.Need-returns-8
+returns-8 c = eqv-none _ _ _ _ _ _ _ (c .before .before .before .before .before .before .before .before .before .before .before .tag-at .ensures) (c .before .before .before .before .before .before .before .before .before .before .tag-at2 .ensures) (c .before .before .before .before .before .before .before .before .before .if1 .left) (c .before .before .before .before .before .before .before .before .if2 .left) _ (c .before .before .before .before .before .before .before .same-at .ensures) (c .before .before .before .before .before .before .if3 .left) (c .before .before .before .before .before .if4 .left) (c .before .before .before .before .if5 .left) _ (c .before .before .before .opposes-at .ensures) (c .before .before .if6 .left) _ (c .before .opposes-at2 .ensures) (c .if7 .left)
+
+pub equivalence-at-spec : {M : Type 1} → statement M
+equivalence-at-spec =
+    tie.close
+    (tie.spec
+    tag-at-requires
+    tag-at-requires-2
+    fixed-requires
+    returns
+    fixed-requires-2
+    returns-2
+    same-at-requires
+    fixed-requires-3
+    returns-3
+    negated-requires
+    returns-4
+    negated-requires-2
+    returns-5
+    opposes-at-requires
+    fixed-requires-4
+    returns-6
+    opposes-at-requires-2
+    fixed-requires-5
+    returns-7
+    returns-8)

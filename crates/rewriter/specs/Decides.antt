@@ -1,0 +1,54 @@
+-- What a function that decides by places asks and answers.
+use mathlib.Core.Path.{_≡_}
+use mathlib.Core.Bool.{Bool}
+use mathlib.Core.List.{List, []}
+use Prim.Native.Nat.{ℕ, _+_, _<_}
+use lib.ListN.{getD}
+use lib.Dec.{eqb}
+use Rattle.frame.specs.Tags.{pick}
+use Rattle.frame.specs.Trees.{Tree}
+use Rattle.frame.specs.Places.{Ctx, found, find}
+use Rattle.nav.specs.PlaceTables.{Table}
+use Rattle.rules.specs.Change.{Change}
+use Rattle.rewriter.specs.declared.decision.Decision.{Decision}
+use Rattle.rewriter.specs.declared.decision.Decision.the-variants as D
+use Rattle.rewriter.specs.Decision.{Means}
+use Rattle.rewriter.specs.RulesAt.{opposes}
+
+-- k is a place of some tree with these tables
+pub record Here (s st nx : List ℕ) (k : ℕ) : Type 0 where
+  pub t : Tree
+  pub n : ℕ
+  pub table : Table s t st nx n
+  pub Γ : Ctx
+  pub v : Tree
+  pub there : find t [] k ≡ found Γ v
+
+-- a and b are places of some tree, in one context
+pub record HereTwo (s st nx : List ℕ) (a b : ℕ) : Type 0 where
+  pub t : Tree
+  pub n : ℕ
+  pub table : Table s t st nx n
+  pub Γ : Ctx
+  pub v : Tree
+  pub w : Tree
+  pub first : find t [] a ≡ found Γ v
+  pub second : find t [] b ≡ found Γ w
+
+-- r stands for what the rule answers at the tree at place k (whichever node w the rule was called for)
+pub record Decides (rule : Ctx → Tree → Change) (s st nx : List ℕ) (k : ℕ) (r : Decision) : Type 0 where
+  pub means : (t : Tree) (n : ℕ) (Γ : Ctx) (v : Tree) → Table s t st nx n → find t [] k ≡ found Γ v
+      → (w : Tree) (Ξ : Ctx) (kept : List ℕ) → Means t w Ξ kept r (rule Γ v)
+
+-- the same of a rule on two trees
+pub record DecidesTwo (rule : Tree → Tree → Change) (s st nx : List ℕ) (a b : ℕ) (r : Decision) : Type 0 where
+  pub means : (t : Tree) (n : ℕ) (Γ : Ctx) (v w : Tree) → Table s t st nx n → find t [] a ≡ found Γ v → find t [] b ≡ found Γ w
+      → (x : Tree) (Ξ : Ctx) (kept : List ℕ) → Means t x Ξ kept r (rule v w)
+
+-- r says whether the tree at place a is the negation of that at place b
+pub record OpposesPost (s st nx : List ℕ) (a b : ℕ) (r : Bool) : Type 0 where
+  pub says : (t : Tree) (n : ℕ) (Γ : Ctx) (v w : Tree) → Table s t st nx n → find t [] a ≡ found Γ v → find t [] b ≡ found Γ w → r ≡ opposes v w
+
+-- ¬ of the tree at place p, by its tag: what a negation negates, or a new negation
+abbrev pub negatedAt : ℕ → ℕ → ℕ → Decision
+negatedAt place tag p = pick (eqb tag 701) (D.Fixed place 64 (p + 1) (p + 1) p) (D.Fixed place place p p p)

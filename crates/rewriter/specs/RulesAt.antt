@@ -1,0 +1,54 @@
+-- The rules that are decided by places, at the trees whose tags they look at first.
+use Prim.Native.Nat.{ℕ}
+use mathlib.Core.Bool.{Bool, true, false, _&&_}
+use lib.Dec.{eqb}
+use Rattle.frame.specs.Trees.{head, Tree, node, Forest, nil, cons, two}
+use Rattle.frame.specs.Sameness.{sameTree}
+use Rattle.frame.specs.Tags.{pick}
+use Rattle.frame.specs.Operators.{#Equal, #BInter, #CSet, #Not, #Partition, #Forall, #Exists}
+use Rattle.frame.specs.Places.{Ctx}
+use Rattle.rules.specs.Change.{Change, to, same, _orElse_, when, isTag, onTag, with1, quantifier}
+use Rattle.rules.specs.Simplify.{simplifyNot, simplifyForall, simplifyExists}
+use Rattle.rules.specs.Negation.{rewriteNotInner, rewritePartition}
+use Rattle.rules.specs.Finite.{finite, isProjection, rewriteFinite}
+use Rattle.rules.specs.EqualsEmptySet.{rewriteEqualsEmptySet}
+
+-- ¬ a: logic, then negation
+abbrev pub negationOf : Ctx → Tree → Change
+negationOf Γ a = simplifyNot a orElse rewriteNotInner a
+
+-- ¬ a = b
+abbrev pub unequal : Tree → Tree → Change
+unequal a b = rewriteNotInner (two #Equal a b)
+
+-- a set equated to ∅, unless it is an intersection
+abbrev pub emptyButInter : Ctx → Tree → Change
+emptyButInter Γ e = pick (isTag #BInter e) same (rewriteEqualsEmptySet Γ e)
+
+-- finite(S), unless S is a comprehension set
+abbrev pub finiteButSet : Ctx → Tree → Change
+finiteButSet Γ e = pick (isTag #CSet e) same (rewriteFinite Γ e)
+
+-- finite(a ◁ b)
+abbrev pub finiteRestricted : Tree → Tree → Change
+finiteRestricted a b = when (isProjection b) (to 12 (finite a))
+
+-- partition(S, …)
+abbrev pub partitionOf : Ctx → Tree → Change
+partitionOf Γ v = onTag #Partition v (λ ts children. rewritePartition Γ children)
+
+-- ∀, ∃
+abbrev pub forallOf : Ctx → Tree → Change
+forallOf Γ v = quantifier #Forall v simplifyForall
+
+abbrev pub existsOf : Ctx → Tree → Change
+existsOf Γ v = quantifier #Exists v simplifyExists
+
+-- v is ¬ w
+abbrev pub soleSame : Forest → Tree → Bool
+soleSame nil w = false
+soleSame (cons a nil) w = sameTree a w
+soleSame (cons a (cons b ks)) w = false
+
+abbrev pub opposes : Tree → Tree → Bool
+opposes (node (head g n us) ks) w = eqb g #Not && soleSame ks w

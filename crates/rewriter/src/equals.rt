@@ -1,0 +1,77 @@
+// A set equated to the type expression of its elements (24 to 35), or to ∅ (36, 39 to 61): the set's tag says the place.
+// Tags whose operands come in the node's own form need no further look.
+use crate::decision::Decision;
+use crate::operands::fixed;
+ghost use Rattle.rules.specs.EqualsType.{rewriteEqualsType};
+ghost use Rattle.rewriter.specs.Decides.{Here, Decides};
+ghost use Rattle.rewriter.specs.RulesAt.{emptyButInter};
+
+// The set at place k equals the type expression of its elements.
+pub fn equals_type_at(s: &[u8], starts: &[u16; 2048], nexts: &[u16; 2048], k: usize) -> Decision
+    requires { ⌜ Here (now s) (now starts) (now nexts) k ⌝ }
+    ensures { λ r. ⌜ Decides rewriteEqualsType (now (s .entry)) (now (starts .entry)) (now (nexts .entry)) k r ⌝ }
+{
+    let tag = nav::places::tag_at(s, starts, k);
+    let a = k + 1;
+    let b = crate::operands::second_of(nexts, k);
+    match tag {
+        302 => crate::operands::each(24, k),
+        213 => fixed(25, a, b, k),
+        214 => fixed(26, a, b, k),
+        221 => fixed(27, a, b, k),
+        217 => fixed(28, a, b, k),
+        218 => fixed(29, a, b, k),
+        219 => fixed(30, a, b, k),
+        220 => fixed(31, a, b, k),
+        215 => fixed(32, a, b, k),
+        216 => fixed(32, a, b, k),
+        755 => fixed(33, a, a, k),
+        763 => fixed(34, a, a, k),
+        802 => fixed(35, a, b, k),
+        _ => Decision::Rests,
+    }
+}
+
+// The set at place k equals ∅. An intersection has a function of its own.
+pub fn equals_empty_at(s: &[u8], starts: &[u16; 2048], nexts: &[u16; 2048], k: usize) -> Decision
+    requires { ⌜ Here (now s) (now starts) (now nexts) k ⌝ }
+    ensures { λ r. ⌜ Decides emptyButInter (now (s .entry)) (now (starts .entry)) (now (nexts .entry)) k r ⌝ }
+{
+    let tag = nav::places::tag_at(s, starts, k);
+    let a = k + 1;
+    let b = crate::operands::second_of(nexts, k);
+    let m = nav::places::arity_at(s, starts, k);
+    match tag {
+        5 => fixed(36, k, k, k),
+        302 => Decision::Rests,
+        301 => crate::operands::each(39, k),
+        213 => fixed(40, a, b, k),
+        214 => fixed(41, a, b, k),
+        221 => fixed(42, a, b, k),
+        204 => fixed(43, a, b, k),
+        205 => fixed(44, a, b, k),
+        217 => fixed(45, a, b, k),
+        218 => fixed(46, a, b, k),
+        219 => fixed(47, a, b, k),
+        220 => fixed(48, a, b, k),
+        227 => fixed(49, a, b, k),
+        215 => fixed(50, a, b, k),
+        216 => fixed(51, a, b, k),
+        752 => fixed(52, a, a, k),
+        753 => fixed(53, a, a, k),
+        754 => fixed(54, a, a, k),
+        756 => fixed(55, a, a, k),
+        757 => fixed(55, a, a, k),
+        763 => fixed(55, a, a, k),
+        304 => crate::operands::fixed_if_two(m, 56, a, b, k),
+        303 => crate::operands::fixed_if_two(m, 57, a, b, k),
+        305 => crate::operands::each(58, k),
+        801 => fixed(59, a, b, k),
+        402 => fixed(60, k, k, k),
+        403 => fixed(60, k, k, k),
+        412 => fixed(61, k, k, k),
+        410 => fixed(61, k, k, k),
+        411 => fixed(61, k, k, k),
+        _ => Decision::Rests,
+    }
+}
