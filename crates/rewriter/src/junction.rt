@@ -1,9 +1,13 @@
 // ∧ and ∨: which children stay. A neutral literal and a repeat go; a literal that decides, or a child beside its opposite,
 // makes the whole that literal.
+use crate::decision::Decision;
 ghost use mathlib.Core.Path.{_≡_};
 ghost use Prim.Native.Nat.{_<_};
+ghost use mathlib.Core.Bool.{false};
+ghost use Rattle.frame.specs.Tags.{pick};
 ghost use Rattle.nav.specs.PlaceTables.{BothPlaced};
-ghost use Rattle.rewriter.specs.Junction.{OppositePost};
+ghost use Rattle.rewriter.specs.declared.decision.Decision.the-variants as D;
+ghost use Rattle.rewriter.specs.Junction.{OppositePost, JunctionPre, AbsorbPost, settled, JunctionPost};
 
 // What a look at all children comes to: one of them decides, or the first entries of the lent list stay.
 pub enum Outcome {
@@ -29,4 +33,64 @@ fn opposite(s: &[u8], starts: &[u16; 2048], a: usize, b: usize) -> bool
         return false;
     }
     nav::places::same_at(s, starts, a + 1, b)
+}
+
+// The first kept one that a child is compared with: a neutral literal goes whatever was kept, so it passes by all m.
+fn compared_from(fresh: bool, m: usize) -> usize
+    ensures { λ r. ⌜ r ≡ pick fresh 0 m ⌝ }
+{
+    if fresh { 0 } else { m }
+}
+
+fn still(fresh: bool, repeated: bool) -> bool
+    ensures { λ r. ⌜ r ≡ pick repeated false fresh ⌝ }
+{
+    if repeated { false } else { fresh }
+}
+
+// The places of the children that stay go into the lent list. A child is compared with all that are kept even after it was
+// found to be a repeat: an opposite decides all the same.
+fn absorb(
+    s: &[u8],
+    starts: &[u16; 2048],
+    nexts: &[u16; 2048],
+    k: usize,
+    neutral: usize,
+    determinant: usize,
+    kept: &mut [u16; 256],
+) -> Outcome
+    requires { ⌜ JunctionPre (now s) (now starts) (now nexts) k (now kept) ⌝ }
+    ensures { λ r. ⌜ AbsorbPost (now (s .entry)) (now (starts .entry)) (now (nexts .entry)) k neutral determinant (now (kept .exit)) r ⌝ }
+{
+    let n = nav::places::arity_at(s, starts, k);
+    let mut c = k + 1;
+    let mut i = 0;
+    let mut m = 0;
+    'all: while i < n {
+        let tag = nav::places::tag_at(s, starts, c);
+        if tag == determinant {
+            break 'all;
+        }
+        let mut fresh = tag != neutral;
+        let mut j = compared_from(fresh, m);
+        while j < m {
+            let p = wide16(kept[j]);
+            if opposite(s, starts, p, c) {
+                break 'all;
+            }
+            let repeated = nav::places::same_at(s, starts, p, c);
+            fresh = still(fresh, repeated);
+            j += 1;
+        }
+        if fresh {
+            kept[m] = c as u16;
+            m += 1;
+        }
+        c = nav::places::next_at(nexts, c);
+        i += 1;
+    }
+    if i < n {
+        return Outcome::Decided;
+    }
+    Outcome::Stay(m)
 }
