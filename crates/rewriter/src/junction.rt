@@ -94,3 +94,58 @@ fn absorb(
     }
     Outcome::Stay(m)
 }
+
+// A right side of one operand, at place k.
+fn fixed(place: usize, pattern: usize, operand: usize, k: usize) -> Decision
+    ensures { λ r. ⌜ r ≡ D.Fixed place pattern operand operand k ⌝ }
+{
+    Decision::Fixed {
+        place: place,
+        pattern: pattern,
+        first: operand,
+        second: operand,
+        binder: k,
+    }
+}
+
+// What the outcome at place k comes to, of n children, where p is the place of the first that stays. The patterns are those of
+// the neutral literal and of the one that decides; the operand of neither is looked at.
+fn settle(x: Outcome, k: usize, n: usize, p: usize, neutral: usize, determinant: usize) -> Decision
+    ensures { λ r. ⌜ r ≡ settled x k n p neutral determinant ⌝ }
+{
+    match x {
+        Outcome::Decided => fixed(62, determinant, k, k),
+        Outcome::Stay(m) => {
+            if m == 0 {
+                return fixed(63, neutral, k, k);
+            }
+            if m == 1 {
+                return fixed(64, 64, p, k);
+            }
+            if m == n {
+                return Decision::Rests;
+            }
+            Decision::Kept(m)
+        }
+    }
+}
+
+// The rule at an ∧ or an ∨. Patterns 1 and 2 are those of ⊤ and ⊥.
+pub fn decide_junction(
+    s: &[u8],
+    starts: &[u16; 2048],
+    nexts: &[u16; 2048],
+    k: usize,
+    kept: &mut [u16; 256],
+) -> Decision
+    requires { ⌜ JunctionPre (now s) (now starts) (now nexts) k (now kept) ⌝ }
+    ensures { λ r. ⌜ JunctionPost (now (s .entry)) (now (starts .entry)) (now (nexts .entry)) k (now (kept .exit)) r ⌝ }
+{
+    let n = nav::places::arity_at(s, starts, k);
+    if nav::places::tag_at(s, starts, k) == 351 {
+        let x = absorb(s, starts, nexts, k, 610, 611, kept);
+        return settle(x, k, n, wide16(kept[0]), 1, 2);
+    }
+    let y = absorb(s, starts, nexts, k, 611, 610, kept);
+    settle(y, k, n, wide16(kept[0]), 2, 1)
+}
