@@ -78,8 +78,7 @@ fn absorb(
             if opposite(s, starts, p, c) {
                 break 'all;
             }
-            let repeated = nav::places::same_at(s, starts, p, c);
-            fresh = still(fresh, repeated);
+            fresh = still(fresh, nav::places::same_at(s, starts, p, c));
             j += 1;
         }
         if fresh {
@@ -90,9 +89,10 @@ fn absorb(
         i += 1;
     }
     if i < n {
-        return Outcome::Decided;
+        Outcome::Decided
+    } else {
+        Outcome::Stay(m)
     }
-    Outcome::Stay(m)
 }
 
 // A right side of one operand, at place k.
