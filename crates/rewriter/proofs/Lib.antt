@@ -5,3 +5,6 @@ pub mod EmptyTurns
 pub mod FiniteTurns
 pub mod LogicTurns
 pub mod QuantTurns
+pub mod Opposites
+pub mod JunctionTurns
+pub mod JunctionMeans

@@ -53,7 +53,7 @@ module _ (s st nx : List ℕ) (a b tag : ℕ) (pt : TagPost s st a tag) where
     unfolding lookup classOf formAt
     opposed-here h =
         let o = single 701 predicate (λ x. refl) (h .v) (place-sorted s (h .t) st (h .n) (h .table .framed) a (h .Γ) (h .v) (h .first))
-            (sym (pt .tag (h .t) (h .n) (h .Γ) (h .v) (h .table .framed) (h .first)) ∙ key) in
+        (sym (pt .tag (h .t) (h .n) (h .Γ) (h .v) (h .table .framed) (h .first)) ∙ key) in
         record {
           t = h .t;
           n = h .n;

@@ -135,7 +135,7 @@ module _ (s st nx : List ℕ) (k tag : ℕ) (pt : TagPost s st k tag) where
     unfolding lookup classOf formAt
     equation-here key h =
         let o = double 101 expression expression (λ x. refl) (h .v) (place-sorted s (h .t) st (h .n) (h .table .framed) k (h .Γ) (h .v) (h .there))
-            (sym (pt .tag (h .t) (h .n) (h .Γ) (h .v) (h .table .framed) (h .there)) ∙ key) in
+        (sym (pt .tag (h .t) (h .n) (h .Γ) (h .v) (h .table .framed) (h .there)) ∙ key) in
         let fs = two-children (h .t) nx (h .table .follows) k (h .Γ) 101 (o .n) (o .us) (o .a) (o .b) (h .there ∙ ap (found (h .Γ)) (o .is)) in
         record {
           t = h .t;

@@ -110,7 +110,7 @@ module _ (s st nx : List ℕ) (k tag : ℕ) (pt : TagPost s st k tag) where
   pub body-here : (g : ℕ) → tag ≡ g → Takes g (predicate ∷ []) → Here s st nx k → Here s st nx (k + 1)
   body-here g key tk h =
       let o = single g predicate tk (h .v) (place-sorted s (h .t) st (h .n) (h .table .framed) k (h .Γ) (h .v) (h .there))
-          (sym (pt .tag (h .t) (h .n) (h .Γ) (h .v) (h .table .framed) (h .there)) ∙ key) in
+      (sym (pt .tag (h .t) (h .n) (h .Γ) (h .v) (h .table .framed) (h .there)) ∙ key) in
       record {
         t = h .t;
         n = h .n;

@@ -298,7 +298,7 @@ module _ (s st nx : List ℕ) (k tag : ℕ) (pt : TagPost s st k tag) (g : ℕ) 
   pub two-here : Here s st nx k → HereTwo s st nx (k + 1) j
   two-here h =
       let o = double g e d tk (h .v) (place-sorted s (h .t) st (h .n) (h .table .framed) k (h .Γ) (h .v) (h .there))
-          (sym (pt .tag (h .t) (h .n) (h .Γ) (h .v) (h .table .framed) (h .there)) ∙ key) in
+      (sym (pt .tag (h .t) (h .n) (h .Γ) (h .v) (h .table .framed) (h .there)) ∙ key) in
       let fs = two-children (h .t) nx (h .table .follows) k (h .Γ) g (o .n) (o .us) (o .a) (o .b) (h .there ∙ ap (found (h .Γ)) (o .is)) in
       record {
         t = h .t;

@@ -5,7 +5,13 @@ ghost use Rattle.rewriter.specs.Decides.{Here, HereTwo, Decides, Decides
 ghost use Rattle.rewriter.specs.RulesAt.{finiteButSet, finiteRestricted};
 
 // finite(a ◁ b), where b is id, prj1 or prj2.
-fn finite_restricted_at(s: &[u8], starts: &[u16; 2048], nexts: &[u16; 2048], a: usize, b: usize) -> Decision
+fn finite_restricted_at(
+    s: &[u8],
+    starts: &[u16; 2048],
+    nexts: &[u16; 2048],
+    a: usize,
+    b: usize,
+) -> Decision
     requires { ⌜ HereTwo (now s) (now starts) (now nexts) a b ⌝ }
     ensures { λ r. ⌜ DecidesTwo finiteRestricted (now (s .entry)) (now (starts .entry)) (now (nexts .entry)) a b r ⌝ }
 {

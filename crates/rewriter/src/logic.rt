@@ -39,7 +39,13 @@ fn negated(place: usize, tag: usize, p: usize) -> Decision
 }
 
 // ⇔ of the predicates at places a and b.
-pub fn equivalence_at(s: &[u8], starts: &[u16; 2048], nexts: &[u16; 2048], a: usize, b: usize) -> Decision
+pub fn equivalence_at(
+    s: &[u8],
+    starts: &[u16; 2048],
+    nexts: &[u16; 2048],
+    a: usize,
+    b: usize,
+) -> Decision
     requires { ⌜ HereTwo (now s) (now starts) (now nexts) a b ⌝ }
     ensures { λ r. ⌜ DecidesTwo simplifyEqv (now (s .entry)) (now (starts .entry)) (now (nexts .entry)) a b r ⌝ }
 {
