@@ -1,3 +1,4 @@
 pub mod Opposites
 pub mod JunctionTurns
 pub mod JunctionMeans
+pub mod InterTurns
