@@ -16,8 +16,9 @@ use Rattle.frame.specs.Places.{Ctx, under, found, find}
 use Rattle.frame.proofs.Splices.{find-lt}
 use Rattle.frame.proofs.Within.{KidsAtPlace}
 use Rattle.nav.specs.PlaceTables.{arity, Framed, Table, Placed, TagPost, ChildrenPost}
-use Rattle.nav.proofs.Hops.{Sorted, framed-few, place-sorted, child-first, child-next}
+use Rattle.nav.proofs.Hops.{Sorted, framed-few, place-sorted, child-first}
 use Rattle.rules.specs.EqualsEmptySet.{isSingle, singleOf, soleOf, isMinus, minusOf, anyMinus}
+use Rattle.rewriter.proofs.Children.{Child, child-of}
 use Rattle.rewriter.specs.Inter.{SinglePost, MinusPost, InterPre, AnyMinusPost}
 
 -- ---- a set of one member
@@ -82,27 +83,14 @@ module _ (s st nx : List ℕ) (k : ℕ) where
   pub any-first : Lefts (k + 1) 0
   any-first t n Γ g x us ks tb f = record { rest = ks; below = child-first t k Γ g x us ks f; done = omega arith; goes = refl }
 
-  record Child (t : Tree) (Θ : Ctx) (rest : Forest) (c : ℕ) : Type 0 where
-    w : Tree
-    others : Forest
-    is : rest ≡ cons w others
-    there : find t [] c ≡ found Θ w
-    below : KidsAtPlace t [] (getD nx c 0) Θ others
-
-  child-of : (t : Tree) (n : ℕ) → Table s t st nx n → (Θ : Ctx) (rest : Forest) (c : ℕ) → KidsAtPlace t [] c Θ rest → 0 < count rest → Child t Θ rest c
-  child-of t n tb Θ nil c b h = absurd (omega arith)
-  child-of t n tb Θ (cons w ks) c b h =
-      let r = child-next t nx 0 (tb .follows) c Θ w ks (omega arith) b in
-      record { w = w; others = ks; is = refl; there = r .0; below = r .1 }
-
   module _ (r : ℕ) (many : ChildrenPost s st k r) (c i : ℕ) (ls : Lefts c i) where
     module _ (h : i < r) where
       child : (t : Tree) (n : ℕ) (Γ : Ctx) (g x : ℕ) (us : List Ty) (ks : Forest) (tb : Table s t st nx n)
-          (f : find t [] k ≡ found Γ (node (head g x us) ks)) → Child t (under g us Γ) (ls t n Γ g x us ks tb f .rest) c
+          (f : find t [] k ≡ found Γ (node (head g x us) ks)) → Child nx t (under g us Γ) (ls t n Γ g x us ks tb f .rest) c
       child t n Γ g x us ks tb f =
           let q = ls t n Γ g x us ks tb f in
           let z : r ≡ count ks = many .many t n Γ (node (head g x us) ks) (tb .framed) f in
-          child-of t n tb (under g us Γ) (q .rest) c (q .below) (omega (arith, q .done))
+          child-of s st nx t n tb (under g us Γ) (q .rest) c (q .below) (omega (arith, q .done))
 
       pub any-placed : InterPre s st nx k → Placed s st c × (c < 2048)
       any-placed pre =

@@ -1,3 +1,4 @@
+pub mod Children
 pub mod Opposites
 pub mod JunctionTurns
 pub mod JunctionMeans
