@@ -22,9 +22,10 @@ use Rattle.frame.proofs.Splices.{find-lt}
 use Rattle.frame.proofs.SameTrees.{both-true}
 use Rattle.frame.proofs.Within.{KidsAtPlace}
 use Rattle.nav.specs.PlaceTables.{arity, Framed, Table, Placed, BothPlaced, TagPost, ChildrenPost, SameAtPost}
-use Rattle.nav.proofs.Hops.{framed-few, place-sorted, child-first, child-next}
+use Rattle.nav.proofs.Hops.{framed-few, place-sorted, child-first}
 use Rattle.rules.specs.Change.{contains}
 use Rattle.rules.specs.Simplify.{makeNeg, Verdict, drops, keeps, decides, verdict, Kept, kept, decided, afterVerdict, scan}
+use Rattle.rewriter.proofs.Children.{Child, child-of}
 use Rattle.rewriter.specs.Decision.{At}
 use Rattle.rewriter.specs.Junction.{OppositePost, JunctionPre, Absorbed, AbsorbPost}
 use Rattle.rewriter.specs.declared.junction.Outcome.the-variants.{Decided, Stay}
@@ -236,28 +237,14 @@ module _ (s st nx : List ℕ) (k neutral determinant : ℕ) where
   states-first lent t n Γ g x us ks tb f =
       record { rest = ks; out = nil; below = child-first t k Γ g x us ks f; done = omega arith; size = refl; listed = at-nil t (under g us Γ); goes = refl }
 
-  -- a child is left: it is at place c, and the others follow it
-  record Child (t : Tree) (Θ : Ctx) (rest : Forest) (c : ℕ) : Type 0 where
-    w : Tree
-    others : Forest
-    is : rest ≡ cons w others
-    there : find t [] c ≡ found Θ w
-    below : KidsAtPlace t [] (getD nx c 0) Θ others
-
-  child-of : (t : Tree) (n : ℕ) → Table s t st nx n → (Θ : Ctx) (rest : Forest) (c : ℕ) → KidsAtPlace t [] c Θ rest → 0 < count rest → Child t Θ rest c
-  child-of t n tb Θ nil c b h = absurd (omega arith)
-  child-of t n tb Θ (cons w ks) c b h =
-      let r = child-next t nx 0 (tb .follows) c Θ w ks (omega arith) b in
-      record { w = w; others = ks; is = refl; there = r .0; below = r .1 }
-
   module _ (r : ℕ) (many : ChildrenPost s st k r) (lent : List ℕ) (c i m : ℕ) (sts : States lent c i m) where
     module _ (h : i < r) where
       child : (t : Tree) (n : ℕ) (Γ : Ctx) (g x : ℕ) (us : List Ty) (ks : Forest) (tb : Table s t st nx n)
-          (f : find t [] k ≡ found Γ (node (head g x us) ks)) → Child t (under g us Γ) (sts t n Γ g x us ks tb f .rest) c
+          (f : find t [] k ≡ found Γ (node (head g x us) ks)) → Child nx t (under g us Γ) (sts t n Γ g x us ks tb f .rest) c
       child t n Γ g x us ks tb f =
           let q = sts t n Γ g x us ks tb f in
           let z : r ≡ count ks = many .many t n Γ (node (head g x us) ks) (tb .framed) f in
-          child-of t n tb (under g us Γ) (q .rest) c (q .below) (omega (arith, q .done))
+          child-of s st nx t n tb (under g us Γ) (q .rest) c (q .below) (omega (arith, q .done))
 
       pub turn-placed : (k' : List ℕ) → JunctionPre s st nx k k' → Placed s st c × (c < 2048)
       turn-placed k' pre =

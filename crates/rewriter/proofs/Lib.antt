@@ -5,6 +5,8 @@ pub mod EmptyTurns
 pub mod FiniteTurns
 pub mod LogicTurns
 pub mod QuantTurns
+pub mod Children
 pub mod Opposites
 pub mod JunctionTurns
 pub mod JunctionMeans
+pub mod InterTurns

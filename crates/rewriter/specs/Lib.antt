@@ -2,3 +2,4 @@ pub mod Decision
 pub mod Decides
 pub mod RulesAt
 pub mod Junction
+pub mod Inter

@@ -7,3 +7,4 @@ pub mod finite; // finite.rt: finite(S)
 pub mod logic; // logic.rt: ⇒ and ⇔
 pub mod quantified; // quantified.rt: quantifiers, and partitions
 pub mod junction; // junction.rt: ∧ and ∨
+pub mod inter; // inter.rt: ∩ = ∅

@@ -1,0 +1,73 @@
+use Rattle.rewriter.proofs.InterTurns.{inter-placed, Lefts, any-first, any-placed, any-found, any-next, any-none}
+use Prim.Native.Nat.{ℕ, _+_, _-_, _≤_, _<_}
+use native.Mathlib.Omega.{arith}
+use Rattle.rewriter.proofs.inter.any_minus.Statement.{statement}
+use Rattle.rewriter.proofs.inter.any_minus.Tie as tie
+use Rattle.rewriter.proofs.inter.any_minus.Reads as reads
+use Rattle.rewriter.proofs.inter.any_minus.Lts as lts
+use Rattle.nav.proofs.places.arity_at.Reads as arity-at-reads
+use Rattle.nav.proofs.places.next_at.Reads as next-at-reads
+use Rattle.rewriter.proofs.inter.is_minus.Reads as is-minus-reads
+
+abbrev Inv-loop : tie.InvT-loop
+Inv-loop s starts nexts k n c₀ i₀ c i = (i ≤ n) × Lefts s starts nexts k c i
+
+abbrev μ-loop : tie.MeasureT-loop
+μ-loop s starts nexts k n c₀ i₀ c i = n - i
+
+-- src/inter.rt:29:9
+arity-at-requires : tie.Need-arity-at-requires Inv-loop μ-loop
+arity-at-requires c κs = inter-placed _ _ _ _ (c .before .pre) .0
+
+-- src/inter.rt:30:17
+add-c : tie.Need-add-c Inv-loop μ-loop
+add-c c = let z = inter-placed _ _ _ _ (c .before .before .pre) .1 in omega arith
+
+-- src/inter.rt:32:5
+loop-holds : tie.Need-loop-holds Inv-loop μ-loop
+loop-holds c = (omega arith, any-first _ _ _ _)
+
+-- src/inter.rt:33:12
+is-minus-requires : tie.Need-is-minus-requires Inv-loop μ-loop
+is-minus-requires c κs = any-placed _ _ _ _ _ (c .before .before .arity-at .ensures) _ _ (c .before .loop .inv .1) (c .loop-test .taken) (c .before .before .before .before .pre) .0
+
+-- src/inter.rt:34:13
+returns : tie.Need-returns Inv-loop μ-loop
+returns c = any-found _ _ _ _ _ (c .before .before .before .before .arity-at .ensures) _ _ (c .before .before .before .loop .inv .1) (c .before .before .loop-test .taken) _ (c .before .is-minus .ensures) (c .if1 .taken)
+
+-- src/inter.rt:36:9
+next-at-requires : tie.Need-next-at-requires Inv-loop μ-loop
+next-at-requires c κs = any-placed _ _ _ _ _ (c .before .before .before .before .arity-at .ensures) _ _ (c .before .before .before .loop .inv .1) (c .before .before .loop-test .taken) (c .before .before .before .before .before .before .pre) .1
+
+-- src/inter.rt:37:9
+add-i : tie.Need-add-i Inv-loop μ-loop
+add-i c = omega arith
+
+-- src/inter.rt:32:5
+loop-less : tie.Need-loop-less Inv-loop μ-loop
+loop-less c = omega arith
+
+-- src/inter.rt:32:5
+loop-again : tie.Need-loop-again Inv-loop μ-loop
+loop-again c = (omega arith, any-next _ _ _ _ _ (c .before .before .before .before .before .arity-at .ensures) _ _ (c .before .before .before .before .loop .inv .1) (c .before .before .before .loop-test .taken) _ (c .before .before .is-minus .ensures) (c .before .if1 .left) _ (c .next-at .ensures .0))
+
+-- src/inter.rt:25:1
+returns-2 : tie.Need-returns-2 Inv-loop μ-loop
+returns-2 c = any-none _ _ _ _ _ (c .before .before .arity-at .ensures) _ _ (c .before .loop .inv .1) (c .loop-test .left)
+
+pub any-minus-spec : {M : Type 1} → statement M
+any-minus-spec =
+    tie.close
+    (tie.spec
+    Inv-loop
+    μ-loop
+    arity-at-requires
+    add-c
+    loop-holds
+    is-minus-requires
+    returns
+    next-at-requires
+    add-i
+    loop-less
+    loop-again
+    returns-2)
