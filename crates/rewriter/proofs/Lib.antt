@@ -5,3 +5,4 @@ pub mod EmptyTurns
 pub mod FiniteTurns
 pub mod LogicTurns
 pub mod QuantTurns
+pub mod ImpTurns
