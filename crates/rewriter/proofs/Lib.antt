@@ -6,3 +6,4 @@ pub mod FiniteTurns
 pub mod LogicTurns
 pub mod QuantTurns
 pub mod ImpTurns
+pub mod RowTurns

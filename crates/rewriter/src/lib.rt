@@ -6,3 +6,4 @@ pub mod equals; // equals.rt: a set equated to ∅ or to a type expression
 pub mod finite; // finite.rt: finite(S)
 pub mod logic; // logic.rt: ⇒ and ⇔
 pub mod quantified; // quantified.rt: quantifiers, and partitions
+pub mod contains; // contains.rt: a tree among others

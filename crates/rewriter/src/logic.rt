@@ -10,7 +10,7 @@ ghost use Rattle.rewriter.specs.Decides.{Here, HereTwo, Decides, Decides
 ghost use Prim.Native.Nat.{_<_};
 
 // Whether the tree at place a is ¬ of the tree at place b.
-fn opposes_at(s: &[u8], starts: &[u16; 2048], nexts: &[u16; 2048], a: usize, b: usize) -> bool
+pub fn opposes_at(s: &[u8], starts: &[u16; 2048], nexts: &[u16; 2048], a: usize, b: usize) -> bool
     requires { ⌜ HereTwo (now s) (now starts) (now nexts) a b ⌝ }
     ensures { λ r. ⌜ OpposesPost (now (s .entry)) (now (starts .entry)) (now (nexts .entry)) a b r ⌝ }
 {
