@@ -7,3 +7,4 @@ pub mod LogicTurns
 pub mod QuantTurns
 pub mod ImpTurns
 pub mod RowTurns
+pub mod AndTurns

@@ -12,6 +12,7 @@ use Rattle.frame.specs.Sameness.{sameTree}
 use Rattle.frame.specs.Places.{Ctx, found, find, findIn}
 use Rattle.nav.specs.PlaceTables.{Table}
 use Rattle.rules.specs.Change.{Change, contains}
+use Rattle.rules.specs.Simplify.{makeNeg}
 use Rattle.rewriter.specs.declared.decision.Decision.{Decision}
 use Rattle.rewriter.specs.declared.decision.Decision.the-variants as D
 use Rattle.rewriter.specs.Decision.{Means}
@@ -77,3 +78,9 @@ pub record ContainsPost (s st nx : List ℕ) (c m w : ℕ) (negated r : Bool) : 
   pub says : (t : Tree) (n : ℕ) (Γ : Ctx) (ks : Forest) (v : Tree) → Table s t st nx n
       → ((i : ℕ) (Ξ : Ctx) (x : Tree) → findIn ks Γ i ≡ found Ξ x → find t [] (c + i) ≡ found Ξ x)
       → m ≡ count ks → find t [] w ≡ found Γ v → r ≡ contains (pick negated (one #Not v) v) ks
+
+-- r says whether the negation of the tree at place w, with none of its own where it is a negation, is among the trees in a row
+pub record NegationInPost (s st nx : List ℕ) (c m w : ℕ) (r : Bool) : Type 0 where
+  pub says : (t : Tree) (n : ℕ) (Γ : Ctx) (ks : Forest) (v : Tree) → Table s t st nx n
+      → ((i : ℕ) (Ξ : Ctx) (x : Tree) → findIn ks Γ i ≡ found Ξ x → find t [] (c + i) ≡ found Ξ x)
+      → m ≡ count ks → find t [] w ≡ found Γ v → r ≡ contains (makeNeg v) ks

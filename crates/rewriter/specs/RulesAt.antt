@@ -5,9 +5,9 @@ use lib.Dec.{eqb}
 use Rattle.frame.specs.Trees.{head, Tree, node, Forest, nil, cons, leaf, two}
 use Rattle.frame.specs.Sameness.{sameTree}
 use Rattle.frame.specs.Tags.{pick}
-use Rattle.frame.specs.Operators.{#Equal, #BInter, #CSet, #Not, #Partition, #Forall, #Exists, #BTrue, #BFalse}
+use Rattle.frame.specs.Operators.{#Equal, #BInter, #CSet, #Not, #Partition, #Forall, #Exists, #BTrue, #BFalse, #LAnd}
 use Rattle.frame.specs.Places.{Ctx}
-use Rattle.rules.specs.Change.{Change, to, same, _orElse_, when, isTag, onTag, with1, unary, quantifier}
+use Rattle.rules.specs.Change.{Change, to, same, _orElse_, when, isTag, onTag, with1, unary, quantifier, contains}
 use Rattle.rules.specs.Simplify.{makeNeg, simplifyNot, simplifyForall, simplifyExists}
 use Rattle.rules.specs.Negation.{rewriteNotInner, rewritePartition}
 use Rattle.rules.specs.Finite.{finite, isProjection, rewriteFinite}
@@ -66,3 +66,9 @@ abbrev pub impLast : Tree → Tree → Change
 impLast left right =
     unary #Not left (λ inner. when (sameTree inner right) (to 73 right))
     orElse unary #Not right (λ inner. when (sameTree inner left) (to 74 right))
+
+abbrev pub impAnd : Tree → Tree → Change
+impAnd left right =
+    onTag #LAnd left (λ ts children.
+    when (contains right children) (to 71 (leaf #BTrue))
+    orElse when (contains (makeNeg right) children) (to 72 (makeNeg left)))

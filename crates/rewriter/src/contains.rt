@@ -1,6 +1,8 @@
 // Whether a tree, or its negation, is among trees in a row.
+use crate::decision::Decision;
 use nav::places::same_at;
-ghost use Rattle.rewriter.specs.Decides.{HereTwo, InRow, MatchesPost, ContainsPost};
+ghost use Rattle.rewriter.specs.Decides.{HereTwo, DecidesTwo, InRow, MatchesPost, ContainsPost, NegationInPost};
+ghost use Rattle.rewriter.specs.RulesAt.{impAnd};
 
 // Whether the tree at place a is the tree at place b, or where `negated` its negation.
 pub fn matches_at(s: &[u8], starts: &[u16; 2048], nexts: &[u16; 2048], a: usize, b: usize, negated: bool) -> bool
@@ -26,4 +28,36 @@ pub fn contains_in(s: &[u8], starts: &[u16; 2048], nexts: &[u16; 2048], c: usize
     }
     let d = nav::places::next_at(nexts, c);
     contains_in(s, starts, nexts, d, m - 1, w, negated)
+}
+
+// The same for the negation of the tree at place w: what it negates, or a new negation.
+pub fn negation_in(s: &[u8], starts: &[u16; 2048], nexts: &[u16; 2048], c: usize, m: usize, w: usize) -> bool
+    requires { ⌜ InRow (now s) (now starts) (now nexts) c m w ⌝ }
+    ensures { λ r. ⌜ NegationInPost (now (s .entry)) (now (starts .entry)) (now (nexts .entry)) c m w r ⌝ }
+{
+    let tag = nav::places::tag_at(s, starts, w);
+    if tag == 701 {
+        return contains_in(s, starts, nexts, c, m, w + 1, false);
+    }
+    contains_in(s, starts, nexts, c, m, w, true)
+}
+
+// ⇒ of the predicates at places a and b, where the first is ∧: the second, or its negation, is among the operands.
+pub fn implication_and_at(s: &[u8], starts: &[u16; 2048], nexts: &[u16; 2048], a: usize, b: usize) -> Decision
+    requires { ⌜ HereTwo (now s) (now starts) (now nexts) a b ⌝ }
+    ensures { λ r. ⌜ DecidesTwo impAnd (now (s .entry)) (now (starts .entry)) (now (nexts .entry)) a b r ⌝ }
+{
+    let left = nav::places::tag_at(s, starts, a);
+    if left != 351 {
+        return Decision::Rests;
+    }
+    let m = nav::places::arity_at(s, starts, a);
+    let c = a + 1;
+    if contains_in(s, starts, nexts, c, m, b, false) {
+        return crate::operands::fixed(71, a, a, a);
+    }
+    if negation_in(s, starts, nexts, c, m, b) {
+        return crate::operands::fixed(72, a, a, a);
+    }
+    Decision::Rests
 }
