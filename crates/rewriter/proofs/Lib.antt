@@ -8,3 +8,4 @@ pub mod QuantTurns
 pub mod ImpTurns
 pub mod RowTurns
 pub mod AndTurns
+pub mod Bridges
