@@ -9,3 +9,4 @@ pub mod ImpTurns
 pub mod RowTurns
 pub mod AndTurns
 pub mod Bridges
+pub mod Series

@@ -1,6 +1,6 @@
 -- What a function that decides by places asks and answers.
 use mathlib.Core.Path.{_≡_}
-use mathlib.Core.Bool.{Bool}
+use mathlib.Core.Bool.{Bool, true, false}
 use mathlib.Core.List.{List, []}
 use Prim.Native.Nat.{ℕ, _+_, _<_}
 use lib.ListN.{getD}
@@ -84,3 +84,11 @@ pub record NegationInPost (s st nx : List ℕ) (c m w : ℕ) (r : Bool) : Type 0
   pub says : (t : Tree) (n : ℕ) (Γ : Ctx) (ks : Forest) (v : Tree) → Table s t st nx n
       → ((i : ℕ) (Ξ : Ctx) (x : Tree) → findIn ks Γ i ≡ found Ξ x → find t [] (c + i) ≡ found Ξ x)
       → m ≡ count ks → find t [] w ≡ found Γ v → r ≡ contains (makeNeg v) ks
+
+abbrev pub isRests : Decision → Bool
+isRests D.Rests = true
+isRests (D.Fixed place pattern first second binder) = false
+isRests (D.Each place node binder) = false
+isRests (D.Kept m) = false
+isRests (D.Apart node single) = false
+isRests (D.Within node) = false

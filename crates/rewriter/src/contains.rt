@@ -1,7 +1,9 @@
 // Whether a tree, or its negation, is among trees in a row.
 use crate::decision::Decision;
 use nav::places::same_at;
-ghost use Rattle.rewriter.specs.Decides.{HereTwo, DecidesTwo, InRow, MatchesPost, ContainsPost, NegationInPost};
+ghost use Rattle.rewriter.specs.Decides.{HereTwo, DecidesTwo, InRow, MatchesPost, ContainsPost, NegationInPost, isRests};
+ghost use mathlib.Core.Path.{_≡_};
+ghost use Rattle.rules.specs.Simplify.{simplifyImp};
 ghost use Rattle.rewriter.specs.RulesAt.{impAnd};
 
 // Whether the tree at place a is the tree at place b, or where `negated` its negation.
@@ -60,4 +62,44 @@ pub fn implication_and_at(s: &[u8], starts: &[u16; 2048], nexts: &[u16; 2048], a
         return crate::operands::fixed(72, a, a, a);
     }
     Decision::Rests
+}
+
+// Whether no rule applies.
+pub fn rests(d: Decision) -> bool
+    ensures { λ r. ⌜ r ≡ isRests d ⌝ }
+{
+    match d {
+        Decision::Rests => true,
+        Decision::Fixed {
+            place: _,
+            pattern: _,
+            first: _,
+            second: _,
+            binder: _,
+        } => false,
+        Decision::Each {
+            place: _,
+            node: _,
+            binder: _,
+        } => false,
+        Decision::Kept(_m) => false,
+        Decision::Apart { node: _, single: _ } => false,
+        Decision::Within(_k) => false,
+    }
+}
+
+// ⇒ of the predicates at places a and b.
+pub fn implication_at(s: &[u8], starts: &[u16; 2048], nexts: &[u16; 2048], a: usize, b: usize) -> Decision
+    requires { ⌜ HereTwo (now s) (now starts) (now nexts) a b ⌝ }
+    ensures { λ r. ⌜ DecidesTwo simplifyImp (now (s .entry)) (now (starts .entry)) (now (nexts .entry)) a b r ⌝ }
+{
+    let first = crate::logic::implication_first_at(s, starts, nexts, a, b);
+    if !rests(first) {
+        return first;
+    }
+    let within = implication_and_at(s, starts, nexts, a, b);
+    if !rests(within) {
+        return within;
+    }
+    crate::logic::implication_last_at(s, starts, nexts, a, b)
 }
