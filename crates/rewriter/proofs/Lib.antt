@@ -10,3 +10,8 @@ pub mod Opposites
 pub mod JunctionTurns
 pub mod JunctionMeans
 pub mod InterTurns
+pub mod ImpTurns
+pub mod RowTurns
+pub mod AndTurns
+pub mod Bridges
+pub mod Series

@@ -1,15 +1,18 @@
 -- What a function that decides by places asks and answers.
 use mathlib.Core.Path.{_≡_}
-use mathlib.Core.Bool.{Bool}
+use mathlib.Core.Bool.{Bool, true, false}
 use mathlib.Core.List.{List, []}
 use Prim.Native.Nat.{ℕ, _+_, _<_}
 use lib.ListN.{getD}
 use lib.Dec.{eqb}
 use Rattle.frame.specs.Tags.{pick}
-use Rattle.frame.specs.Trees.{Tree}
-use Rattle.frame.specs.Places.{Ctx, found, find}
+use Rattle.frame.specs.Trees.{Tree, Forest, count, one}
+use Rattle.frame.specs.Operators.{#Not}
+use Rattle.frame.specs.Sameness.{sameTree}
+use Rattle.frame.specs.Places.{Ctx, found, find, findIn}
 use Rattle.nav.specs.PlaceTables.{Table}
-use Rattle.rules.specs.Change.{Change}
+use Rattle.rules.specs.Change.{Change, contains}
+use Rattle.rules.specs.Simplify.{makeNeg}
 use Rattle.rewriter.specs.declared.decision.Decision.{Decision}
 use Rattle.rewriter.specs.declared.decision.Decision.the-variants as D
 use Rattle.rewriter.specs.Decision.{Means}
@@ -52,3 +55,40 @@ pub record OpposesPost (s st nx : List ℕ) (a b : ℕ) (r : Bool) : Type 0 wher
 -- ¬ of the tree at place p, by its tag: what a negation negates, or a new negation
 abbrev pub negatedAt : ℕ → ℕ → ℕ → Decision
 negatedAt place tag p = pick (eqb tag 701) (D.Fixed place 64 (p + 1) (p + 1) p) (D.Fixed place place p p p)
+
+-- m trees in a row from place c on, and a tree at place w, all in one context
+pub record InRow (s st nx : List ℕ) (c m w : ℕ) : Type 0 where
+  pub t : Tree
+  pub n : ℕ
+  pub table : Table s t st nx n
+  pub Γ : Ctx
+  pub ks : Forest
+  pub kids : (i : ℕ) (Ξ : Ctx) (x : Tree) → findIn ks Γ i ≡ found Ξ x → find t [] (c + i) ≡ found Ξ x
+  pub many : m ≡ count ks
+  pub v : Tree
+  pub there : find t [] w ≡ found Γ v
+
+-- r says whether the tree at place a is that at place b, or where `negated` its negation
+pub record MatchesPost (s st nx : List ℕ) (a b : ℕ) (negated r : Bool) : Type 0 where
+  pub says : (t : Tree) (n : ℕ) (Γ : Ctx) (v w : Tree) → Table s t st nx n → find t [] a ≡ found Γ v → find t [] b ≡ found Γ w
+      → r ≡ sameTree v (pick negated (one #Not w) w)
+
+-- and whether it is among the trees in a row
+pub record ContainsPost (s st nx : List ℕ) (c m w : ℕ) (negated r : Bool) : Type 0 where
+  pub says : (t : Tree) (n : ℕ) (Γ : Ctx) (ks : Forest) (v : Tree) → Table s t st nx n
+      → ((i : ℕ) (Ξ : Ctx) (x : Tree) → findIn ks Γ i ≡ found Ξ x → find t [] (c + i) ≡ found Ξ x)
+      → m ≡ count ks → find t [] w ≡ found Γ v → r ≡ contains (pick negated (one #Not v) v) ks
+
+-- r says whether the negation of the tree at place w, with none of its own where it is a negation, is among the trees in a row
+pub record NegationInPost (s st nx : List ℕ) (c m w : ℕ) (r : Bool) : Type 0 where
+  pub says : (t : Tree) (n : ℕ) (Γ : Ctx) (ks : Forest) (v : Tree) → Table s t st nx n
+      → ((i : ℕ) (Ξ : Ctx) (x : Tree) → findIn ks Γ i ≡ found Ξ x → find t [] (c + i) ≡ found Ξ x)
+      → m ≡ count ks → find t [] w ≡ found Γ v → r ≡ contains (makeNeg v) ks
+
+abbrev pub isRests : Decision → Bool
+isRests D.Rests = true
+isRests (D.Fixed place pattern first second binder) = false
+isRests (D.Each place node binder) = false
+isRests (D.Kept m) = false
+isRests (D.Apart node single) = false
+isRests (D.Within node) = false

@@ -2,13 +2,13 @@
 use Prim.Native.Nat.{ℕ}
 use mathlib.Core.Bool.{Bool, true, false, _&&_}
 use lib.Dec.{eqb}
-use Rattle.frame.specs.Trees.{head, Tree, node, Forest, nil, cons, two}
+use Rattle.frame.specs.Trees.{head, Tree, node, Forest, nil, cons, leaf, two}
 use Rattle.frame.specs.Sameness.{sameTree}
 use Rattle.frame.specs.Tags.{pick}
-use Rattle.frame.specs.Operators.{#Equal, #BInter, #CSet, #Not, #Partition, #Forall, #Exists}
+use Rattle.frame.specs.Operators.{#Equal, #BInter, #CSet, #Not, #Partition, #Forall, #Exists, #BTrue, #BFalse, #LAnd}
 use Rattle.frame.specs.Places.{Ctx}
-use Rattle.rules.specs.Change.{Change, to, same, _orElse_, when, isTag, onTag, with1, quantifier}
-use Rattle.rules.specs.Simplify.{simplifyNot, simplifyForall, simplifyExists}
+use Rattle.rules.specs.Change.{Change, to, same, _orElse_, when, isTag, onTag, with1, unary, quantifier, contains}
+use Rattle.rules.specs.Simplify.{makeNeg, simplifyNot, simplifyForall, simplifyExists}
 use Rattle.rules.specs.Negation.{rewriteNotInner, rewritePartition}
 use Rattle.rules.specs.Finite.{finite, isProjection, rewriteFinite}
 use Rattle.rules.specs.EqualsEmptySet.{rewriteEqualsEmptySet}
@@ -52,3 +52,23 @@ soleSame (cons a (cons b ks)) w = false
 
 abbrev pub opposes : Tree → Tree → Bool
 opposes (node (head g n us) ks) w = eqb g #Not && soleSame ks w
+
+-- left ⇒ right: the first tests of simplifyImp, and the last; between them it looks among the operands of ∧ on the left
+abbrev pub impFirst : Tree → Tree → Change
+impFirst left right =
+    when (isTag #BTrue left) (to 66 right)
+    orElse when (isTag #BFalse left) (to 67 (leaf #BTrue))
+    orElse when (isTag #BTrue right) (to 68 right)
+    orElse when (isTag #BFalse right) (to 69 (makeNeg left))
+    orElse when (sameTree left right) (to 70 (leaf #BTrue))
+
+abbrev pub impLast : Tree → Tree → Change
+impLast left right =
+    unary #Not left (λ inner. when (sameTree inner right) (to 73 right))
+    orElse unary #Not right (λ inner. when (sameTree inner left) (to 74 right))
+
+abbrev pub impAnd : Tree → Tree → Change
+impAnd left right =
+    onTag #LAnd left (λ ts children.
+    when (contains right children) (to 71 (leaf #BTrue))
+    orElse when (contains (makeNeg right) children) (to 72 (makeNeg left)))

@@ -8,3 +8,4 @@ pub mod logic; // logic.rt: ⇒ and ⇔
 pub mod quantified; // quantified.rt: quantifiers, and partitions
 pub mod junction; // junction.rt: ∧ and ∨
 pub mod inter; // inter.rt: ∩ = ∅
+pub mod contains; // contains.rt: a tree among others

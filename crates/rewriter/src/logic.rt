@@ -5,11 +5,12 @@ use nav::places::same_at;
 use nav::places::tag_at;
 ghost use mathlib.Core.Path.{_≡_};
 ghost use Rattle.rules.specs.Simplify.{simplifyEqv};
+ghost use Rattle.rewriter.specs.RulesAt.{impFirst, impLast};
 ghost use Rattle.rewriter.specs.Decides.{Here, HereTwo, Decides, DecidesTwo, OpposesPost, negatedAt};
 ghost use Prim.Native.Nat.{_<_};
 
 // Whether the tree at place a is ¬ of the tree at place b.
-fn opposes_at(s: &[u8], starts: &[u16; 2048], nexts: &[u16; 2048], a: usize, b: usize) -> bool
+pub fn opposes_at(s: &[u8], starts: &[u16; 2048], nexts: &[u16; 2048], a: usize, b: usize) -> bool
     requires { ⌜ HereTwo (now s) (now starts) (now nexts) a b ⌝ }
     ensures { λ r. ⌜ OpposesPost (now (s .entry)) (now (starts .entry)) (now (nexts .entry)) a b r ⌝ }
 {
@@ -71,6 +72,45 @@ pub fn equivalence_at(
     }
     if opposes_at(s, starts, nexts, a, b) {
         return fixed(81, a, a, a);
+    }
+    Decision::Rests
+}
+
+// ⇒ of the predicates at places a and b: ⊤, ⊥ and sameness.
+pub fn implication_first_at(s: &[u8], starts: &[u16; 2048], nexts: &[u16; 2048], a: usize, b: usize) -> Decision
+    requires { ⌜ HereTwo (now s) (now starts) (now nexts) a b ⌝ }
+    ensures { λ r. ⌜ DecidesTwo impFirst (now (s .entry)) (now (starts .entry)) (now (nexts .entry)) a b r ⌝ }
+{
+    let left = tag_at(s, starts, a);
+    let right = tag_at(s, starts, b);
+    if left == 610 {
+        return fixed(66, b, b, b);
+    }
+    if left == 611 {
+        return fixed(67, a, a, a);
+    }
+    if right == 610 {
+        return fixed(68, a, a, a);
+    }
+    if right == 611 {
+        return negated(69, left, a);
+    }
+    if same_at(s, starts, a, b) {
+        return fixed(70, a, a, a);
+    }
+    Decision::Rests
+}
+
+// ⇒ where one side is ¬ of the other.
+pub fn implication_last_at(s: &[u8], starts: &[u16; 2048], nexts: &[u16; 2048], a: usize, b: usize) -> Decision
+    requires { ⌜ HereTwo (now s) (now starts) (now nexts) a b ⌝ }
+    ensures { λ r. ⌜ DecidesTwo impLast (now (s .entry)) (now (starts .entry)) (now (nexts .entry)) a b r ⌝ }
+{
+    if opposes_at(s, starts, nexts, a, b) {
+        return fixed(73, b, b, b);
+    }
+    if opposes_at(s, starts, nexts, b, a) {
+        return fixed(74, b, b, b);
     }
     Decision::Rests
 }

@@ -1,0 +1,129 @@
+-- The ways out of implication_first_at and implication_last_at of src/logic.rt, and how they make up simplifyImp.
+use mathlib.Core.Path.{_≡_, refl, sym, ap, _∙_}
+use mathlib.Core.Bool.{Bool, true, false, _&&_}
+use mathlib.Core.List.{List, [], _∷_}
+use Prim.Native.Nat.{ℕ, _+_, _<_}
+use native.Mathlib.Omega.{arith}
+use lib.ListN.{length, getD}
+use lib.Dec.{eqb}
+use borrow.Author.Tests.{ne-eqb}
+use Rattle.frame.specs.Types.{Ty}
+use Rattle.frame.specs.Trees.{head, Tree, node, Forest, nil, cons, tagOf, leaf, one}
+use Rattle.frame.specs.Tags.{pick, predicate, lookup, classOf, formAt}
+use Rattle.frame.specs.Operators.{#BTrue, #BFalse, #Not, #LAnd}
+use Rattle.frame.specs.Places.{Ctx, found, find}
+use Rattle.frame.specs.Sameness.{sameTree}
+use Rattle.nav.specs.PlaceTables.{Table, TagPost, SameAtPost}
+use Rattle.nav.proofs.Hops.{Sorted, place-sorted}
+use Rattle.rules.specs.Change.{Change, to, same, _orElse_, when, onTag, contains}
+use Rattle.rules.specs.Simplify.{makeNeg, simplifyImp}
+use Rattle.emit.proofs.RightSides.{right-66, right-67, right-68, right-69, right-70, right-73, right-74}
+use Rattle.rewriter.specs.Decides.{HereTwo, DecidesTwo, OpposesPost, negatedAt}
+use Rattle.rewriter.specs.RulesAt.{opposes, impFirst, impLast}
+use Rattle.rewriter.specs.declared.decision.Decision.{Decision}
+use Rattle.rewriter.specs.declared.decision.Decision.the-variants as D
+use Rattle.rewriter.proofs.Shapes.{any, or-same}
+use Rattle.rewriter.proofs.LogicTurns.{unary-when, on-left, on-right, negated-means}
+
+-- ---- ⊤ has no payload, no types and no children
+leaf-in : (n : ℕ) (us : List Ty) (ks : Forest) → Sorted (node (head 610 n us) ks) → node (head 610 n us) ks ≡ leaf 610
+unfolding lookup classOf formAt
+leaf-in n [] nil (e, w) = ap (λ (x : ℕ). node (head 610 x []) nil) (sym (w .0 .own))
+leaf-in n [] (cons a ks) (e, w) = absurd (w .1)
+leaf-in n (u ∷ us) ks (e, w) = let z : length (u ∷ us) ≡ 0 = w .0 .many in absurd (omega arith)
+
+is-true : (v : Tree) → Sorted v → tagOf v ≡ 610 → v ≡ leaf 610
+is-true (node (head g n us) ks) o z = rw z (leaf-in n us ks (rw z at o))
+
+-- ---- the first tests
+module _ (v w : Tree) where
+  imp-66 : tagOf v ≡ 610 → impFirst v w ≡ to 66 w
+  imp-66 z = rw z
+
+  imp-67 : tagOf v ≡ 611 → impFirst v w ≡ to 67 (leaf #BTrue)
+  imp-67 z = rw z
+
+  module _ (n1 : tagOf v ≡ 610 → ⊥) (n2 : tagOf v ≡ 611 → ⊥) where
+    imp-68 : tagOf w ≡ 610 → impFirst v w ≡ to 68 w
+    imp-68 z = rw (ne-eqb (tagOf v) 610 n1, ne-eqb (tagOf v) 611 n2, z)
+
+    imp-69 : tagOf w ≡ 611 → impFirst v w ≡ to 69 (makeNeg v)
+    imp-69 z = rw (ne-eqb (tagOf v) 610 n1, ne-eqb (tagOf v) 611 n2, z)
+
+    module _ (n3 : tagOf w ≡ 610 → ⊥) (n4 : tagOf w ≡ 611 → ⊥) where
+      imp-70 : sameTree v w ≡ true → impFirst v w ≡ to 70 (leaf #BTrue)
+      imp-70 z = rw (ne-eqb (tagOf v) 610 n1, ne-eqb (tagOf v) 611 n2, ne-eqb (tagOf w) 610 n3, ne-eqb (tagOf w) 611 n4, z)
+
+      imp-first-none : sameTree v w ≡ false → impFirst v w ≡ same
+      imp-first-none z = rw (ne-eqb (tagOf v) 610 n1, ne-eqb (tagOf v) 611 n2, ne-eqb (tagOf w) 610 n3, ne-eqb (tagOf w) 611 n4, z)
+
+module _ (s st nx : List ℕ) (a b left right : ℕ) (pl : TagPost s st a left) (pr : TagPost s st b right) where
+  pub out-66 : left ≡ 610 → (r : Decision) → r ≡ D.Fixed 66 66 b b b → DecidesTwo impFirst s st nx a b r
+  out-66 z =
+      on-right impFirst s st nx a b 66 (λ v w. w) (λ t n Γ v w tb fa fb. imp-66 v w (sym (pl .tag t n Γ v (tb .framed) fa) ∙ z)) (λ Γ v w. sym (right-66 w _ _ _))
+
+  pub out-67 : left ≡ 611 → (r : Decision) → r ≡ D.Fixed 67 67 a a a → DecidesTwo impFirst s st nx a b r
+  out-67 z =
+      on-left impFirst s st nx a b 67 (λ v w. leaf #BTrue) (λ t n Γ v w tb fa fb. imp-67 v w (sym (pl .tag t n Γ v (tb .framed) fa) ∙ z)) (λ Γ v w. sym (right-67 _ _ _))
+
+  module _ (n1 : left ≡ 610 → ⊥) (n2 : left ≡ 611 → ⊥) where
+    pub out-68 : right ≡ 610 → (r : Decision) → r ≡ D.Fixed 68 68 a a a → DecidesTwo impFirst s st nx a b r
+    out-68 z =
+        on-left impFirst s st nx a b 68 (λ v w. leaf #BTrue)
+        (λ t n Γ v w tb fa fb.
+        let zl = pl .tag t n Γ v (tb .framed) fa in
+        let zr : tagOf w ≡ 610 = sym (pr .tag t n Γ w (tb .framed) fb) ∙ z in
+        imp-68 v w (λ q. n1 (zl ∙ q)) (λ q. n2 (zl ∙ q)) zr ∙ ap (to 68) (is-true w (place-sorted s t st n (tb .framed) b Γ w fb) zr))
+        (λ Γ v w. sym (right-68 _ _ _))
+
+    pub out-69 : right ≡ 611 → (r : Decision) → r ≡ negatedAt 69 left a → DecidesTwo impFirst s st nx a b r
+    out-69 z r er =
+        record {
+          means = λ t n Γ v w tb fa fb x Ξ kept.
+              let zl = pl .tag t n Γ v (tb .framed) fa in
+              rw er
+              (negated-means s st nx t n a Γ v left 69 (impFirst v w) tb fa zl
+              (imp-69 v w (λ q. n1 (zl ∙ q)) (λ q. n2 (zl ∙ q)) (sym (pr .tag t n Γ w (tb .framed) fb) ∙ z))
+              (λ c us. sym (right-69 c _ _ us)) x Ξ kept);
+        }
+
+    module _ (n3 : right ≡ 610 → ⊥) (n4 : right ≡ 611 → ⊥) (e : Bool) (pe : SameAtPost s st a b e) where
+      pub out-70 : e ≡ true → (r : Decision) → r ≡ D.Fixed 70 70 a a a → DecidesTwo impFirst s st nx a b r
+      out-70 z =
+          on-left impFirst s st nx a b 70 (λ v w. leaf #BTrue)
+          (λ t n Γ v w tb fa fb.
+          let zl = pl .tag t n Γ v (tb .framed) fa in
+          let zr = pr .tag t n Γ w (tb .framed) fb in
+          imp-70 v w (λ q. n1 (zl ∙ q)) (λ q. n2 (zl ∙ q)) (λ q. n3 (zr ∙ q)) (λ q. n4 (zr ∙ q)) (sym (pe .same t n Γ Γ v w (tb .framed) fa fb) ∙ z))
+          (λ Γ v w. sym (right-70 _ _ _))
+
+      pub first-none : e ≡ false → DecidesTwo impFirst s st nx a b D.Rests
+      first-none z =
+          record {
+            means = λ t n Γ v w tb fa fb x Ξ kept.
+                let zl = pl .tag t n Γ v (tb .framed) fa in
+                let zr = pr .tag t n Γ w (tb .framed) fb in
+                imp-first-none v w (λ q. n1 (zl ∙ q)) (λ q. n2 (zl ∙ q)) (λ q. n3 (zr ∙ q)) (λ q. n4 (zr ∙ q)) (sym (pe .same t n Γ Γ v w (tb .framed) fa fb) ∙ z);
+          }
+
+-- ---- the last tests
+last-form : (v w : Tree) → impLast v w ≡ (when (opposes v w) (to 73 w) orElse when (opposes w v) (to 74 w))
+last-form v w = rw (unary-when v w (to 73 w), unary-when w v (to 74 w))
+
+module _ (s st nx : List ℕ) (a b : ℕ) (o : Bool) (po : OpposesPost s st nx a b o) where
+  pub out-73 : o ≡ true → (r : Decision) → r ≡ D.Fixed 73 73 b b b → DecidesTwo impLast s st nx a b r
+  out-73 z =
+      on-right impLast s st nx a b 73 (λ v w. w) (λ t n Γ v w tb fa fb. last-form v w ∙ rw (sym (po .says t n Γ v w tb fa fb) ∙ z)) (λ Γ v w. sym (right-73 w _ _ _))
+
+  module _ (n1 : o ≡ false) (u : Bool) (pu : OpposesPost s st nx b a u) where
+    pub out-74 : u ≡ true → (r : Decision) → r ≡ D.Fixed 74 74 b b b → DecidesTwo impLast s st nx a b r
+    out-74 z =
+        on-right impLast s st nx a b 74 (λ v w. w)
+        (λ t n Γ v w tb fa fb. last-form v w ∙ rw (sym (po .says t n Γ v w tb fa fb) ∙ n1, sym (pu .says t n Γ w v tb fb fa) ∙ z)) (λ Γ v w. sym (right-74 w _ _ _))
+
+    pub last-none : u ≡ false → DecidesTwo impLast s st nx a b D.Rests
+    last-none z =
+        record {
+          means = λ t n Γ v w tb fa fb x Ξ kept.
+              last-form v w ∙ rw (sym (po .says t n Γ v w tb fa fb) ∙ n1, sym (pu .says t n Γ w v tb fb fa) ∙ z);
+        }
