@@ -34,7 +34,7 @@ module _ (s st nx : List ℕ) (c m w tag : ℕ) (pt : TagPost s st w tag) where
   unfolding lookup classOf formAt
   inner-row key h =
       let o = single 701 predicate (λ x. refl) (h .v) (place-sorted s (h .t) st (h .n) (h .table .framed) w (h .Γ) (h .v) (h .there))
-          (sym (pt .tag (h .t) (h .n) (h .Γ) (h .v) (h .table .framed) (h .there)) ∙ key) in
+      (sym (pt .tag (h .t) (h .n) (h .Γ) (h .v) (h .table .framed) (h .there)) ∙ key) in
       record {
         t = h .t;
         n = h .n;

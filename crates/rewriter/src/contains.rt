@@ -7,7 +7,14 @@ ghost use Rattle.rules.specs.Simplify.{simplifyImp};
 ghost use Rattle.rewriter.specs.RulesAt.{impAnd};
 
 // Whether the tree at place a is the tree at place b, or where `negated` its negation.
-pub fn matches_at(s: &[u8], starts: &[u16; 2048], nexts: &[u16; 2048], a: usize, b: usize, negated: bool) -> bool
+pub fn matches_at(
+    s: &[u8],
+    starts: &[u16; 2048],
+    nexts: &[u16; 2048],
+    a: usize,
+    b: usize,
+    negated: bool,
+) -> bool
     requires { ⌜ HereTwo (now s) (now starts) (now nexts) a b ⌝ }
     ensures { λ r. ⌜ MatchesPost (now (s .entry)) (now (starts .entry)) (now (nexts .entry)) a b negated r ⌝ }
 {
@@ -18,7 +25,15 @@ pub fn matches_at(s: &[u8], starts: &[u16; 2048], nexts: &[u16; 2048], a: usize,
 }
 
 // The same for the m trees in a row from place c on: one of them is it.
-pub fn contains_in(s: &[u8], starts: &[u16; 2048], nexts: &[u16; 2048], c: usize, m: usize, w: usize, negated: bool) -> bool
+pub fn contains_in(
+    s: &[u8],
+    starts: &[u16; 2048],
+    nexts: &[u16; 2048],
+    c: usize,
+    m: usize,
+    w: usize,
+    negated: bool,
+) -> bool
     requires { ⌜ InRow (now s) (now starts) (now nexts) c m w ⌝ }
     ensures { λ r. ⌜ ContainsPost (now (s .entry)) (now (starts .entry)) (now (nexts .entry)) c m w negated r ⌝ }
 {
@@ -33,7 +48,14 @@ pub fn contains_in(s: &[u8], starts: &[u16; 2048], nexts: &[u16; 2048], c: usize
 }
 
 // The same for the negation of the tree at place w: what it negates, or a new negation.
-pub fn negation_in(s: &[u8], starts: &[u16; 2048], nexts: &[u16; 2048], c: usize, m: usize, w: usize) -> bool
+pub fn negation_in(
+    s: &[u8],
+    starts: &[u16; 2048],
+    nexts: &[u16; 2048],
+    c: usize,
+    m: usize,
+    w: usize,
+) -> bool
     requires { ⌜ InRow (now s) (now starts) (now nexts) c m w ⌝ }
     ensures { λ r. ⌜ NegationInPost (now (s .entry)) (now (starts .entry)) (now (nexts .entry)) c m w r ⌝ }
 {
@@ -45,7 +67,13 @@ pub fn negation_in(s: &[u8], starts: &[u16; 2048], nexts: &[u16; 2048], c: usize
 }
 
 // ⇒ of the predicates at places a and b, where the first is ∧: the second, or its negation, is among the operands.
-pub fn implication_and_at(s: &[u8], starts: &[u16; 2048], nexts: &[u16; 2048], a: usize, b: usize) -> Decision
+pub fn implication_and_at(
+    s: &[u8],
+    starts: &[u16; 2048],
+    nexts: &[u16; 2048],
+    a: usize,
+    b: usize,
+) -> Decision
     requires { ⌜ HereTwo (now s) (now starts) (now nexts) a b ⌝ }
     ensures { λ r. ⌜ DecidesTwo impAnd (now (s .entry)) (now (starts .entry)) (now (nexts .entry)) a b r ⌝ }
 {
@@ -89,7 +117,13 @@ pub fn rests(d: Decision) -> bool
 }
 
 // ⇒ of the predicates at places a and b.
-pub fn implication_at(s: &[u8], starts: &[u16; 2048], nexts: &[u16; 2048], a: usize, b: usize) -> Decision
+pub fn implication_at(
+    s: &[u8],
+    starts: &[u16; 2048],
+    nexts: &[u16; 2048],
+    a: usize,
+    b: usize,
+) -> Decision
     requires { ⌜ HereTwo (now s) (now starts) (now nexts) a b ⌝ }
     ensures { λ r. ⌜ DecidesTwo simplifyImp (now (s .entry)) (now (starts .entry)) (now (nexts .entry)) a b r ⌝ }
 {

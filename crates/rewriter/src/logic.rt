@@ -77,7 +77,13 @@ pub fn equivalence_at(
 }
 
 // ⇒ of the predicates at places a and b: ⊤, ⊥ and sameness.
-pub fn implication_first_at(s: &[u8], starts: &[u16; 2048], nexts: &[u16; 2048], a: usize, b: usize) -> Decision
+pub fn implication_first_at(
+    s: &[u8],
+    starts: &[u16; 2048],
+    nexts: &[u16; 2048],
+    a: usize,
+    b: usize,
+) -> Decision
     requires { ⌜ HereTwo (now s) (now starts) (now nexts) a b ⌝ }
     ensures { λ r. ⌜ DecidesTwo impFirst (now (s .entry)) (now (starts .entry)) (now (nexts .entry)) a b r ⌝ }
 {
@@ -102,7 +108,13 @@ pub fn implication_first_at(s: &[u8], starts: &[u16; 2048], nexts: &[u16; 2048],
 }
 
 // ⇒ where one side is ¬ of the other.
-pub fn implication_last_at(s: &[u8], starts: &[u16; 2048], nexts: &[u16; 2048], a: usize, b: usize) -> Decision
+pub fn implication_last_at(
+    s: &[u8],
+    starts: &[u16; 2048],
+    nexts: &[u16; 2048],
+    a: usize,
+    b: usize,
+) -> Decision
     requires { ⌜ HereTwo (now s) (now starts) (now nexts) a b ⌝ }
     ensures { λ r. ⌜ DecidesTwo impLast (now (s .entry)) (now (starts .entry)) (now (nexts .entry)) a b r ⌝ }
 {

@@ -495,3 +495,14 @@ module _ (t l f s leaves types : List ℕ) (bs : Bytes s) (st : State) (left : g
             (nd .froms ∙ ap (λ (i : ℕ). set f i (st .end)) e) (nd .kept) in
             with-node base stop o ps run (k .0) (k .1) (k .2) (a .2) (b .0) (b .3) (made base stop o ps run (b .1) (b .0) (b .2)));
       }
+
+-- ---- what was found at numbers and tables that are others by equations
+pub close-as : {a b : ℕ} {st : State} {o : List ℕ} {c d : ℕ} {p : List ℕ} {r : Turned} → a ≡ b → c ≡ d → ClosePost a st o c p r → ClosePost b st o d p r
+close-as {st} {o} {p} {r} x y z = subst₂ (λ (i j : ℕ). ClosePost i st o j p r) x y z
+
+pub judge-as : {o : List ℕ} {c d n : ℕ} → c ≡ d → JudgePre o d n → JudgePre o c n
+judge-as {o} {n} x z = subst (λ (i : ℕ). JudgePre o i n) (sym x) z
+
+pub open-as : {s : List ℕ} {at leaf : ℕ} {t l l₀ f : List ℕ} {top : ℕ} {o : List ℕ} {end : ℕ} {t₁ l₁ f₁ types : List ℕ} {r : Opened}
+    → l ≡ l₀ → OpenPost s at leaf t l f top o end t₁ l₁ f₁ types r → OpenPost s at leaf t l₀ f top o end t₁ l₁ f₁ types r
+open-as {s} {at} {leaf} {t} {f} {top} {o} {end} {t₁} {l₁} {f₁} {types} {r} x z = subst (λ (l : List ℕ). OpenPost s at leaf t l f top o end t₁ l₁ f₁ types r) x z

@@ -206,58 +206,23 @@ pub fn judge_types(tag: usize, types: &mut [u8], from: usize, n: usize) -> Typed
     requires { ⌜ JudgePre (now types) from n ⌝ }
     ensures { λ r. ⌜ JudgePost (ruleAt (classOf tag)) (now (types .entry)) from n (now (types .exit)) r ⌝ }
 {
-    let patterns = PATTERNS;
-    let row = rule_of(tag) * 4;
-    let mut starts = [0usize; 4];
-    let mut ends = [0usize; 4];
-    let pairs = match_pairs(
-        &patterns,
-        wide(ROWS[row]),
-        types,
-        from,
-        n,
-        &mut starts,
-        &mut ends,
-    );
+    let p = PATTERNS;
+    let r = rule_of(tag) * 4;
+    let mut lo = [0usize; 4];
+    let mut hi = [0usize; 4];
+    let pairs = match_pairs(&p, wide(ROWS[r]), types, from, n, &mut lo, &mut hi);
     let Pairs::Last(last) = pairs else {
         return Typed::Bad;
     };
-    let first = match_pattern(
-        &patterns,
-        wide(ROWS[row + 1]),
-        types,
-        from,
-        n,
-        &mut starts,
-        &mut ends,
-        0,
-    );
+    let first = match_pattern(&p, wide(ROWS[r + 1]), types, from, n, &mut lo, &mut hi, 0);
     let Fit::Fits(k) = first else {
         return Typed::Bad;
     };
-    let second = match_pattern(
-        &patterns,
-        wide(ROWS[row + 2]),
-        types,
-        last,
-        n,
-        &mut starts,
-        &mut ends,
-        k,
-    );
+    let second = match_pattern(&p, wide(ROWS[r + 2]), types, last, n, &mut lo, &mut hi, k);
     let Fit::Fits(j) = second else {
         return Typed::Bad;
     };
-    let filled = fill_pattern(
-        &patterns,
-        wide(ROWS[row + 3]),
-        types,
-        n,
-        n + TYPE_LIMIT,
-        &starts,
-        &ends,
-        j,
-    );
+    let filled = fill_pattern(&p, wide(ROWS[r + 3]), types, n, n + TYPE_LIMIT, &lo, &hi, j);
     let Filled::To(m) = filled else {
         return Typed::Bad;
     };

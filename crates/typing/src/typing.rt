@@ -23,14 +23,20 @@ const TYPE_LIMIT: usize = 64;
 // The rules from 1 to this are those of nodes that carry their type, and this is that of a bound identifier.
 const BOUND_RULE: usize = 6;
 
-// The nodes that are open: their tags, how many operands are to come, where the types of those that have come start. The record at
-// `top` is that of the node whose operands come next.
-// Where the next node stands and its place, the end of the types, and the top of the stack.
+// Where the next node stands and its place, the end of the types, and the top of the stack of open nodes: three tables, which only
+// push, peek and take_operand touch.
 pub struct State {
     pub at: usize,
     pub place: usize,
     pub end: usize,
     pub top: usize,
+}
+
+// An open node: its tag, how many operands are to come, where the types of those that have come start.
+pub struct OpenNode {
+    pub tag: usize,
+    pub left: usize,
+    pub from: usize,
 }
 
 pub enum Turned {
@@ -66,6 +72,26 @@ fn push(
     tags[top] = tag;
     lefts[top] = left;
     froms[top] = from;
+}
+
+// The open node at the top of the stack.
+fn peek(tags: &[usize; 2048], lefts: &[usize; 2048], froms: &[usize; 2048], top: usize) -> OpenNode
+    requires { ⌜ top < 2048 ⌝ }
+    ensures { λ r. ⌜ (r .tag ≡ getD (now (tags .entry)) top 0) × (r .left ≡ getD (now (lefts .entry)) top 0) × (r .from ≡ getD (now (froms .entry)) top 0) ⌝ }
+{
+    OpenNode {
+        tag: tags[top],
+        left: lefts[top],
+        from: froms[top],
+    }
+}
+
+// One operand of the node at the top is no longer to come.
+fn take_operand(lefts: &mut [usize; 2048], top: usize)
+    requires { ⌜ (top < 2048) × (0 < getD (now lefts) top 0) ⌝ }
+    ensures { λ r. ⌜ now (lefts .exit) ≡ set (now (lefts .entry)) top (getD (now (lefts .entry)) top 0 - 1) ⌝ }
+{
+    lefts[top] = lefts[top] - 1;
 }
 
 // The type that stands at p of the frame, into the buffer at `end`; a longer one than the limit is no type of a node.
@@ -182,11 +208,11 @@ fn one_turn(
     ensures { λ r. ⌜ TurnPost (now (tags .entry)) (now (lefts .entry)) (now (froms .entry)) (now (s .entry)) (now (leaves .entry)) (now (types .entry)) state (now (tags .exit)) (now (lefts .exit)) (now (froms .exit)) (now (types .exit)) r ⌝ }
 {
     let top = state.top;
-    let left = lefts[top];
-    if left == 0 {
-        return close_top(tags[top], froms[top], types, state);
+    let open = peek(tags, lefts, froms, top);
+    if open.left == 0 {
+        return close_top(open.tag, open.from, types, state);
     }
-    lefts[top] = left - 1;
+    take_operand(lefts, top);
     let at = state.at;
     let place = state.place;
     let leaf = wide16(leaves[place]);

@@ -22,8 +22,8 @@ rule-of-requires : tie.Need-rule-of-requires
 rule-of-requires c κs = search needs
 
 -- src/patterns.rt:210:15
-mul-row : tie.Need-mul-row
-mul-row c = search needs
+mul-r : tie.Need-mul-r
+mul-r c = search needs
 
 -- src/patterns.rt:214:9
 slice-aggregate-match-pairs : tie.Need-slice-aggregate-match-pairs
@@ -194,7 +194,7 @@ judge-types-spec =
     tie.close
     (tie.spec
     rule-of-requires
-    mul-row
+    mul-r
     slice-aggregate-match-pairs
     array-read-wide
     wide-requires
