@@ -1,24 +1,23 @@
 -- Number 8: the ways out of bind_node, bind_kids and binding_ok.
--- Main results: leaves-same (only the entries of a tree's own places matter); enter-plain, enter-binding; node-leaf,
--- node-kids; kids-over, kids-no, kids-yes; frame-refused, frame-bound.
+-- Main results: enter-plain, enter-binding; node-leaf, node-kids; kids-over, kids-no, kids-yes; frame-refused, frame-bound.
 use mathlib.Core.Path.{_≡_, refl, sym, ap, ap₂, _∙_, subst}
 use mathlib.Core.Logic.{_⊎_, inl, inr}
-use mathlib.Core.Bool.{Bool, true, false, _&&_, _||_}
-use mathlib.Core.List.{List, [], _∷_}
-use Prim.Native.Nat.{ℕ, zero, suc, _+_, _-_, _≤_, _<_}
+use mathlib.Core.Bool.{Bool, true, false, _&&_}
+use mathlib.Core.List.{List, []}
+use Prim.Native.Nat.{ℕ, suc, _+_, _-_, _≤_, _<_}
 use native.Mathlib.Omega.{arith}
 use lib.ListN.{length, getD, set, length-set, replicate, length-replicate}
 use lib.Seq.{getD-set-same, getD-set-other}
 use lib.Dec.{eqb, ltb}
-use borrow.Author.Tests.{eqb-true, ltb-true, ltb-false, lt-ltb, le-ltb, ne-eqb, eq-eqb}
+use borrow.Author.Tests.{ltb-true, ltb-false, lt-ltb, le-ltb, ne-eqb, eq-eqb}
 use Rattle.frame.specs.Types.{Ty}
-use Rattle.frame.specs.Trees.{Head, head, Tree, node, Forest, nil, cons, count, nodes, nodesIn}
-use Rattle.frame.specs.Tags.{pick, Sort, predicate, Layout, these, payload, counted, binding, Form, formOf, formAt, classOf, lookup, typesOf, bindersOf, sortsOf}
-use Rattle.frame.specs.TagCodes.{sortFor, kindsFor, layoutKind, formCode, formAtCode}
-use Rattle.frame.specs.Encoding.{encTy, encTys, enc, encs}
-use Rattle.frame.specs.Reading.{readHead, readMany, frameLimit}
-use Rattle.frame.specs.Places.{Ctx, push, under}
-use Rattle.frame.specs.WellFormed.{TysWf, HeadWf}
+use Rattle.frame.specs.Trees.{head, Tree, node, Forest, nil, cons, count, nodes, nodesIn}
+use Rattle.frame.specs.Tags.{pick, Sort, predicate, formOf, formAt, classOf, lookup, sortsOf}
+use Rattle.frame.specs.TagCodes.{sortFor, kindsFor}
+use Rattle.frame.specs.Encoding.{encTys}
+use Rattle.frame.specs.Reading.{readHead, frameLimit}
+use Rattle.frame.specs.Places.{Ctx, under}
+use Rattle.frame.specs.WellFormed.{HeadWf}
 use Rattle.frame.specs.Spans.{Bytes, Spans}
 use Rattle.frame.specs.At.{IsAt, KidsAt}
 use Rattle.frame.specs.Post.{headAnswer}
@@ -26,90 +25,17 @@ use Rattle.frame.specs.declared.reading.HeadAnswer.{HeadAnswer}
 use Rattle.frame.specs.declared.reading.HeadAnswer.the-variants as H
 use Rattle.frame.proofs.Inversion.{true-not}
 use Rattle.frame.proofs.Extents.{nodes-enc}
-use Rattle.frame.proofs.TagTables.{allBelow, below, beyond, code-form}
-use Rattle.frame.proofs.View.{at-span, at-end, kids-end, KidsView, kids-none, kids-some, HeadOf, View, view, no-view}
+use Rattle.frame.proofs.TagTables.{below}
+use Rattle.frame.proofs.View.{at-span, at-end, KidsView, kids-none, kids-some, View, view, no-view}
 use Rattle.typing.specs.Typing.{typeAt}
-use Rattle.typing.specs.Binding.{boundTag, indexBound, closedTree, closedForest}
+use Rattle.typing.specs.Binding.{boundTag, closedTree, closedForest}
 use Rattle.typing.specs.Leaves.{LeavesAt, LeavesIn}
 use Rattle.typing.specs.Bound.{Opened, Below, Outside, Ready, OpenPost, EnterPost, LeafPost, boundAnswer, Walked, BoundPost, BoundKids, BindingPost}
 use Rattle.typing.specs.declared.binding.Bound.{Bound}
 use Rattle.typing.specs.declared.binding.Bound.the-variants.{Ends, Refused}
 use Rattle.typing.proofs.OpenBinders.{TyAt, opened-length, opened-at, opened-below}
 use Rattle.typing.proofs.NotingTypes.{tys-long}
-
--- ---- the table's entries at other places play no part
-leaf-same : (s : List ℕ) (b : Bool) (x y : ℕ) (t : Ty) → x ≡ y → pick {X = Type 0} b (TyAt s x t) (Unit {0}) → pick {X = Type 0} b (TyAt s y t) (Unit {0})
-leaf-same s b x y t e a = subst (λ (i : ℕ). pick {X = Type 0} b (TyAt s i t) (Unit {0})) e a
-
-mutual
-  unfolding LeavesAt nodes
-
-  pub leaves-same : (t : Tree) (Γ : Ctx) (k : ℕ) (s l m : List ℕ) (j : ℕ) → k + nodes t ≤ j → Below j l m → LeavesAt t Γ k s l → LeavesAt t Γ k s m
-  leaves-same (node (head g n us) ks) Γ k s l m j le h a =
-      (leaf-same s (eqb g boundTag) (getD l k 0) (getD m k 0) (typeAt Γ n) (sym (h k (omega arith))) (a .0), leaves-same-in ks (under g us Γ) (suc k) s l m j (omega arith) h (a .1))
-
-  pub leaves-same-in : (ts : Forest) (Γ : Ctx) (k : ℕ) (s l m : List ℕ) (j : ℕ) → k + nodesIn ts ≤ j → Below j l m → LeavesIn ts Γ k s l → LeavesIn ts Γ k s m
-  leaves-same-in nil Γ k s l m j le h a = tt
-  leaves-same-in (cons t ts) Γ k s l m j le h a =
-      (leaves-same t Γ k s l m j (omega arith) h (a .0), leaves-same-in ts Γ (k + nodes t) s l m j (omega arith) h (a .1))
-
--- ---- which tags have binders
-plain-tags : allBelow 801 (λ k. ltb (layoutKind (formOf k .layout)) 3) ≡ true
-unfolding lookup classOf formAt
-plain-tags = refl
-
-binding-tags : allBelow 902 (λ k. ltb k 801 || (eqb (layoutKind (formOf k .layout)) 3 || eqb (formOf k .carried) 0)) ≡ true
-unfolding lookup classOf formAt
-binding-tags = refl
-
-no-binders : (l : Layout) (us : List Ty) → layoutKind l < 3 → bindersOf l us ≡ []
-no-binders (these es) us h = refl
-no-binders (payload w) us h = refl
-no-binders (counted lo hi e) us h = refl
-no-binders (binding lo hi es) us h = absurd (omega arith)
-
-pub under-plain : (g : ℕ) (us : List Ty) (Γ : Ctx) → g < 801 → Γ ≡ under g us Γ
-under-plain g us Γ l =
-    let h = ltb-true (layoutKind (formOf g .layout)) 3 (below 801 (λ k. ltb (layoutKind (formOf k .layout)) 3) plain-tags g l) in
-    ap (λ (ts : List Ty). push ts Γ) (sym (no-binders (formOf g .layout) us h))
-
--- from 801 on a tag has binders, or no types at all
-all-bound : (l : Layout) (c x : ℕ) (us : List Ty) → (layoutKind l ≡ 3) ⊎ (c ≡ 0) → length us ≡ typesOf l c x → us ≡ bindersOf l us
-all-bound (binding lo hi es) c x us k e = refl
-all-bound (these es) c x us (inl k) e = absurd (omega arith)
-all-bound (payload w) c x us (inl k) e = absurd (omega arith)
-all-bound (counted lo hi d) c x us (inl k) e = absurd (omega arith)
-all-bound (these es) c x [] (inr k) e = refl
-all-bound (these es) c x (u ∷ us) (inr k) e = absurd (omega arith)
-all-bound (payload w) c x [] (inr k) e = refl
-all-bound (payload w) c x (u ∷ us) (inr k) e = absurd (omega arith)
-all-bound (counted lo hi d) c x [] (inr k) e = refl
-all-bound (counted lo hi d) c x (u ∷ us) (inr k) e = absurd (omega arith)
-
-or-either : (a b c : Bool) → (a || (b || c)) ≡ true → a ≡ false → (b ≡ true) ⊎ (c ≡ true)
-or-either true b c h e = true-not (sym e)
-or-either false true c h e = inl refl
-or-either false false c h e = inr h
-
-unlisted-none : (g : ℕ) → 901 < g → formOf g .carried ≡ 0
-unfolding formAtCode
-unlisted-none g l =
-    let f : formAtCode 0 ≡ formOf g = code-form g 0 (sym (beyond g l)) in
-    sym (ap (λ (fm : Form). fm .carried) f)
-
-high-form : (g : ℕ) → 801 ≤ g → (layoutKind (formOf g .layout) ≡ 3) ⊎ (formOf g .carried ≡ 0)
-high-form g h = go (ltb g 902) refl
-  where
-    go : (b : Bool) → ltb g 902 ≡ b → (layoutKind (formOf g .layout) ≡ 3) ⊎ (formOf g .carried ≡ 0)
-    go true e = on (or-either (ltb g 801) (eqb (layoutKind (formOf g .layout)) 3) (eqb (formOf g .carried) 0) (below 902 (λ k. ltb k 801 || (eqb (layoutKind (formOf k .layout)) 3 || eqb (formOf k .carried) 0)) binding-tags g (ltb-true g 902 e)) (le-ltb g 801 h))
-      where
-        on : (eqb (layoutKind (formOf g .layout)) 3 ≡ true) ⊎ (eqb (formOf g .carried) 0 ≡ true) → (layoutKind (formOf g .layout) ≡ 3) ⊎ (formOf g .carried ≡ 0)
-        on (inl x) = inl (eqb-true (layoutKind (formOf g .layout)) 3 x)
-        on (inr x) = inr (eqb-true (formOf g .carried) 0 x)
-    go false e = inr (unlisted-none g (ltb-false g 902 e))
-
-pub under-binding : (e : Sort) (g n : ℕ) (us : List Ty) (k : ℕ) (Γ : Ctx) → 801 ≤ g → HeadWf e g n us k → push us Γ ≡ under g us Γ
-under-binding e g n us k Γ h w = ap (λ (ts : List Ty). push ts Γ) (all-bound (formOf g .layout) (formOf g .carried) _ us (high-form g h) (w .many))
+use Rattle.typing.proofs.BinderTags.{leaves-same, under-plain, under-binding}
 
 -- ---- enter
 module _ (s : List ℕ) (g tp p depth : ℕ) (b : List ℕ) where

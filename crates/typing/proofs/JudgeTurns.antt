@@ -24,7 +24,7 @@ use Rattle.typing.specs.declared.patterns.Pairs.{Pairs}
 use Rattle.typing.specs.declared.patterns.Pairs.the-variants as P
 use Rattle.typing.specs.declared.patterns.Filled.{Filled}
 use Rattle.typing.specs.declared.patterns.Filled.the-variants as L
-use Rattle.typing.proofs.RuleTables.{rows, patterns, row-rule}
+use Rattle.typing.proofs.TagRules.{rows, patterns, row-rule}
 use Rattle.typing.proofs.BufferLaws.{copied-span, apart-down}
 use Rattle.typing.proofs.PairTurns.{env-empty}
 

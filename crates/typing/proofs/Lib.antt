@@ -7,11 +7,14 @@ pub mod Noting
 pub mod NotingTypes
 pub mod NotingNodes
 pub mod OpenBinders
+pub mod BinderTags
 pub mod BoundWalk
 pub mod Decides
 pub mod Checked
 pub mod Matching
+pub mod RuleShapes
 pub mod PatternRules
+pub mod TagRules
 pub mod RuleTables
 pub mod NodeRules
 pub mod Machine
@@ -21,6 +24,7 @@ pub mod FillTurns
 pub mod JudgeTurns
 pub mod OwnTurns
 pub mod OpenTurns
+pub mod StackBelow
 pub mod StackTurns
 pub mod TreeTurns
 pub mod BufferLaws

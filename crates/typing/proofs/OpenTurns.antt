@@ -36,7 +36,8 @@ use Rattle.typing.specs.declared.patterns.Typed.{Typed}
 use Rattle.typing.specs.declared.patterns.Typed.the-variants as T
 use Rattle.typing.specs.declared.typing.Opened.{Opened}
 use Rattle.typing.specs.declared.typing.Opened.the-variants as O
-use Rattle.typing.proofs.RuleTables.{unlisted-past, carried-own, bound-own}
+use Rattle.typing.proofs.TagRules.{unlisted-past}
+use Rattle.typing.proofs.RuleTables.{carried-own, bound-own}
 use Rattle.typing.proofs.OwnTurns.{type-wf}
 
 -- ---- the classes that have a type by themselves

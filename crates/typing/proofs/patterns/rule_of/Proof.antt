@@ -1,5 +1,5 @@
 use native.Mathlib.Omega.{arith}
-use Rattle.typing.proofs.RuleTables.{rule-past, rule-none, rule-place, rule-some}
+use Rattle.typing.proofs.TagRules.{rule-past, rule-none, rule-place, rule-some}
 use borrow.Author.Needs.{needs}
 use Rattle.typing.proofs.patterns.rule_of.Statement.{statement}
 use Rattle.typing.proofs.patterns.rule_of.Tie as tie
