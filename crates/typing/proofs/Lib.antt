@@ -13,6 +13,8 @@ pub mod Decides
 pub mod Checked
 pub mod Matching
 pub mod RuleShapes
+pub mod ClassShapes
+pub mod PairClasses
 pub mod PatternRules
 pub mod TagRules
 pub mod RuleTables

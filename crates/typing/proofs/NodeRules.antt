@@ -15,7 +15,8 @@ use Rattle.frame.specs.Sameness.{sameTy, sameTys}
 use Rattle.typing.specs.Typing.{wants, result, shape, carriedTy, nodeTyped}
 use Rattle.typing.specs.Patterns.{ruleAt, ownTypes, Judged, typed, wrong, limited, judge}
 use Rattle.typing.specs.Machine.{Operands}
-use Rattle.typing.proofs.PatternRules.{shapeFor, class-judged}
+use Rattle.typing.proofs.ClassShapes.{shapeFor}
+use Rattle.typing.proofs.PatternRules.{class-judged}
 use Rattle.typing.proofs.RuleTables.{shape-class}
 
 three : (a b c : Bool) (x : Judged) → pick a (pick b (pick c x wrong) wrong) wrong ≡ pick (a && (b && c)) x wrong

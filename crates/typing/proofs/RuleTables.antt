@@ -14,7 +14,7 @@ use Rattle.frame.proofs.TagTables.{allBelow, below}
 use Rattle.typing.specs.Typing.{carriedTy, typeAt, shape, element, source, first, second, relation}
 use Rattle.typing.specs.Patterns.{ownTypes}
 use Rattle.typing.specs.RuleNumbers.{ruleNumber}
-use Rattle.typing.proofs.PatternRules.{shapeFor}
+use Rattle.typing.proofs.ClassShapes.{shapeFor}
 use Rattle.typing.proofs.TagRules.{unlisted-past}
 
 -- ---- which nodes carry a type
