@@ -35,7 +35,7 @@ At t Θ [] (cons w ks) = ⊥
 At t Θ (p ∷ ps) nil = ⊥
 At t Θ (p ∷ ps) (cons w ks) = (find t [] p ≡ found Θ w) × At t Θ ps ks
 
--- the places whose right sides take a node's binders, and the nodes that have some
+-- the places whose right sides take a node's binders, and the nodes that have some, around a child
 abbrev pub takesBinders : ℕ → Bool
 takesBinders p = eqb p 11 || (eqb p 35 || (eqb p 59 || (eqb p 85 || (eqb p 86 || eqb p 87))))
 
@@ -43,7 +43,8 @@ abbrev pub hasBinders : Layout → Bool
 hasBinders (these es) = false
 hasBinders (payload w) = false
 hasBinders (counted lo hi e) = false
-hasBinders (binding lo hi es) = true
+hasBinders (binding lo hi []) = false
+hasBinders (binding lo hi (e ∷ es)) = true
 
 -- the pattern is one of the templates, and a node of tag g has the binders that it takes
 abbrev pub Bound : ℕ → ℕ → Type 0

@@ -1,0 +1,1 @@
+// Subtrees of the frame, one after the other.
