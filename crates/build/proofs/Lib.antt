@@ -1,3 +1,4 @@
 pub mod Subtrees
 pub mod Types
 pub mod Fills
+pub mod RowTurns

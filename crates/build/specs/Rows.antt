@@ -63,6 +63,7 @@ pub record KeptPre (s : List ℕ) (n : ℕ) (st nx kept : List ℕ) (i m : ℕ) 
   pub ks : Forest
   pub listed : At t Γ (take (m - i) (drop i kept)) ks
   pub few : m ≤ 256
+  pub long : length kept ≡ 256
 
 pub record KeptPost (s : List ℕ) (n : ℕ) (st nx kept : List ℕ) (i m : ℕ) (o : List ℕ) (at : ℕ) (p : List ℕ) (r : ℕ) : Type 0 where
   pub puts : (t : Tree) (Γ : Ctx) (ks : Forest) → Table s t st nx n → At t Γ (take (m - i) (drop i kept)) ks → Puts o at p r (encs ks)
