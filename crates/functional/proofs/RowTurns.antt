@@ -172,32 +172,32 @@ in-one v Γ i Ξ w = go (ltb i (nodes v))
 one-row : (t : Tree) (k : ℕ) (Γ : Ctx) (v : Tree) → find t [] k ≡ found Γ v → InRow t Γ k (cons v nil)
 one-row t k Γ v f i Ξ w e = find-within i Γ Ξ v w (in-one v Γ i Ξ w e) t [] k f
 
+-- ---- the two masks
+check-below : (v w : Tree) (n : ℕ) → functionalCheck v w n ≡ allBelow n (λ i. not (uses w i) || recovers v i)
+unfolding functionalCheck
+check-below v w zero = refl
+check-below v w (suc n) = ap (λ (b : Bool). (not (uses w n) || recovers v n) && b) (check-below v w n)
+
+-- the two masks say what the check says
+module _ (n u v : ℕ) (f h : ℕ → Bool) (used : (i : ℕ) → bit u i ≡ (ltb i n && (f (i + 0) || false))) (back : (i : ℕ) → bit v i ≡ (ltb i n && (h (i + 0) || false))) where
+  at-zero : (i : ℕ) → i + 0 ≡ i
+  at-zero i = omega arith
+
+  same-there : (i : ℕ) → i < n → (not (bit u i) || bit v i) ≡ (not (f i) || h i)
+  same-there i l = rw (used i, back i, lt-ltb i n l, or-false (f (i + 0)), or-false (h (i + 0)), at-zero i) refl
+
+  more-there : (i : ℕ) → n ≤ i → (not (bit u i) || bit v i) ≡ true
+  more-there i l = rw (used i, le-ltb i n l) refl
+
+  masks-say : n ≤ 32 → u < 4294967296 → v < 4294967296 → eqb (bitAnd u (4294967295 - v)) 0 ≡ allBelow n (λ i. not (f i) || h i)
+  masks-say few hu hv = covered 32 u v hu hv ∙ below-more _ _ n same-there more-there 32 few
+
 module _ (s st nx : List ℕ) (left right : ℕ) where
   pub row-right : Both s st nx left right → Row s st nx right 1
   row-right h = record { t = h .t; N = h .N; table = h .table; Γ = h .Γ; ks = cons (h .w) nil; kids = one-row (h .t) right (h .Γ) (h .w) (h .at-right); many = refl }
 
   pub row-left : Both s st nx left right → Row s st nx left 1
   row-left h = record { t = h .t; N = h .N; table = h .table; Γ = h .Γ; ks = cons (h .v) nil; kids = one-row (h .t) left (h .Γ) (h .v) (h .at-left); many = refl }
-
-  -- ---- the two masks
-  check-below : (v w : Tree) (n : ℕ) → functionalCheck v w n ≡ allBelow n (λ i. not (uses w i) || recovers v i)
-  unfolding functionalCheck
-  check-below v w zero = refl
-  check-below v w (suc n) = ap (λ (b : Bool). (not (uses w n) || recovers v n) && b) (check-below v w n)
-
-  -- the two masks say what the check says
-  module _ (n u v : ℕ) (f h : ℕ → Bool) (used : (i : ℕ) → bit u i ≡ (ltb i n && (f (i + 0) || false))) (back : (i : ℕ) → bit v i ≡ (ltb i n && (h (i + 0) || false))) where
-    at-zero : (i : ℕ) → i + 0 ≡ i
-    at-zero i = omega arith
-
-    same-there : (i : ℕ) → i < n → (not (bit u i) || bit v i) ≡ (not (f i) || h i)
-    same-there i l = rw (used i, back i, lt-ltb i n l, or-false (f (i + 0)), or-false (h (i + 0)), at-zero i) refl
-
-    more-there : (i : ℕ) → n ≤ i → (not (bit u i) || bit v i) ≡ true
-    more-there i l = rw (used i, le-ltb i n l) refl
-
-    masks-say : n ≤ 32 → u < 4294967296 → v < 4294967296 → eqb (bitAnd u (4294967295 - v)) 0 ≡ allBelow n (λ i. not (f i) || h i)
-    masks-say few hu hv = covered 32 u v hu hv ∙ below-more _ _ n same-there more-there 32 few
 
   module _ (n u v : ℕ) (pu : NamedPost s st nx right 1 0 n true u) (pv : NamedPost s st nx left 1 0 n false v) where
     pub check-done : n ≤ 32 → u < 4294967296 → v < 4294967296 → FunctionalPost s st nx left right n (eqb (bitAnd u (4294967295 - v)) 0)

@@ -1,5 +1,6 @@
 -- The ways out of the functions of src/places.rt, on plain values.
--- Main results: numbers (the tag and the number behind it, of a tree that stands somewhere); tag-there, arity-room, arity-read (the tag and the number of children of the tree that stands somewhere);
+-- Main results: numbers, tag-there, arity-room, arity-read (the tag, the number behind it and the number of children of the
+-- tree that stands somewhere);
 -- hop-here, hop-more, hop-none; fill-start, fill-root, fill-hops, fill-turn, fill-done; placed-root, tag-done, children-done;
 -- end-place, end-few, end-inside, end-last.
 use mathlib.Core.Path.{_≡_, refl, sym, ap, ap₂, _∙_, subst}

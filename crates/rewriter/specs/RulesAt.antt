@@ -5,12 +5,12 @@ use lib.Dec.{eqb}
 use Rattle.frame.specs.Trees.{head, Tree, node, Forest, nil, cons, leaf, two}
 use Rattle.frame.specs.Sameness.{sameTree}
 use Rattle.frame.specs.Tags.{pick}
-use Rattle.frame.specs.Operators.{#Equal, #BInter, #CSet, #Not, #Partition, #Forall, #Exists, #BTrue, #BFalse, #LAnd}
+use Rattle.frame.specs.Operators.{#Equal, #BInter, #Not, #Partition, #Forall, #Exists, #BTrue, #BFalse, #LAnd}
 use Rattle.frame.specs.Places.{Ctx}
 use Rattle.rules.specs.Change.{Change, to, same, _orElse_, when, isTag, onTag, with1, unary, quantifier, contains}
 use Rattle.rules.specs.Simplify.{makeNeg, simplifyNot, simplifyForall, simplifyExists}
 use Rattle.rules.specs.Negation.{rewriteNotInner, rewritePartition}
-use Rattle.rules.specs.Finite.{finite, isProjection, rewriteFinite}
+use Rattle.rules.specs.Finite.{finite, isProjection}
 use Rattle.rules.specs.EqualsEmptySet.{rewriteEqualsEmptySet}
 
 -- ¬ a: logic, then negation
@@ -24,10 +24,6 @@ unequal a b = rewriteNotInner (two #Equal a b)
 -- a set equated to ∅, unless it is an intersection
 abbrev pub emptyButInter : Ctx → Tree → Change
 emptyButInter Γ e = pick (isTag #BInter e) same (rewriteEqualsEmptySet Γ e)
-
--- finite(S), unless S is a comprehension set
-abbrev pub finiteButSet : Ctx → Tree → Change
-finiteButSet Γ e = pick (isTag #CSet e) same (rewriteFinite Γ e)
 
 -- finite(a ◁ b)
 abbrev pub finiteRestricted : Tree → Tree → Change
