@@ -9,13 +9,7 @@ use Rattle.frame.specs.Places.{Ctx}
 use Rattle.frame.specs.Sameness.{sameTree}
 use Rattle.rules.specs.Change.{Change, to, same, _orElse_, when, isTag}
 use Rattle.rules.specs.Simplify.{makeNeg, simplifyImp}
-<<<<<<< HEAD
-use Rattle.rules.specs.Finite.{rewriteFinite}
-use Rattle.rewriter.specs.RulesAt.{finiteButSet, impFirst, impAnd, impLast}
-=======
-use Rattle.rules.specs.EqualsEmptySet.{rewriteEqualsEmptySet}
-use Rattle.rewriter.specs.RulesAt.{emptyButInter, impFirst, impAnd, impLast}
->>>>>>> 95eb56e6858b669aa624554aa9cf768241f34755
+use Rattle.rewriter.specs.RulesAt.{impFirst, impAnd, impLast}
 
 pub or-assoc : (x y z : Change) → (x orElse y) orElse z ≡ x orElse (y orElse z)
 or-assoc (to p u) y z = refl
@@ -35,13 +29,3 @@ imp-parts v w =
     ∙ ap (λ (q : Change). a orElse q)
     (or-assoc b (c orElse (d orElse e)) x
     ∙ ap (λ (q : Change). b orElse q) (or-assoc c (d orElse e) x ∙ ap (λ (q : Change). c orElse q) (or-assoc d e x))))
-
-<<<<<<< HEAD
--- finite, apart from comprehension sets
-pub but-set : (Γ : Ctx) (e : Tree) → (tagOf e ≡ 803 → ⊥) → finiteButSet Γ e ≡ rewriteFinite Γ e
-but-set Γ e h = rw (ne-eqb (tagOf e) 803 h)
-=======
--- = ∅, apart from ∩
-pub but-inter : (Γ : Ctx) (e : Tree) → (tagOf e ≡ 302 → ⊥) → emptyButInter Γ e ≡ rewriteEqualsEmptySet Γ e
-but-inter Γ e h = rw (ne-eqb (tagOf e) 302 h)
->>>>>>> 95eb56e6858b669aa624554aa9cf768241f34755

@@ -6,21 +6,12 @@ use lib.Dec.{eqb}
 use Rattle.frame.specs.Trees.{head, Tree, node, Forest, nil, cons, leaf, two}
 use Rattle.frame.specs.Sameness.{sameTree}
 use Rattle.frame.specs.Tags.{pick}
-<<<<<<< HEAD
-use Rattle.frame.specs.Operators.{#Equal, #SRel, #STRel, #SetMinus, #CProd, #DProd, #PProd, #DomRes, #DomSub, #RanRes, #RanSub, #UpTo, #RelImage, #BInter, #BComp, #FComp, #QUnion, #CSet, #Not, #Partition, #Forall, #Exists, #BTrue, #BFalse, #LAnd}
-=======
-use Rattle.frame.specs.Operators.{#Equal, #BInter, #Not, #Partition, #Forall, #Exists, #BTrue, #BFalse, #LAnd}
->>>>>>> 95eb56e6858b669aa624554aa9cf768241f34755
+use Rattle.frame.specs.Operators.{#Equal, #SRel, #STRel, #SetMinus, #CProd, #DProd, #PProd, #DomRes, #DomSub, #RanRes, #RanSub, #UpTo, #RelImage, #BInter, #BComp, #FComp, #QUnion, #Not, #Partition, #Forall, #Exists, #BTrue, #BFalse, #LAnd}
 use Rattle.frame.specs.Places.{Ctx}
 use Rattle.rules.specs.Change.{Change, to, same, _orElse_, when, isTag, onTag, with1, unary, quantifier, contains}
 use Rattle.rules.specs.Simplify.{makeNeg, simplifyNot, simplifyForall, simplifyExists}
 use Rattle.rules.specs.Negation.{rewriteNotInner, rewritePartition}
-<<<<<<< HEAD
-use Rattle.rules.specs.Finite.{finite, isProjection, rewriteFinite}
-=======
 use Rattle.rules.specs.Finite.{finite, isProjection}
-use Rattle.rules.specs.EqualsEmptySet.{rewriteEqualsEmptySet}
->>>>>>> 95eb56e6858b669aa624554aa9cf768241f34755
 
 -- ¬ a: logic, then negation
 abbrev pub negationOf : Ctx → Tree → Change
