@@ -4,3 +4,4 @@ pub mod Fills
 pub mod RowTurns
 pub mod SubtreeTurns
 pub mod InterSubtrees
+pub mod DecisionTurns

@@ -1,3 +1,4 @@
+use Rattle.build.proofs.DecisionTurns.{build-rests, fixed-asked, fixed-answered, each-asked, each-answered, kept-asked, kept-answered, apart-asked, apart-answered, within-asked, within-answered}
 use borrow.Author.Needs.{needs}
 use Rattle.build.proofs.subtree.build.Statement.{statement}
 use Rattle.build.proofs.subtree.build.Tie as tie
@@ -19,7 +20,7 @@ enum-known-d c = search needs
 
 -- src/subtree.rt:234:14
 fill-requires : tie.Need-fill-requires
-fill-requires c κs = ?
+fill-requires c κs = fixed-asked _ _ _ _ _ _ _ _ _ _ _ _ _ (c .before .before .d .given .1) (c .before .before .before .before .before .pre)
 
 -- src/subtree.rt:248:13
 enum-known-d-2 : tie.Need-enum-known-d-2
@@ -27,7 +28,7 @@ enum-known-d-2 c = search needs
 
 -- src/subtree.rt:251:14
 build-each-requires : tie.Need-build-each-requires
-build-each-requires c κs = ?
+build-each-requires c κs = each-asked _ _ _ _ _ _ _ _ _ _ _ (c .before .before .d2 .given .1) (c .before .before .before .before .before .pre)
 
 -- src/subtree.rt:263:24
 enum-known-d-3 : tie.Need-enum-known-d-3
@@ -35,7 +36,7 @@ enum-known-d-3 c = search needs
 
 -- src/subtree.rt:263:30
 build-kept-requires : tie.Need-build-kept-requires
-build-kept-requires c κs = ?
+build-kept-requires c κs = kept-asked _ _ _ _ _ _ _ _ _ (c .before .before .d3 .given .1) (c .before .before .before .before .before .pre)
 
 -- src/subtree.rt:264:27
 enum-known-d-4 : tie.Need-enum-known-d-4
@@ -43,7 +44,7 @@ enum-known-d-4 c = search needs
 
 -- src/subtree.rt:265:13
 build-apart-requires : tie.Need-build-apart-requires
-build-apart-requires c κs = ?
+build-apart-requires c κs = apart-asked _ _ _ _ _ _ _ _ _ _ (c .before .before .d4 .given .1) (c .before .before .before .before .before .pre)
 
 -- src/subtree.rt:267:26
 enum-known-d-5 : tie.Need-enum-known-d-5
@@ -51,31 +52,31 @@ enum-known-d-5 c = search needs
 
 -- src/subtree.rt:267:35
 build-within-requires : tie.Need-build-within-requires
-build-within-requires c κs = ?
+build-within-requires c κs = within-asked _ _ _ _ _ _ _ _ _ (c .before .before .d5 .given .1) (c .before .before .before .before .before .pre)
 
 -- src/subtree.rt:211:1
 returns : tie.Need-returns
-returns c = ?
+returns c = build-rests _ _ _ _ _ _ _ _ (c .enum-told .given .1) _ _
 
 -- src/subtree.rt:211:1
 returns-2 : tie.Need-returns-2
-returns-2 c = ?
+returns-2 c = fixed-answered _ _ _ _ _ _ _ _ _ _ _ _ _ (c .before .before .before .d .given .1) _ _ _ _ (c .fill .ensures)
 
 -- src/subtree.rt:211:1
 returns-3 : tie.Need-returns-3
-returns-3 c = ?
+returns-3 c = each-answered _ _ _ _ _ _ _ _ _ _ _ (c .before .before .before .d2 .given .1) _ _ _ _ (c .build-each .ensures)
 
 -- src/subtree.rt:211:1
 returns-4 : tie.Need-returns-4
-returns-4 c = ?
+returns-4 c = kept-answered _ _ _ _ _ _ _ _ _ (c .before .before .before .d3 .given .1) _ _ _ _ (c .build-kept .ensures)
 
 -- src/subtree.rt:211:1
 returns-5 : tie.Need-returns-5
-returns-5 c = ?
+returns-5 c = apart-answered _ _ _ _ _ _ _ _ _ _ (c .before .before .before .d4 .given .1) _ _ _ _ (c .build-apart .ensures)
 
 -- src/subtree.rt:211:1
 returns-6 : tie.Need-returns-6
-returns-6 c = ?
+returns-6 c = within-answered _ _ _ _ _ _ _ _ _ (c .before .before .before .d5 .given .1) _ _ _ _ (c .build-within .ensures)
 
 pub build-spec : {M : Type 1} → statement M
 build-spec =

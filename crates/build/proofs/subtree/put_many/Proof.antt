@@ -1,3 +1,5 @@
+use Rattle.build.proofs.SubtreeTurns.{many-byte}
+use native.Mathlib.Omega.{arith}
 use borrow.Author.Needs.{needs}
 use Rattle.build.proofs.subtree.put_many.Statement.{statement}
 use Rattle.build.proofs.subtree.put_many.Tie as tie
@@ -20,7 +22,7 @@ put-byte-requires c κs = search needs
 
 -- src/subtree.rt:80:1
 returns : tie.Need-returns
-returns c = ?
+returns c = many-byte _ _ _ _ _ _ (c .before .before .put-word .ensures) _ _ _ (omega arith) (c .put-byte .ensures)
 
 pub put-many-spec : {M : Type 1} → statement M
 put-many-spec = tie.close (tie.spec put-word-requires cast-put-byte put-byte-requires returns)
