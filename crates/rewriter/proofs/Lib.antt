@@ -15,3 +15,6 @@ pub mod RowTurns
 pub mod AndTurns
 pub mod Bridges
 pub mod Series
+pub mod OwnTypes
+pub mod Descents
+pub mod OwnTurns

@@ -234,7 +234,7 @@ pub some-two : (g : ℕ) → Counts g → (n : ℕ) (us : List Ty) (ks : Forest)
 some-two g h n us ks (e, w) =
     leb-true 2 (count ks) (both-true (leb 2 (count ks)) (leb (count ks) 255) (sym (h n us (count ks)) ∙ w .0 .range) .0)
 
-sorted-is : (v w : Tree) → v ≡ w → Sorted v → Sorted w
+pub sorted-is : (v w : Tree) → v ≡ w → Sorted v → Sorted w
 sorted-is v w z o = rw z at o
 
 module _ (rule : Ctx → Tree → Change) (s st nx : List ℕ) (k tag : ℕ) (pt : TagPost s st k tag) (g : ℕ) (key : tag ≡ g) (place : ℕ) where

@@ -3,3 +3,4 @@ pub mod Decides
 pub mod RulesAt
 pub mod Junction
 pub mod Inter
+pub mod OwnType

@@ -9,3 +9,4 @@ pub mod quantified; // quantified.rt: quantifiers, and partitions
 pub mod junction; // junction.rt: ∧ and ∨
 pub mod inter; // inter.rt: ∩ = ∅
 pub mod contains; // contains.rt: a tree among others
+pub mod own_type; // own_type.rt: an expression that is a type
