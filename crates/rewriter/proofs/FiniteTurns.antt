@@ -23,69 +23,69 @@ use Rattle.rewriter.specs.Decides.{Here, HereTwo, Decides, DecidesTwo}
 use Rattle.rewriter.specs.RulesAt.{finiteButSet, finiteRestricted}
 use Rattle.rewriter.specs.declared.decision.Decision.{Decision}
 use Rattle.rewriter.specs.declared.decision.Decision.the-variants as D
-use Rattle.rewriter.proofs.Shapes.{fixed-at, by-rest, by-node, by-single, by-double, by-each, joins-and, or-same, two-here, by-two}
+use Rattle.rewriter.proofs.Shapes.{fixed-at, unbound, by-rest, by-node, by-single, by-double, by-each, joins-and, or-same, two-here, by-two}
 
 module _ (s st nx : List ℕ) (k tag : ℕ) (pt : TagPost s st k tag) where
   pub finite-1 : tag ≡ 407 → (r : Decision) → r ≡ D.Fixed 1 1 k k k → Decides finiteButSet s st nx k r
   unfolding onTag lookup classOf formAt typeOf rewriteFinite
-  finite-1 key = by-node finiteButSet s st nx k tag pt 407 key 1 (λ Γ n us ks. leaf #BTrue) (λ Γ n us ks. refl) (λ Γ n us ks. sym (right-1 _ _ us))
+  finite-1 key = by-node finiteButSet s st nx k tag pt 407 key 1 refl (λ Γ n us ks. leaf #BTrue) (λ Γ n us ks. refl) (λ Γ n us ks. sym (right-1 _ _ us))
 
   pub finite-2-402 : tag ≡ 402 → (r : Decision) → r ≡ D.Fixed 2 2 k k k → Decides finiteButSet s st nx k r
   unfolding onTag lookup classOf formAt typeOf rewriteFinite
-  finite-2-402 key = by-node finiteButSet s st nx k tag pt 402 key 2 (λ Γ n us ks. leaf #BFalse) (λ Γ n us ks. refl) (λ Γ n us ks. sym (right-2 _ _ us))
+  finite-2-402 key = by-node finiteButSet s st nx k tag pt 402 key 2 refl (λ Γ n us ks. leaf #BFalse) (λ Γ n us ks. refl) (λ Γ n us ks. sym (right-2 _ _ us))
 
   pub finite-2-403 : tag ≡ 403 → (r : Decision) → r ≡ D.Fixed 2 2 k k k → Decides finiteButSet s st nx k r
   unfolding onTag lookup classOf formAt typeOf rewriteFinite
-  finite-2-403 key = by-node finiteButSet s st nx k tag pt 403 key 2 (λ Γ n us ks. leaf #BFalse) (λ Γ n us ks. refl) (λ Γ n us ks. sym (right-2 _ _ us))
+  finite-2-403 key = by-node finiteButSet s st nx k tag pt 403 key 2 refl (λ Γ n us ks. leaf #BFalse) (λ Γ n us ks. refl) (λ Γ n us ks. sym (right-2 _ _ us))
 
   pub finite-2-401 : tag ≡ 401 → (r : Decision) → r ≡ D.Fixed 2 2 k k k → Decides finiteButSet s st nx k r
   unfolding onTag lookup classOf formAt typeOf rewriteFinite
-  finite-2-401 key = by-node finiteButSet s st nx k tag pt 401 key 2 (λ Γ n us ks. leaf #BFalse) (λ Γ n us ks. refl) (λ Γ n us ks. sym (right-2 _ _ us))
+  finite-2-401 key = by-node finiteButSet s st nx k tag pt 401 key 2 refl (λ Γ n us ks. leaf #BFalse) (λ Γ n us ks. refl) (λ Γ n us ks. sym (right-2 _ _ us))
 
   pub finite-3 : tag ≡ 404 → (r : Decision) → r ≡ D.Fixed 3 3 k k k → Decides finiteButSet s st nx k r
   unfolding onTag lookup classOf formAt typeOf rewriteFinite
-  finite-3 key = by-node finiteButSet s st nx k tag pt 404 key 3 (λ Γ n us ks. leaf #BTrue) (λ Γ n us ks. refl) (λ Γ n us ks. sym (right-3 _ _ us))
+  finite-3 key = by-node finiteButSet s st nx k tag pt 404 key 3 refl (λ Γ n us ks. leaf #BTrue) (λ Γ n us ks. refl) (λ Γ n us ks. sym (right-3 _ _ us))
 
   pub finite-4 : tag ≡ 412 → (r : Decision) → r ≡ D.Fixed 4 4 k k k → Decides finiteButSet s st nx k r
   unfolding onTag lookup classOf formAt typeOf rewriteFinite
-  finite-4 key = by-node finiteButSet s st nx k tag pt 412 key 4 (λ Γ n us ks. finite (toExpression (source (carriedTy us)))) (λ Γ n us ks. refl) (λ Γ n us ks. sym (right-4 _ (carriedTy us) _ us))
+  finite-4 key = by-node finiteButSet s st nx k tag pt 412 key 4 refl (λ Γ n us ks. finite (toExpression (source (carriedTy us)))) (λ Γ n us ks. refl) (λ Γ n us ks. sym (right-4 _ (carriedTy us) _ us))
 
   pub finite-5 : tag ≡ 5 → (r : Decision) → r ≡ D.Fixed 5 5 k k k → Decides finiteButSet s st nx k r
   unfolding onTag lookup classOf formAt typeOf rewriteFinite
-  finite-5 key = by-node finiteButSet s st nx k tag pt 5 key 5 (λ Γ n us ks. leaf #BTrue) (λ Γ n us ks. refl) (λ Γ n us ks. sym (right-5 _ _ us))
+  finite-5 key = by-node finiteButSet s st nx k tag pt 5 key 5 refl (λ Γ n us ks. leaf #BTrue) (λ Γ n us ks. refl) (λ Γ n us ks. sym (right-5 _ _ us))
 
   pub finite-6 : tag ≡ 301 → (r : Decision) → r ≡ D.Each 6 k k → Decides finiteButSet s st nx k r
   unfolding onTag lookup classOf formAt rewriteFinite
   finite-6 key =
-      by-each finiteButSet s st nx k tag pt 301 key 6 (λ n us m. refl) 351 joins-and (λ Γ. finite) (λ Γ n us ks l. refl) (λ Γ us a. sym (right-6 a _ _ us))
+      by-each finiteButSet s st nx k tag pt 301 key 6 refl (λ n us m. refl) joins-and (λ Γ. finite) (λ Γ n us ks l. refl) (λ Γ us a. sym (right-6 a _ _ us))
 
   pub finite-7 : tag ≡ 752 → (r : Decision) → r ≡ D.Fixed 7 7 (k + 1) (k + 1) k → Decides finiteButSet s st nx k r
   unfolding onTag lookup classOf formAt typeOf rewriteFinite
   finite-7 key =
-      by-single finiteButSet s st nx k tag pt 752 key 7 expression (λ x. refl) (λ Γ n us a. finite a) (λ Γ n us a. refl) (λ Γ n us a. sym (right-7 a _ _ us))
+      by-single finiteButSet s st nx k tag pt 752 key 7 refl expression (λ x. refl) (λ Γ n us a. finite a) (λ Γ n us a. refl) (λ Γ n us a. sym (right-7 a _ _ us))
 
   pub finite-8 : tag ≡ 214 → (j : ℕ) → (k + 1 < 2048 → j ≡ getD nx (k + 1) 0) → (r : Decision) → r ≡ D.Fixed 8 8 (k + 1) j k → Decides finiteButSet s st nx k r
   unfolding onTag lookup classOf formAt rewriteFinite
   finite-8 key =
-      by-double finiteButSet s st nx k tag pt 214 key 8 expression expression (λ x. refl) (λ Γ n us a b. many #LOr (cons (isEmpty Γ a) (pair (isEmpty Γ b) (many #LAnd (pair (finite a) (finite b)))))) (λ Γ n us a b. refl)
+      by-double finiteButSet s st nx k tag pt 214 key 8 refl expression expression (λ x. refl) (λ Γ n us a b. many #LOr (cons (isEmpty Γ a) (pair (isEmpty Γ b) (many #LAnd (pair (finite a) (finite b)))))) (λ Γ n us a b. refl)
       (λ Γ n us a b. sym (right-8 Γ a b us))
 
   pub finite-9 : tag ≡ 763 → (r : Decision) → r ≡ D.Fixed 9 9 (k + 1) (k + 1) k → Decides finiteButSet s st nx k r
   unfolding onTag lookup classOf formAt typeOf rewriteFinite
   finite-9 key =
-      by-single finiteButSet s st nx k tag pt 763 key 9 expression (λ x. refl) (λ Γ n us a. finite a) (λ Γ n us a. refl) (λ Γ n us a. sym (right-9 a _ _ us))
+      by-single finiteButSet s st nx k tag pt 763 key 9 refl expression (λ x. refl) (λ Γ n us a. finite a) (λ Γ n us a. refl) (λ Γ n us a. sym (right-9 a _ _ us))
 
   pub finite-10 : tag ≡ 221 → (r : Decision) → r ≡ D.Fixed 10 10 k k k → Decides finiteButSet s st nx k r
   unfolding onTag lookup classOf formAt typeOf rewriteFinite
-  finite-10 key = by-node finiteButSet s st nx k tag pt 221 key 10 (λ Γ n us ks. leaf #BTrue) (λ Γ n us ks. refl) (λ Γ n us ks. sym (right-10 _ _ us))
+  finite-10 key = by-node finiteButSet s st nx k tag pt 221 key 10 refl (λ Γ n us ks. leaf #BTrue) (λ Γ n us ks. refl) (λ Γ n us ks. sym (right-10 _ _ us))
 
   pub finite-13-410 : tag ≡ 410 → (r : Decision) → r ≡ D.Fixed 13 13 k k k → Decides finiteButSet s st nx k r
   unfolding onTag lookup classOf formAt typeOf rewriteFinite
-  finite-13-410 key = by-node finiteButSet s st nx k tag pt 410 key 13 (λ Γ n us ks. finite (toExpression (source (carriedTy us)))) (λ Γ n us ks. refl) (λ Γ n us ks. sym (right-13 _ (carriedTy us) _ us))
+  finite-13-410 key = by-node finiteButSet s st nx k tag pt 410 key 13 refl (λ Γ n us ks. finite (toExpression (source (carriedTy us)))) (λ Γ n us ks. refl) (λ Γ n us ks. sym (right-13 _ (carriedTy us) _ us))
 
   pub finite-13-411 : tag ≡ 411 → (r : Decision) → r ≡ D.Fixed 13 13 k k k → Decides finiteButSet s st nx k r
   unfolding onTag lookup classOf formAt typeOf rewriteFinite
-  finite-13-411 key = by-node finiteButSet s st nx k tag pt 411 key 13 (λ Γ n us ks. finite (toExpression (source (carriedTy us)))) (λ Γ n us ks. refl) (λ Γ n us ks. sym (right-13 _ (carriedTy us) _ us))
+  finite-13-411 key = by-node finiteButSet s st nx k tag pt 411 key 13 refl (λ Γ n us ks. finite (toExpression (source (carriedTy us)))) (λ Γ n us ks. refl) (λ Γ n us ks. sym (right-13 _ (carriedTy us) _ us))
 
   -- a comprehension set is left to its own function
   pub finite-inter : tag ≡ 803 → Decides finiteButSet s st nx k D.Rests
@@ -120,7 +120,7 @@ module _ (s st nx : List ℕ) (a b tag : ℕ) (pt : TagPost s st b tag) where
       record {
         means = λ t n Γ v w tb fa fb x Ξ kept.
             let z : tagOf w ≡ g = sym (pt .tag t n Γ w (tb .framed) fb) ∙ key in
-            rw er (fixed-at t 12 12 (finiteRestricted v w) (finite v) (ans v w z) a a a Γ Γ v v v fa fa fa (sym (right-12 v _ _ _)));
+            rw er (fixed-at t 12 12 (finiteRestricted v w) (finite v) (ans v w z) a a a Γ Γ v v v fa fa fa (unbound 12 (tagOf v) refl) (sym (right-12 v _ _ _)));
       }
 
   pub restricted-412 : tag ≡ 412 → (r : Decision) → r ≡ D.Fixed 12 12 a a a → DecidesTwo finiteRestricted s st nx a b r

@@ -9,6 +9,7 @@ pub mod Children
 pub mod Opposites
 pub mod JunctionTurns
 pub mod JunctionMeans
+pub mod SingleTurns
 pub mod InterTurns
 pub mod ImpTurns
 pub mod RowTurns

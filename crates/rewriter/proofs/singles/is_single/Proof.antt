@@ -1,25 +1,25 @@
-use Rattle.rewriter.proofs.InterTurns.{single-no, single-arity}
+use Rattle.rewriter.proofs.SingleTurns.{single-no, single-arity}
 use borrow.Author.Needs.{needs}
-use Rattle.rewriter.proofs.inter.is_single.Statement.{statement}
-use Rattle.rewriter.proofs.inter.is_single.Tie as tie
-use Rattle.rewriter.proofs.inter.is_single.Reads as reads
-use Rattle.rewriter.proofs.inter.is_single.Lts as lts
+use Rattle.rewriter.proofs.singles.is_single.Statement.{statement}
+use Rattle.rewriter.proofs.singles.is_single.Tie as tie
+use Rattle.rewriter.proofs.singles.is_single.Reads as reads
+use Rattle.rewriter.proofs.singles.is_single.Lts as lts
 use Rattle.nav.proofs.places.arity_at.Reads as arity-at-reads
 use Rattle.nav.proofs.places.tag_at.Reads as tag-at-reads
 
--- src/inter.rt:10:8
+-- src/singles.rt:10:8
 tag-at-requires : tie.Need-tag-at-requires
 tag-at-requires c κs = search needs
 
--- src/inter.rt:11:9
+-- src/singles.rt:11:9
 returns : tie.Need-returns
 returns c = single-no _ _ _ _ (c .before .tag-at .ensures) (c .if1 .taken)
 
--- src/inter.rt:13:5
+-- src/singles.rt:13:5
 arity-at-requires : tie.Need-arity-at-requires
 arity-at-requires c κs = search needs
 
--- src/inter.rt:6:1
+-- src/singles.rt:6:1
 returns-2 : tie.Need-returns-2
 returns-2 c = single-arity _ _ _ _ (c .before .before .tag-at .ensures) (c .before .if1 .left) _ (c .arity-at .ensures)
 
