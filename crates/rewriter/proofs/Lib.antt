@@ -19,3 +19,4 @@ pub mod Series
 pub mod OwnTypes
 pub mod Descents
 pub mod OwnTurns
+pub mod PairTurns

@@ -12,6 +12,8 @@ use Rattle.rules.specs.Simplify.{makeNeg, simplifyNot, simplifyForall, simplify
 use Rattle.rules.specs.Negation.{rewriteNotInner, rewritePartition}
 use Rattle.rules.specs.Finite.{finite, isProjection, rewriteFinite}
 use Rattle.rules.specs.EqualsEmptySet.{rewriteEqualsEmptySet}
+use Rattle.rules.specs.EqualsType.{rewriteEqualsType}
+use Rattle.rules.specs.Dispatch.{isOwnType}
 
 -- ¬ a: logic, then negation
 abbrev pub negationOf : Ctx → Tree → Change
@@ -72,3 +74,7 @@ impAnd left right =
     onTag #LAnd left (λ ts children.
     when (contains right children) (to 71 (leaf #BTrue))
     orElse when (contains (makeNeg right) children) (to 72 (makeNeg left)))
+
+-- v = w, where w is the type expression of its own elements
+abbrev pub typeRight : Ctx → Tree → Tree → Change
+typeRight Γ v w = when (isOwnType Γ w) (rewriteEqualsType Γ v)
