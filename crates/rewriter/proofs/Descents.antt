@@ -1,5 +1,5 @@
 -- From the place of a node to those of its children.
--- Main results: here-child (a node's one child), after-first (the second of two children comes after the first); plain (a node
+-- Main results: here-child, by-child (a node's one child), here-first, here-second, after-first (the second of two children comes after the first); plain (a node
 -- without a number and types of its own).
 use mathlib.Core.Path.{_≡_, refl, sym, ap, _∙_}
 use mathlib.Core.List.{List, [], _∷_}
@@ -7,13 +7,15 @@ use Prim.Native.Nat.{ℕ, _+_, _<_}
 use native.Mathlib.Omega.{arith}
 use lib.ListN.{length, getD}
 use Rattle.frame.specs.Types.{Ty}
-use Rattle.frame.specs.Trees.{head, node, Forest}
+use Rattle.frame.specs.Trees.{head, Tree, node, Forest, nil, cons}
 use Rattle.frame.specs.Tags.{Sort, formOf, payloadOf, typesOf}
-use Rattle.frame.specs.Places.{under, found}
+use Rattle.frame.specs.Places.{Ctx, under, found}
 use Rattle.nav.specs.PlaceTables.{TagPost}
 use Rattle.nav.proofs.Hops.{Sorted, place-sorted, place-end}
 use Rattle.nav.proofs.SamePlaces.{only-child}
-use Rattle.rewriter.specs.Decides.{Here, HereTwo}
+use Rattle.rules.specs.Change.{Change}
+use Rattle.rewriter.specs.Decides.{Here, HereTwo, Decides}
+use Rattle.rewriter.specs.declared.decision.Decision.{Decision}
 use Rattle.rewriter.proofs.Shapes.{Takes, single}
 
 -- the one child of the node at place k
@@ -29,6 +31,18 @@ module _ (s st nx : List ℕ) (k tag : ℕ) (pt : TagPost s st k tag) (g : ℕ) 
         Γ = under g (o .us) (h .Γ);
         v = o .a;
         there = only-child (h .t) nx (h .table .follows) k (h .Γ) g (o .n) (o .us) (o .a) (h .there ∙ ap (found (h .Γ)) (o .is));
+      }
+
+  -- a rule that goes on to it
+  pub by-child : (rule : Ctx → Tree → Change) (on : Ctx → Tree → Change)
+      → ((Γ : Ctx) (n : ℕ) (us : List Ty) (a : Tree) → rule Γ (node (head g n us) (cons a nil)) ≡ on (under g us Γ) a)
+      → (r : Decision) → Decides on s st nx (k + 1) r → Decides rule s st nx k r
+  by-child rule on ans r de =
+      record {
+        means = λ t n Γ v tb f w Ξ kept.
+            let o = single g e tk v (place-sorted s t st n (tb .framed) k Γ v f) (sym (pt .tag t n Γ v (tb .framed) f) ∙ key) in
+            let fa = only-child t nx (tb .follows) k Γ g (o .n) (o .us) (o .a) (f ∙ ap (found Γ) (o .is)) in
+            rw (o .is, ans Γ (o .n) (o .us) (o .a)) (de .means t n (under g (o .us) Γ) (o .a) tb fa w Ξ kept);
       }
 
 -- either of two places

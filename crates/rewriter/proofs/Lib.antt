@@ -20,3 +20,4 @@ pub mod OwnTypes
 pub mod Descents
 pub mod OwnTurns
 pub mod PairTurns
+pub mod DispatchTurns

@@ -4,3 +4,4 @@ pub mod RulesAt
 pub mod Junction
 pub mod Inter
 pub mod OwnType
+pub mod Dispatching

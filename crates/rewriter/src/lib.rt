@@ -12,3 +12,4 @@ pub mod inter; // inter.rt: ∩ = ∅
 pub mod contains; // contains.rt: a tree among others
 pub mod own_type; // own_type.rt: an expression that is a type
 pub mod equality; // equality.rt: = and ⊆
+pub mod dispatch; // dispatch.rt: which rule a node goes to
