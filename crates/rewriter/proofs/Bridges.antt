@@ -10,8 +10,7 @@ use Rattle.frame.specs.Sameness.{sameTree}
 use Rattle.rules.specs.Change.{Change, to, same, _orElse_, when, isTag}
 use Rattle.rules.specs.Simplify.{makeNeg, simplifyImp}
 use Rattle.rules.specs.Finite.{rewriteFinite}
-use Rattle.rules.specs.EqualsEmptySet.{rewriteEqualsEmptySet}
-use Rattle.rewriter.specs.RulesAt.{emptyButInter, finiteButSet, impFirst, impAnd, impLast}
+use Rattle.rewriter.specs.RulesAt.{finiteButSet, impFirst, impAnd, impLast}
 
 pub or-assoc : (x y z : Change) → (x orElse y) orElse z ≡ x orElse (y orElse z)
 or-assoc (to p u) y z = refl
@@ -32,9 +31,6 @@ imp-parts v w =
     (or-assoc b (c orElse (d orElse e)) x
     ∙ ap (λ (q : Change). b orElse q) (or-assoc c (d orElse e) x ∙ ap (λ (q : Change). c orElse q) (or-assoc d e x))))
 
--- = ∅ and finite, apart from ∩ and from comprehension sets
-pub but-inter : (Γ : Ctx) (e : Tree) → (tagOf e ≡ 302 → ⊥) → emptyButInter Γ e ≡ rewriteEqualsEmptySet Γ e
-but-inter Γ e h = rw (ne-eqb (tagOf e) 302 h)
-
+-- finite, apart from comprehension sets
 pub but-set : (Γ : Ctx) (e : Tree) → (tagOf e ≡ 803 → ⊥) → finiteButSet Γ e ≡ rewriteFinite Γ e
 but-set Γ e h = rw (ne-eqb (tagOf e) 803 h)

@@ -1,7 +1,7 @@
 -- What a function that decides by places asks and answers.
 use mathlib.Core.Path.{_≡_}
 use mathlib.Core.Bool.{Bool, true, false}
-use mathlib.Core.List.{List, []}
+use mathlib.Core.List.{List, [], _∷_}
 use Prim.Native.Nat.{ℕ, _+_, _<_}
 use lib.ListN.{getD}
 use lib.Dec.{eqb}
@@ -10,7 +10,7 @@ use Rattle.frame.specs.Trees.{Tree, Forest, count, one}
 use Rattle.frame.specs.Operators.{#Not}
 use Rattle.frame.specs.Sameness.{sameTree}
 use Rattle.frame.specs.Places.{Ctx, found, find, findIn}
-use Rattle.nav.specs.PlaceTables.{Table}
+use Rattle.nav.specs.PlaceTables.{Table, TagPost}
 use Rattle.rules.specs.Change.{Change, contains}
 use Rattle.rules.specs.Simplify.{makeNeg}
 use Rattle.rewriter.specs.declared.decision.Decision.{Decision}
@@ -51,6 +51,15 @@ pub record DecidesPair (rule : Ctx → Tree → Tree → Change) (s st nx : List
 -- and of a rule that does not ask for the context
 abbrev pub DecidesTwo : (Tree → Tree → Change) → List ℕ → List ℕ → List ℕ → ℕ → ℕ → Decision → Type 0
 DecidesTwo rule = DecidesPair (λ Γ. rule)
+
+-- r stands for what the rule answers at place k of whichever frame has this tag there
+pub record ByTag (rule : Ctx → Tree → Change) (tag k : ℕ) (r : Decision) : Type 0 where
+  pub decides : (s st nx : List ℕ) → TagPost s st k tag → Decides rule s st nx k r
+
+-- the tag is none of these
+abbrev pub Unlike : ℕ → List ℕ → Type 0
+Unlike tag [] = Unit {0}
+Unlike tag (g ∷ gs) = Unlike tag gs × (tag ≡ g → ⊥)
 
 -- r says whether the tree at place a is the negation of that at place b
 pub record OpposesPost (s st nx : List ℕ) (a b : ℕ) (r : Bool) : Type 0 where

@@ -19,7 +19,7 @@ equals-empty-at-requires c κs = here-first (c .before .before .before .pre)
 
 -- src/equality.rt:37:9
 returns : tie.Need-returns
-returns c = empty-right _ _ _ _ _ _ (c .before .before .tag-at .ensures) (c .before .if1 .taken) _ ?
+returns c = empty-right _ _ _ _ _ _ (c .before .before .tag-at .ensures) (c .before .if1 .taken) _ (c .equals-empty-at .ensures)
 
 -- src/equality.rt:39:9
 tag-at-requires-2 : tie.Need-tag-at-requires-2
@@ -31,7 +31,7 @@ equals-empty-at-requires-2 c κs = here-second (c .before .before .before .befor
 
 -- src/equality.rt:41:9
 returns-2 : tie.Need-returns-2
-returns-2 c = empty-left _ _ _ _ _ _ (c .before .before .before .before .tag-at .ensures) (c .before .before .before .if1 .left) _ (c .before .before .tag-at2 .ensures) (c .before .if2 .taken) _ ?
+returns-2 c = empty-left _ _ _ _ _ _ (c .before .before .before .before .tag-at .ensures) (c .before .before .before .if1 .left) _ (c .before .before .tag-at2 .ensures) (c .before .if2 .taken) _ (c .equals-empty-at2 .ensures)
 
 -- src/equality.rt:25:1
 returns-3 : tie.Need-returns-3

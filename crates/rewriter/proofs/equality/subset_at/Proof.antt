@@ -23,7 +23,7 @@ equals-empty-at-requires c κs = here-first (c .before .before .before .pre)
 
 -- src/equality.rt:8:1
 returns-2 : tie.Need-returns-2
-returns-2 c = within-empty _ _ _ _ _ _ (c .before .before .tag-at .ensures) (c .before .if1 .left) _ ?
+returns-2 c = within-empty _ _ _ _ _ _ (c .before .before .tag-at .ensures) (c .before .if1 .left) _ (c .equals-empty-at .ensures)
 
 pub subset-at-spec : {M : Type 1} → statement M
 subset-at-spec = tie.close (tie.spec tag-at-requires returns equals-empty-at-requires returns-2)
