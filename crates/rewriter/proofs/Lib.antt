@@ -3,6 +3,7 @@ pub mod Negations
 pub mod TypeTurns
 pub mod EmptyTurns
 pub mod FiniteTurns
+pub mod SetTurns
 pub mod LogicTurns
 pub mod QuantTurns
 pub mod Children

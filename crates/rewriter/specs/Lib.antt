@@ -5,3 +5,4 @@ pub mod Junction
 pub mod Inter
 pub mod OwnType
 pub mod Dispatching
+pub mod FiniteSet

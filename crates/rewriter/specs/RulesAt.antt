@@ -1,17 +1,16 @@
 -- The rules that are decided by places, at the trees whose tags they look at first.
 use Prim.Native.Nat.{ℕ}
-use mathlib.Core.Bool.{Bool, true, false, _&&_}
+use mathlib.Core.Bool.{Bool, false, _&&_}
 use mathlib.Core.List.{List, [], _∷_}
 use lib.Dec.{eqb}
 use Rattle.frame.specs.Trees.{head, Tree, node, Forest, nil, cons, leaf, two}
 use Rattle.frame.specs.Sameness.{sameTree}
-use Rattle.frame.specs.Tags.{pick}
-use Rattle.frame.specs.Operators.{#Equal, #SRel, #STRel, #SetMinus, #CProd, #DProd, #PProd, #DomRes, #DomSub, #RanRes, #RanSub, #UpTo, #RelImage, #BInter, #BComp, #FComp, #QUnion, #CSet, #Not, #Partition, #Forall, #Exists, #BTrue, #BFalse, #LAnd}
+use Rattle.frame.specs.Operators.{#Equal, #SRel, #STRel, #SetMinus, #CProd, #DProd, #PProd, #DomRes, #DomSub, #RanRes, #RanSub, #UpTo, #RelImage, #BInter, #BComp, #FComp, #QUnion, #Not, #Partition, #Forall, #Exists, #BTrue, #BFalse, #LAnd}
 use Rattle.frame.specs.Places.{Ctx}
-use Rattle.rules.specs.Change.{Change, to, same, _orElse_, when, isTag, onTag, with1, unary, quantifier, contains}
+use Rattle.rules.specs.Change.{Change, to, _orElse_, when, isTag, onTag, unary, quantifier, contains}
 use Rattle.rules.specs.Simplify.{makeNeg, simplifyNot, simplifyForall, simplifyExists}
 use Rattle.rules.specs.Negation.{rewriteNotInner, rewritePartition}
-use Rattle.rules.specs.Finite.{finite, isProjection, rewriteFinite}
+use Rattle.rules.specs.Finite.{finite, isProjection}
 use Rattle.rules.specs.EqualsType.{rewriteEqualsType}
 use Rattle.rules.specs.Dispatch.{isOwnType}
 
@@ -27,10 +26,6 @@ unequal a b = rewriteNotInner (two #Equal a b)
 abbrev pub lookedUp : List ℕ
 lookedUp =
     #QUnion ∷ #BComp ∷ #FComp ∷ #PProd ∷ #DProd ∷ #RelImage ∷ #RanSub ∷ #RanRes ∷ #DomSub ∷ #DomRes ∷ #STRel ∷ #SRel ∷ #UpTo ∷ #CProd ∷ #SetMinus ∷ #BInter ∷ []
-
--- finite(S), unless S is a comprehension set
-abbrev pub finiteButSet : Ctx → Tree → Change
-finiteButSet Γ e = pick (isTag #CSet e) same (rewriteFinite Γ e)
 
 -- finite(a ◁ b)
 abbrev pub finiteRestricted : Tree → Tree → Change

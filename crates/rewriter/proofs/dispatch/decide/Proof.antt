@@ -115,7 +115,7 @@ returns-7 c = dispatched _ _ _ _ _ (c .before .before .before .tag-at .ensures) 
 
 -- src/dispatch.rt:6:1
 returns-8 : tie.Need-returns-8
-returns-8 c = dispatched _ _ _ _ _ (c .before .before .before .tag-at .ensures) _ (c .before .before .before .before .before .pre .long) _ (to-finite _ _ _ _ _ (c .before .before .before .tag-at .ensures) (c .before .match .keys8) _ ?)
+returns-8 c = dispatched _ _ _ _ _ (c .before .before .before .tag-at .ensures) _ (c .before .before .before .before .before .pre .long) _ (to-finite _ _ _ _ _ (c .before .before .before .tag-at .ensures) (c .before .match .keys8) _ (c .finite-at .ensures))
 
 -- src/dispatch.rt:6:1
 returns-9 : tie.Need-returns-9
