@@ -25,4 +25,3 @@ imp-parts v w =
     ∙ ap (λ (q : Change). a orElse q)
     (or-assoc b (c orElse (d orElse e)) x
     ∙ ap (λ (q : Change). b orElse q) (or-assoc c (d orElse e) x ∙ ap (λ (q : Change). c orElse q) (or-assoc d e x))))
-

@@ -1,6 +1,6 @@
 -- From the place of a node to those of its children.
--- Main results: here-child, by-child (a node's one child), here-first, here-second, after-first (the second of two children comes after the first); plain (a node
--- without a number and types of its own).
+-- Main results: here-child, by-child (a node's one child); here-first, here-second (either of two places); after-first (the place
+-- that follows a subtree is behind it); plain (a node without a number and types of its own).
 use mathlib.Core.Path.{_≡_, refl, sym, ap, _∙_}
 use mathlib.Core.List.{List, [], _∷_}
 use Prim.Native.Nat.{ℕ, _+_, _<_}

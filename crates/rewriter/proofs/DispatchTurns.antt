@@ -19,7 +19,7 @@ use Rattle.rules.specs.Negation.{rewriteNot, rewriteNotInner, rewritePartition}
 use Rattle.rules.specs.Finite.{rewriteFinite}
 use Rattle.rules.specs.Dispatch.{equalRules, subsetRules, dispatch}
 use Rattle.rewriter.specs.Decision.{Means}
-use Rattle.rewriter.specs.Decides.{Here, HereTwo, Decides, DecidesPair, DecidesTwo}
+use Rattle.rewriter.specs.Decides.{Here, Decides, DecidesPair, DecidesTwo, Unlike}
 use Rattle.rewriter.specs.RulesAt.{negationOf, partitionOf, forallOf, existsOf}
 use Rattle.rewriter.specs.Junction.{JunctionPre, JunctionPost}
 use Rattle.rewriter.specs.Dispatching.{DispatchPost}
@@ -78,13 +78,14 @@ module _ (Γ : Ctx) (n : ℕ) (us : List Ty) where
     unfolding dispatch simplifyPredicateNode rewriteNot onTag
     at-subset = refl
 
--- at any other tag no rule applies
-module _ (a : ℕ) where
-  at-none : (Γ : Ctx) (v : Tree) → tagOf v ≡ a → (a ≡ 351 → ⊥) → (a ≡ 352 → ⊥) → (a ≡ 251 → ⊥) → (a ≡ 252 → ⊥) → (a ≡ 851 → ⊥) → (a ≡ 852 → ⊥) → (a ≡ 701 → ⊥)
-      → (a ≡ 620 → ⊥) → (a ≡ 901 → ⊥) → (a ≡ 101 → ⊥) → (a ≡ 111 → ⊥) → dispatch Γ v ≡ same
-  unfolding dispatch simplifyPredicateNode rewriteNot onTag
-  at-none Γ (node (head g n us) ks) z c d e f h i j l m o p =
-      rw z (simp (ne-eqb a 351 c, ne-eqb a 352 d, ne-eqb a 251 e, ne-eqb a 252 f, ne-eqb a 851 h, ne-eqb a 852 i, ne-eqb a 701 j, ne-eqb a 620 l, ne-eqb a 901 m, ne-eqb a 101 o, ne-eqb a 111 p))
+-- at any other tag no rule applies. (The tag that is tested last comes first.)
+abbrev pub ruled : List ℕ
+ruled = 111 ∷ 101 ∷ 901 ∷ 620 ∷ 701 ∷ 852 ∷ 851 ∷ 252 ∷ 251 ∷ 352 ∷ 351 ∷ []
+
+at-none : (a : ℕ) → Unlike a ruled → (Γ : Ctx) (v : Tree) → tagOf v ≡ a → dispatch Γ v ≡ same
+unfolding dispatch simplifyPredicateNode rewriteNot onTag
+at-none a (((((((((((none, and), or), imp), eqv), all), some), not), finite), partition), equal), subset) Γ (node (head g n us) ks) z =
+    rw z (simp (ne-eqb a 351 and, ne-eqb a 352 or, ne-eqb a 251 imp, ne-eqb a 252 eqv, ne-eqb a 851 all, ne-eqb a 852 some, ne-eqb a 701 not, ne-eqb a 620 finite, ne-eqb a 901 partition, ne-eqb a 101 equal, ne-eqb a 111 subset))
 
 -- a rule that looks at the node itself, where the node has its tag
 module _ (g : ℕ) (rule : Ctx → Tree → Change) (same-at : (Γ : Ctx) (n : ℕ) (us : List Ty) (ks : Forest) → dispatch Γ (node (head g n us) ks) ≡ rule Γ (node (head g n us) ks)) where
@@ -156,9 +157,8 @@ module _ (s st nx : List ℕ) (k tag : ℕ) (pt : TagPost s st k tag) where
   unfolding lookup classOf formAt
   to-finite key = by-child s st nx k tag pt 620 key expression (λ x. refl) dispatch rewriteFinite (λ Γ n us a. at-finite Γ n us (cons a nil))
 
-  pub to-none : (tag ≡ 351 → ⊥) → (tag ≡ 352 → ⊥) → (tag ≡ 251 → ⊥) → (tag ≡ 252 → ⊥) → (tag ≡ 851 → ⊥) → (tag ≡ 852 → ⊥) → (tag ≡ 701 → ⊥) → (tag ≡ 620 → ⊥)
-      → (tag ≡ 901 → ⊥) → (tag ≡ 101 → ⊥) → (tag ≡ 111 → ⊥) → Decides dispatch s st nx k D.Rests
-  to-none c d e f h i j l m o p = by-rest dispatch s st nx k tag pt (λ Γ v z. at-none tag Γ v z c d e f h i j l m o p) D.Rests refl
+  pub to-none : Unlike tag ruled → Decides dispatch s st nx k D.Rests
+  to-none u = by-rest dispatch s st nx k tag pt (at-none tag u) D.Rests refl
 
   -- at its two children
   module _ (b : ℕ) (eb : k + 1 < 2048 → b ≡ getD nx (k + 1) 0) where

@@ -1,25 +1,21 @@
 -- The ways out of src/equality.rt.
-use mathlib.Core.Path.{_≡_, refl, sym, _∙_}
+use mathlib.Core.Path.{_≡_, sym, _∙_}
 use mathlib.Core.Bool.{Bool, true, false}
 use mathlib.Core.List.{List}
 use Prim.Native.Nat.{ℕ}
 use borrow.Author.Tests.{eq-eqb, ne-eqb}
-use Rattle.frame.specs.Trees.{Tree, tagOf}
-use Rattle.frame.specs.Places.{Ctx}
+use Rattle.frame.specs.Trees.{tagOf}
 use Rattle.nav.specs.PlaceTables.{TagPost}
-use Rattle.rules.specs.Change.{Change, _orElse_}
+use Rattle.rules.specs.Change.{_orElse_}
 use Rattle.rules.specs.EqualsEmptySet.{rewriteEqualsEmptySet}
 use Rattle.rules.specs.EqualsType.{rewriteEqualsType}
 use Rattle.rules.specs.Dispatch.{emptyRules, equalRules, subsetRules}
-use Rattle.rewriter.specs.Decides.{HereTwo, Decides, DecidesPair, isRests}
+use Rattle.rewriter.specs.Decides.{Decides, DecidesPair, isRests}
 use Rattle.rewriter.specs.OwnType.{OwnTypePost}
 use Rattle.rewriter.specs.RulesAt.{typeRight}
 use Rattle.rewriter.specs.declared.decision.Decision.{Decision}
 use Rattle.rewriter.specs.declared.decision.Decision.the-variants as D
 use Rattle.rewriter.proofs.Series.{turned, series-first, series-next}
-
-pub swapped : {s st nx : List ℕ} {a b : ℕ} → HereTwo s st nx a b → HereTwo s st nx b a
-swapped h = record { t = h .t; n = h .n; table = h .table; Γ = h .Γ; v = h .w; w = h .v; first = h .second; second = h .first }
 
 module _ (s st nx : List ℕ) (a b right : ℕ) (pr : TagPost s st b right) where
   -- ---- ⊆

@@ -1,16 +1,16 @@
 -- One rule after another.
 -- Main results: or-first, none-first; same-rule, turned, series-first, series-next; imp-first, imp-and, imp-last (the ways out of
 -- implication_at of src/contains.rt).
-use mathlib.Core.Path.{_≡_, refl, sym, ap, _∙_}
-use mathlib.Core.Bool.{Bool, true, false}
+use mathlib.Core.Path.{_≡_}
+use mathlib.Core.Bool.{true, false}
 use mathlib.Core.List.{List}
 use Prim.Native.Nat.{ℕ}
 use native.Mathlib.Omega.{arith}
 use Rattle.frame.specs.Trees.{Tree}
 use Rattle.frame.specs.Places.{Ctx}
-use Rattle.rules.specs.Change.{Change, to, same, _orElse_}
+use Rattle.rules.specs.Change.{Change, same, _orElse_}
 use Rattle.rules.specs.Simplify.{simplifyImp}
-use Rattle.rewriter.specs.Decision.{Means, FixedMeans, EachMeans, KeptMeans, ApartMeans, WithinMeans}
+use Rattle.rewriter.specs.Decision.{Means}
 use Rattle.rewriter.specs.Decides.{DecidesPair, DecidesTwo, isRests}
 use Rattle.rewriter.specs.RulesAt.{impFirst, impAnd, impLast}
 use Rattle.rewriter.specs.declared.decision.Decision.{Decision}

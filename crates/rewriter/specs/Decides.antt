@@ -2,8 +2,7 @@
 use mathlib.Core.Path.{_≡_}
 use mathlib.Core.Bool.{Bool, true, false}
 use mathlib.Core.List.{List, [], _∷_}
-use Prim.Native.Nat.{ℕ, _+_, _<_}
-use lib.ListN.{getD}
+use Prim.Native.Nat.{ℕ, _+_}
 use lib.Dec.{eqb}
 use Rattle.frame.specs.Tags.{pick}
 use Rattle.frame.specs.Trees.{Tree, Forest, count, one}

@@ -44,13 +44,7 @@ fn empty_rules_at(
 }
 
 // The type rules on the set at place a, where the one at place b is the type expression of its own elements.
-fn type_rule_at(
-    s: &[u8],
-    starts: &[u16; 2048],
-    nexts: &[u16; 2048],
-    a: usize,
-    b: usize,
-) -> Decision
+fn type_rule_at(s: &[u8], starts: &[u16; 2048], nexts: &[u16; 2048], a: usize, b: usize) -> Decision
     requires { ⌜ HereTwo (now s) (now starts) (now nexts) a b ⌝ }
     ensures { λ r. ⌜ DecidesPair typeRight (now (s .entry)) (now (starts .entry)) (now (nexts .entry)) a b r ⌝ }
 {
@@ -61,13 +55,7 @@ fn type_rule_at(
 }
 
 // = of the expressions at places a and b.
-pub fn equal_at(
-    s: &[u8],
-    starts: &[u16; 2048],
-    nexts: &[u16; 2048],
-    a: usize,
-    b: usize,
-) -> Decision
+pub fn equal_at(s: &[u8], starts: &[u16; 2048], nexts: &[u16; 2048], a: usize, b: usize) -> Decision
     requires { ⌜ HereTwo (now s) (now starts) (now nexts) a b ⌝ }
     ensures { λ r. ⌜ DecidesPair equalRules (now (s .entry)) (now (starts .entry)) (now (nexts .entry)) a b r ⌝ }
 {

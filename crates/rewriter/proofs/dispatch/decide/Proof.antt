@@ -1,3 +1,4 @@
+use borrow.Author.Needs.{needs}
 use Rattle.rewriter.proofs.DispatchTurns.{junction-here, junction-done, dispatched, to-forall, to-exists, to-partition, to-not, to-finite, to-none, to-imp, to-eqv, to-equal, to-subset}
 use Rattle.rewriter.proofs.Descents.{here-child}
 use Rattle.rewriter.proofs.Shapes.{here-few, here-placed, two-here}
@@ -5,7 +6,6 @@ use Rattle.frame.specs.Tags.{predicate, expression, lookup, classOf, formAt}
 use native.Mathlib.Omega.{arith}
 use mathlib.Core.Logic.{inl, inr}
 use mathlib.Core.Path.{refl}
-use borrow.Author.Needs.{needs}
 use Rattle.rewriter.proofs.dispatch.decide.Statement.{statement}
 use Rattle.rewriter.proofs.dispatch.decide.Tie as tie
 use Rattle.rewriter.proofs.dispatch.decide.Reads as reads
@@ -55,11 +55,11 @@ equivalence-at-requires c κs = two-here _ _ _ _ _ (c .before .before .tag-at .e
 
 -- src/dispatch.rt:24:16
 forall-at-requires : tie.Need-forall-at-requires
-forall-at-requires c κs = c .before .before .before .before .pre .here
+forall-at-requires c κs = search needs
 
 -- src/dispatch.rt:25:16
 exists-at-requires : tie.Need-exists-at-requires
-exists-at-requires c κs = c .before .before .before .before .pre .here
+exists-at-requires c κs = search needs
 
 -- src/dispatch.rt:26:16
 negation-at-requires : tie.Need-negation-at-requires
@@ -73,7 +73,7 @@ finite-at-requires c κs = here-child _ _ _ _ _ (c .before .before .tag-at .ensu
 
 -- src/dispatch.rt:28:16
 partition-at-requires : tie.Need-partition-at-requires
-partition-at-requires c κs = c .before .before .before .before .pre .here
+partition-at-requires c κs = search needs
 
 -- src/dispatch.rt:29:16
 equal-at-requires : tie.Need-equal-at-requires
@@ -131,7 +131,7 @@ returns-11 c = dispatched _ _ _ _ _ (c .before .before .before .tag-at .ensures)
 
 -- src/dispatch.rt:6:1
 returns-12 : tie.Need-returns-12
-returns-12 c = dispatched _ _ _ _ _ (c .before .before .tag-at .ensures) _ (c .before .before .before .before .pre .long) _ (to-none _ _ _ _ _ (c .before .before .tag-at .ensures) (c .match .rest .0 .0 .0 .0 .0 .0 .0 .0 .0 .0 .1) (c .match .rest .0 .0 .0 .0 .0 .0 .0 .0 .0 .1) (c .match .rest .0 .0 .0 .0 .0 .0 .0 .0 .1) (c .match .rest .0 .0 .0 .0 .0 .0 .0 .1) (c .match .rest .0 .0 .0 .0 .0 .0 .1) (c .match .rest .0 .0 .0 .0 .0 .1) (c .match .rest .0 .0 .0 .0 .1) (c .match .rest .0 .0 .0 .1) (c .match .rest .0 .0 .1) (c .match .rest .0 .1) (c .match .rest .1))
+returns-12 c = dispatched _ _ _ _ _ (c .before .before .tag-at .ensures) _ (c .before .before .before .before .pre .long) _ (to-none _ _ _ _ _ (c .before .before .tag-at .ensures) (c .match .rest))
 
 pub decide-spec : {M : Type 1} → statement M
 decide-spec =

@@ -1,7 +1,6 @@
-use Rattle.rewriter.proofs.PairTurns.{empty-right, empty-left, empty-none}
-use Rattle.rewriter.proofs.Descents.{here-first, here-second}
-use Rattle.rewriter.proofs.Shapes.{first-placed, second-placed}
 use borrow.Author.Needs.{needs}
+use Rattle.rewriter.proofs.PairTurns.{empty-right, empty-left, empty-none}
+use Rattle.rewriter.proofs.Shapes.{first-placed, second-placed}
 use Rattle.rewriter.proofs.equality.empty_rules_at.Statement.{statement}
 use Rattle.rewriter.proofs.equality.empty_rules_at.Tie as tie
 use Rattle.rewriter.proofs.equality.empty_rules_at.Reads as reads
@@ -15,7 +14,7 @@ tag-at-requires c κs = second-placed (c .before .pre)
 
 -- src/equality.rt:37:9
 equals-empty-at-requires : tie.Need-equals-empty-at-requires
-equals-empty-at-requires c κs = here-first (c .before .before .before .pre)
+equals-empty-at-requires c κs = search needs
 
 -- src/equality.rt:37:9
 returns : tie.Need-returns
@@ -27,7 +26,7 @@ tag-at-requires-2 c κs = first-placed (c .before .before .before .pre)
 
 -- src/equality.rt:41:9
 equals-empty-at-requires-2 : tie.Need-equals-empty-at-requires-2
-equals-empty-at-requires-2 c κs = here-second (c .before .before .before .before .before .pre)
+equals-empty-at-requires-2 c κs = search needs
 
 -- src/equality.rt:41:9
 returns-2 : tie.Need-returns-2

@@ -1,4 +1,4 @@
-use Rattle.rewriter.proofs.PairTurns.{swapped, equal-empty, equal-right, equal-left}
+use Rattle.rewriter.proofs.PairTurns.{equal-empty, equal-right, equal-left}
 use borrow.Author.Tests.{not-true, not-false}
 use mathlib.Core.Path.{sym, _∙_}
 use borrow.Author.Needs.{needs}
@@ -12,7 +12,7 @@ use Rattle.rewriter.proofs.equality.type_rule_at.Reads as type-rule-at-
 
 -- src/equality.rt:74:9
 empty-rules-at-requires : tie.Need-empty-rules-at-requires
-empty-rules-at-requires c κs = c .before .pre
+empty-rules-at-requires c κs = search needs
 
 -- src/equality.rt:75:9
 rests-requires : tie.Need-rests-requires
@@ -24,7 +24,7 @@ returns c = equal-empty _ _ _ _ _ _ (c .before .before .empty-rules-at .ensures)
 
 -- src/equality.rt:78:9
 type-rule-at-requires : tie.Need-type-rule-at-requires
-type-rule-at-requires c κs = c .before .before .before .before .pre
+type-rule-at-requires c κs = search needs
 
 -- src/equality.rt:79:9
 rests-requires-2 : tie.Need-rests-requires-2
@@ -36,7 +36,7 @@ returns-2 c = equal-right _ _ _ _ _ _ (c .before .before .before .before .before
 
 -- src/equality.rt:82:5
 type-rule-at-requires-2 : tie.Need-type-rule-at-requires-2
-type-rule-at-requires-2 c κs = swapped (c .before .before .before .before .before .before .before .pre)
+type-rule-at-requires-2 c κs = search needs
 
 -- src/equality.rt:64:1
 returns-3 : tie.Need-returns-3

@@ -1,7 +1,6 @@
-use Rattle.rewriter.proofs.PairTurns.{within-none, within-empty}
-use Rattle.rewriter.proofs.Descents.{here-first}
-use Rattle.rewriter.proofs.Shapes.{second-placed}
 use borrow.Author.Needs.{needs}
+use Rattle.rewriter.proofs.PairTurns.{within-none, within-empty}
+use Rattle.rewriter.proofs.Shapes.{second-placed}
 use Rattle.rewriter.proofs.equality.subset_at.Statement.{statement}
 use Rattle.rewriter.proofs.equality.subset_at.Tie as tie
 use Rattle.rewriter.proofs.equality.subset_at.Reads as reads
@@ -19,7 +18,7 @@ returns c = within-none _ _ _ _ _ _ (c .before .tag-at .ensures) (c .if1 .taken)
 
 -- src/equality.rt:21:5
 equals-empty-at-requires : tie.Need-equals-empty-at-requires
-equals-empty-at-requires c κs = here-first (c .before .before .before .pre)
+equals-empty-at-requires c κs = search needs
 
 -- src/equality.rt:8:1
 returns-2 : tie.Need-returns-2

@@ -1,6 +1,5 @@
-use Rattle.rewriter.proofs.PairTurns.{type-right, type-none}
-use Rattle.rewriter.proofs.Descents.{here-first, here-second}
 use borrow.Author.Needs.{needs}
+use Rattle.rewriter.proofs.PairTurns.{type-right, type-none}
 use Rattle.rewriter.proofs.equality.type_rule_at.Statement.{statement}
 use Rattle.rewriter.proofs.equality.type_rule_at.Tie as tie
 use Rattle.rewriter.proofs.equality.type_rule_at.Reads as reads
@@ -10,11 +9,11 @@ use Rattle.rewriter.proofs.own_type.own_type_at.Reads as own-type-at-re
 
 -- src/equality.rt:57:8
 own-type-at-requires : tie.Need-own-type-at-requires
-own-type-at-requires c κs = here-second (c .before .pre)
+own-type-at-requires c κs = search needs
 
 -- src/equality.rt:58:9
 equals-type-at-requires : tie.Need-equals-type-at-requires
-equals-type-at-requires c κs = here-first (c .before .before .before .pre)
+equals-type-at-requires c κs = search needs
 
 -- src/equality.rt:58:9
 returns : tie.Need-returns
