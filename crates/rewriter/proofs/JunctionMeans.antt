@@ -117,7 +117,7 @@ module _ (s st nx : List ℕ) (k r : ℕ) (many : ChildrenPost s st k r) (tag : 
     (ep : p ≡ getD lent 0 0) (d : Decision) where
   pub conj-done : tag ≡ 351 → AbsorbPost s st nx k 610 611 lent x → d ≡ settled x k r p 1 2 → JunctionPost s st nx k lent d
   unfolding simplifyAssocPred
-  conj-done e absorbed ed = record { conj = conj; disj = λ t n Γ y us ks tb f. other t n Γ y us ks tb f }
+  conj-done e absorbed ed = record { long = absorbed .long; conj = conj; disj = λ t n Γ y us ks tb f. other t n Γ y us ks tb f }
     where
       conj : (t : Tree) (n : ℕ) (Γ : Ctx) (y : ℕ) (us : List Ty) (ks : Forest) → Table s t st nx n → find t [] k ≡ found Γ (node (head 351 y us) ks)
           → Means t (node (head 351 y us) ks) Γ lent d (simplifyAssocPred 351 610 611 ks)
@@ -134,7 +134,7 @@ module _ (s st nx : List ℕ) (k r : ℕ) (many : ChildrenPost s st k r) (tag : 
 
   pub disj-done : (tag ≡ 351 → ⊥) → AbsorbPost s st nx k 611 610 lent x → d ≡ settled x k r p 2 1 → JunctionPost s st nx k lent d
   unfolding simplifyAssocPred
-  disj-done e absorbed ed = record { conj = λ t n Γ y us ks tb f. other t n Γ y us ks tb f; disj = disj }
+  disj-done e absorbed ed = record { long = absorbed .long; conj = λ t n Γ y us ks tb f. other t n Γ y us ks tb f; disj = disj }
     where
       disj : (t : Tree) (n : ℕ) (Γ : Ctx) (y : ℕ) (us : List Ty) (ks : Forest) → Table s t st nx n → find t [] k ≡ found Γ (node (head 352 y us) ks)
           → Means t (node (head 352 y us) ks) Γ lent d (simplifyAssocPred 352 611 610 ks)
