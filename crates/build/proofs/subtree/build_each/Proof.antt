@@ -20,7 +20,7 @@ joint-requires c κs = search needs
 
 -- src/subtree.rt:115:9
 put-many-requires : tie.Need-put-many-requires
-put-many-requires c κs = (joint-small _ _ (c .before .joint .ensures), each-count _ _ _ _ _ _ _ _ _ (c .before .before .arity-at .ensures) (c .before .before .before .before .pre))
+put-many-requires c κs = (joint-small (c .before .before .before .before .args .place) _ (c .before .joint .ensures), each-count _ _ _ _ _ _ _ _ _ (c .before .before .arity-at .ensures) (c .before .before .before .before .pre))
 
 -- src/subtree.rt:116:13
 add-c : tie.Need-add-c
