@@ -1,0 +1,2 @@
+// Lines of text and their answers: what the program `simplify` does with its input.
+pub mod put;
