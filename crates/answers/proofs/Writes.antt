@@ -61,12 +61,12 @@ decimal-in (suc k) (suc l) n a b = go (ltb n 10) refl (λ x y. decimal-in k l (n
     go false e ih = let h = ltb-false n 10 e in ap (λ (x : List ℕ). x ++ ((48 + n % 10) ∷ [])) (ih (omega arith) (omega arith))
 
 pub decimal-one : (n : ℕ) → n < 10 → decimal n ≡ (48 + n) ∷ []
-unfolding decimalIn
+unfolding decimal decimalIn
 decimal-one zero h = refl
 decimal-one (suc n) h = rw (lt-ltb (suc n) 10 h)
 
 pub decimal-more : (n : ℕ) → 10 ≤ n → decimal n ≡ decimal (n / 10) ++ ((48 + n % 10) ∷ [])
-unfolding decimalIn
+unfolding decimal decimalIn
 decimal-more zero h = absurd (omega arith)
 decimal-more (suc n) h = rw (le-ltb (suc n) 10 h) (ap (λ (x : List ℕ). x ++ ((48 + suc n % 10) ∷ [])) (decimal-in n (suc n / 10) (suc n / 10) (omega arith) (omega arith)))
 
@@ -117,7 +117,9 @@ frame-written o s part at r h w =
 -- ---- an answer: each part has room where the whole has
 module _ (word : List ℕ) (n : ℕ) (xs : List ℕ) where
   pub ended-length : length (endedText word n xs) ≡ length word + length (decimal n) + length (writeLine xs) + 3
+  unfolding endedText
   ended-length = simp length-append (omega arith)
 
 pub refused-length : (c : ℕ) → length (refusedText c) ≡ length (decimal c) + 9
+unfolding refusedText
 refused-length c = simp length-append (omega arith)

@@ -47,6 +47,10 @@ pub record FramePost (s o : List ℕ) (n : ℕ) (p : List ℕ) (m : ℕ) : Type 
   pub puts : Appends o n (answerText (run s budget lent)) p m
   pub room : m ≤ n + longest
 
+pub record HeldPost (s : List ℕ) (k : ℕ) (o : List ℕ) (n : ℕ) (p : List ℕ) (m : ℕ) : Type 0 where
+  pub puts : k ≤ length s → Appends o n (answerText (run (take k s) budget lent)) p m
+  pub room : m ≤ n + longest
+
 -- ---- a line
 -- state and buffer are those of a line whose characters so far are `held`
 pub record Holds (st : LineState) (b held : List ℕ) : Type 0 where

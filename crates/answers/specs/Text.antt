@@ -25,7 +25,7 @@ decimalIn zero n = (48 + n) ∷ []
 decimalIn (suc k) n = withLast (ltb n 10) n (decimalIn k)
 
 -- a number has no more digits before its last than it counts
-abbrev pub decimal : ℕ → List ℕ
+unfoldable pub decimal : ℕ → List ℕ
 decimal n = decimalIn n n
 
 -- ---- an answer
@@ -37,10 +37,10 @@ wordText FULL = 0x46 ∷ 0x55 ∷ 0x4C ∷ 0x4C ∷ []
 abbrev pub refusedWord : List ℕ
 refusedWord = 0x52 ∷ 0x45 ∷ 0x46 ∷ 0x55 ∷ 0x53 ∷ 0x45 ∷ 0x44 ∷ []
 
-abbrev pub endedText : List ℕ → ℕ → List ℕ → List ℕ
+unfoldable pub endedText : List ℕ → ℕ → List ℕ → List ℕ
 endedText word n xs = word ++ (space ∷ []) ++ decimal n ++ (space ∷ []) ++ writeLine xs ++ (newline ∷ [])
 
-abbrev pub refusedText : ℕ → List ℕ
+unfoldable pub refusedText : ℕ → List ℕ
 refusedText c = refusedWord ++ (space ∷ []) ++ decimal c ++ (newline ∷ [])
 
 unfoldable pub answerText : RunOutcome → List ℕ

@@ -1,3 +1,4 @@
+use Rattle.answers.specs.Text.{endedText}
 use Rattle.answers.proofs.Writes.{appends-then, ended-length}
 use denote.Ref.{now}
 use native.Mathlib.Omega.{arith}
@@ -41,6 +42,7 @@ same-length c = search needs
 
 -- src/put.rt:54:1
 returns : tie.Need-returns
+unfolding endedText
 returns c = appends-then _ _ _ _ _ _ _ _ (appends-then _ _ _ _ _ _ _ _ (appends-then _ _ _ _ _ _ _ _ (appends-then _ _ _ _ _ _ _ _ (appends-then _ _ _ _ _ _ _ _ (c .before .before .before .before .before .before .before .before .before .before .before .before .before .before .before .before .before .before .before .before .before .before .put-text .ensures) (c .before .before .before .before .before .before .before .before .before .before .before .before .before .before .before .before .before .before .put-byte .ensures)) (c .before .before .before .before .before .before .before .before .before .before .before .before .before .before .put-decimal .ensures)) (c .before .before .before .before .before .before .before .before .before .before .put-byte2 .ensures)) (c .before .before .before .before .before .before .put-frame .ensures)) (c .before .before .put-byte3 .ensures)
 
 pub put-ended-spec : {M : Type 1} → statement M

@@ -1,3 +1,4 @@
+use Rattle.answers.specs.Text.{refusedText}
 use Rattle.answers.proofs.Writes.{appends-then, refused-length}
 use native.Mathlib.Omega.{arith}
 use borrow.Author.Needs.{needs}
@@ -15,11 +16,11 @@ slice-aggregate-put-text c = search needs
 
 -- src/put.rt:71:9
 put-text-requires : tie.Need-put-text-requires
-put-text-requires c κs = search needs
+put-text-requires c κs = omega (arith, refused-length (c .before .before .before .args .number))
 
 -- src/put.rt:72:9
 put-byte-requires : tie.Need-put-byte-requires
-put-byte-requires c κs = search needs
+put-byte-requires c κs = omega (arith, refused-length (c .before .before .before .before .before .before .before .args .number), c .before .before .before .put-text .ensures .after)
 
 -- src/put.rt:73:9
 put-decimal-requires : tie.Need-put-decimal-requires
@@ -35,6 +36,7 @@ same-length c = search needs
 
 -- src/put.rt:67:1
 returns : tie.Need-returns
+unfolding refusedText
 returns c = appends-then _ _ _ _ _ _ _ _ (appends-then _ _ _ _ _ _ _ _ (appends-then _ _ _ _ _ _ _ _ (c .before .before .before .before .before .before .before .before .before .before .before .before .before .before .put-text .ensures) (c .before .before .before .before .before .before .before .before .before .before .put-byte .ensures)) (c .before .before .before .before .before .before .put-decimal .ensures)) (c .before .before .put-byte2 .ensures)
 
 pub put-refused-spec : {M : Type 1} → statement M
