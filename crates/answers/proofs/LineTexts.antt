@@ -185,12 +185,12 @@ module _ (st : LineState) (b o : List ℕ) (n : ℕ) (p : List ℕ) (m : ℕ) (r
   unfolding lineText
   line-frame k e h = record {
     puts = λ held hs. (
-      let f = framed held k (sym e ∙ end held (hs .state)) in
-      let w : b ≡ f .s ++ drop (length (f .s)) (hs .old) = hs .buffer ∙ line-buffer held (f .s) (hs .old) (f .is) (f .fits) (omega (arith, hs .long, f .fits)) in
-      let t : take k b ≡ f .s = ap (λ (x : List ℕ). take k x) w ∙ take-at (f .s) (drop (length (f .s)) (hs .old)) k (sym (f .long)) in
-      let l : k ≤ length b = omega (arith, f .long, ap (λ (x : List ℕ). length x) w, length-append (f .s) (drop (length (f .s)) (hs .old))) in
-      let x : lineOutcome (readLine held) ≡ run (take k b) budget lent = ap lineOutcome (f .is) ∙ ap (λ (y : List ℕ). run y budget lent) (sym t) in
-      appends-as o n (answerText (run (take k b) budget lent)) (lineText held) p m (ap answerText (sym x)) (h .puts l)
-    );
+        let f = framed held k (sym e ∙ end held (hs .state)) in
+        let w : b ≡ f .s ++ drop (length (f .s)) (hs .old) = hs .buffer ∙ line-buffer held (f .s) (hs .old) (f .is) (f .fits) (omega (arith, hs .long, f .fits)) in
+        let t : take k b ≡ f .s = ap (λ (x : List ℕ). take k x) w ∙ take-at (f .s) (drop (length (f .s)) (hs .old)) k (sym (f .long)) in
+        let l : k ≤ length b = omega (arith, f .long, ap (λ (x : List ℕ). length x) w, length-append (f .s) (drop (length (f .s)) (hs .old))) in
+        let x : lineOutcome (readLine held) ≡ run (take k b) budget lent = ap lineOutcome (f .is) ∙ ap (λ (y : List ℕ). run y budget lent) (sym t) in
+        appends-as o n (answerText (run (take k b) budget lent)) (lineText held) p m (ap answerText (sym x)) (h .puts l)
+        );
     room = h .room;
   }

@@ -87,22 +87,22 @@ module _ (piece : List ℕ) (st : LineState) (b o : List ℕ) where
         → (st'' : LineState) (b'' : List ℕ) → LineGoes st' b' (take (e - at) (drop at piece)) st'' b'' → Fed (take e piece) st b o st'' b'' o' n
     fed-part st' b' o' n f st'' b'' g = record {
       line = λ held h. (
-        let w = f .line held h in
-        let v = g (w .old) (lastLine (take at piece) held) (w .state) (w .buffer) in
-        let z : lastLine (take e piece) held ≡ lastLine (take at piece) held ++ take (e - at) (drop at piece) =
-        ap (λ (x : List ℕ). lastLine x held) line-part
-        ∙ last-join (take at piece) (take (e - at) (drop at piece)) held
-        ∙ none-answers (take (e - at) (drop at piece)) (lastLine (take at piece) held) (end .none) .1 in
-        subst (λ (x : List ℕ). Holds st'' b'' x) (sym z) (record { old = w .old; long = w .long; state = v .0; buffer = v .1 })
-      );
+          let w = f .line held h in
+          let v = g (w .old) (lastLine (take at piece) held) (w .state) (w .buffer) in
+          let z : lastLine (take e piece) held ≡ lastLine (take at piece) held ++ take (e - at) (drop at piece) =
+          ap (λ (x : List ℕ). lastLine x held) line-part
+          ∙ last-join (take at piece) (take (e - at) (drop at piece)) held
+          ∙ none-answers (take (e - at) (drop at piece)) (lastLine (take at piece) held) (end .none) .1 in
+          subst (λ (x : List ℕ). Holds st'' b'' x) (sym z) (record { old = w .old; long = w .long; state = v .0; buffer = v .1 })
+          );
       puts = λ held h. (
-        let z : answers (take e piece) held ≡ answers (take at piece) held =
-        ap (λ (x : List ℕ). answers x held) line-part
-        ∙ answers-join (take at piece) (take (e - at) (drop at piece)) held
-        ∙ ap (λ (x : List ℕ). answers (take at piece) held ++ x) (none-answers (take (e - at) (drop at piece)) (lastLine (take at piece) held) (end .none) .0)
-        ∙ append-nil (answers (take at piece) held) in
-        appends-as o 0 (answers (take at piece) held) (answers (take e piece) held) o' n (sym z) (f .puts held h)
-      );
+          let z : answers (take e piece) held ≡ answers (take at piece) held =
+          ap (λ (x : List ℕ). answers x held) line-part
+          ∙ answers-join (take at piece) (take (e - at) (drop at piece)) held
+          ∙ ap (λ (x : List ℕ). answers (take at piece) held ++ x) (none-answers (take (e - at) (drop at piece)) (lastLine (take at piece) held) (end .none) .0)
+          ∙ append-nil (answers (take at piece) held) in
+          appends-as o 0 (answers (take at piece) held) (answers (take e piece) held) o' n (sym z) (f .puts held h)
+          );
     }
 
     end-part : e < length piece → take (e + 1) piece ≡ take e piece ++ (newline ∷ [])
@@ -114,22 +114,22 @@ module _ (piece : List ℕ) (st : LineState) (b o : List ℕ) where
     unfolding lineBytes
     fed-end l st' b' o' n f p m q st'' es = record {
       line = λ held h. (
-        let w = f .line held h in
-        let z : lastLine (take (e + 1) piece) held ≡ [] =
-        ap (λ (x : List ℕ). lastLine x held) (end-part l)
-        ∙ last-join (take e piece) (newline ∷ []) held
-        ∙ end-answers (lastLine (take e piece) held) .1 in
-        let k : length b' ≡ frameLimit = ap (λ (x : List ℕ). length x) (w .buffer) ∙ length-sets (w .old) 0 (take frameLimit (lineBytes (lastLine (take e piece) held))) ∙ w .long in
-        subst (λ (x : List ℕ). Holds st'' b' x) (sym z) (record { old = b'; long = k; state = es; buffer = refl })
-      );
+          let w = f .line held h in
+          let z : lastLine (take (e + 1) piece) held ≡ [] =
+          ap (λ (x : List ℕ). lastLine x held) (end-part l)
+          ∙ last-join (take e piece) (newline ∷ []) held
+          ∙ end-answers (lastLine (take e piece) held) .1 in
+          let k : length b' ≡ frameLimit = ap (λ (x : List ℕ). length x) (w .buffer) ∙ length-sets (w .old) 0 (take frameLimit (lineBytes (lastLine (take e piece) held))) ∙ w .long in
+          subst (λ (x : List ℕ). Holds st'' b' x) (sym z) (record { old = b'; long = k; state = es; buffer = refl })
+          );
       puts = λ held h. (
-        let z : answers (take (e + 1) piece) held ≡ answers (take e piece) held ++ lineText (lastLine (take e piece) held) =
-        ap (λ (x : List ℕ). answers x held) (end-part l)
-        ∙ answers-join (take e piece) (newline ∷ []) held
-        ∙ ap (λ (x : List ℕ). answers (take e piece) held ++ x) (end-answers (lastLine (take e piece) held) .0) in
-        let a = appends-then o 0 (answers (take e piece) held) o' n (lineText (lastLine (take e piece) held)) p m (f .puts held h) (q .puts (lastLine (take e piece) held) (f .line held h)) in
-        appends-as o 0 (answers (take e piece) held ++ lineText (lastLine (take e piece) held)) (answers (take (e + 1) piece) held) p m (sym z) a
-      );
+          let z : answers (take (e + 1) piece) held ≡ answers (take e piece) held ++ lineText (lastLine (take e piece) held) =
+          ap (λ (x : List ℕ). answers x held) (end-part l)
+          ∙ answers-join (take e piece) (newline ∷ []) held
+          ∙ ap (λ (x : List ℕ). answers (take e piece) held ++ x) (end-answers (lastLine (take e piece) held) .0) in
+          let a = appends-then o 0 (answers (take e piece) held) o' n (lineText (lastLine (take e piece) held)) p m (f .puts held h) (q .puts (lastLine (take e piece) held) (f .line held h)) in
+          appends-as o 0 (answers (take e piece) held ++ lineText (lastLine (take e piece) held)) (answers (take (e + 1) piece) held) p m (sym z) a
+          );
     }
 
 -- ---- `finish`

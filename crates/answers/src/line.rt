@@ -1,9 +1,9 @@
 // A line and its answer.
 use crate::put::put_ended;
 use crate::put::put_refused;
-use frame::lines::line_end;
 use frame::lines::LineAnswer;
 use frame::lines::LineState;
+use frame::lines::line_end;
 use run::RunAnswer;
 ghost use Prim.Native.Nat.{_+_, _≤_};
 ghost use lib.ListN.{length};

@@ -7,6 +7,7 @@ ghost use Rattle.answers.specs.Text.{decimal, endedText, refusedText};
 ghost use Rattle.answers.specs.Posts.{Appends};
 
 const SPACE: u8 = 0x20;
+
 const NEWLINE: u8 = 0x0A;
 
 fn put_byte(out: &mut [u8], at: usize, b: u8) -> usize

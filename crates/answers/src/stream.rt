@@ -1,8 +1,8 @@
 // The input in pieces of any size: the lines that end in a piece, and the line that goes on after it.
 use crate::line::put_line;
+use frame::lines::LineState;
 use frame::lines::line_piece;
 use frame::lines::line_start;
-use frame::lines::LineState;
 ghost use Prim.Native.Nat.{_≤_};
 ghost use lib.ListN.{length};
 ghost use Rattle.answers.specs.Posts.{longest, EndPost, FeedPost, FinishPost};
