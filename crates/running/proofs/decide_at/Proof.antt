@@ -1,3 +1,5 @@
+use Rattle.running.proofs.Turns.{at-expression, at-decided}
+use Rattle.rewriter.proofs.Shapes.{here-placed}
 use borrow.Author.Needs.{needs}
 use Rattle.running.proofs.decide_at.Statement.{statement}
 use Rattle.running.proofs.decide_at.Tie as tie
@@ -8,11 +10,11 @@ use Rattle.rewriter.proofs.dispatch.decide.Reads as decide-reads
 
 -- src/lib.rt:41:8
 is-expression-at-requires : tie.Need-is-expression-at-requires
-is-expression-at-requires c κs = ?
+is-expression-at-requires c κs = here-placed (c .before .pre .here)
 
 -- src/lib.rt:42:9
 returns : tie.Need-returns
-returns c = ?
+returns c = at-expression _ _ _ _ _ (c .before .is-expression-at .ensures) (c .if1 .taken) _ (c .before .before .before .pre .long)
 
 -- src/lib.rt:44:5
 decide-requires : tie.Need-decide-requires
@@ -20,7 +22,7 @@ decide-requires c κs = search needs
 
 -- src/lib.rt:31:1
 returns-2 : tie.Need-returns-2
-returns-2 c = ?
+returns-2 c = at-decided _ _ _ _ _ (c .before .before .before .is-expression-at .ensures) (c .before .before .if1 .left) _ _ (c .decide .ensures)
 
 pub decide-at-spec : {M : Type 1} → statement M
 decide-at-spec = tie.close (tie.spec is-expression-at-requires returns decide-requires returns-2)
