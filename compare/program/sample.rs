@@ -1,0 +1,1 @@
+pub fn lines(_seed: u64) -> Vec<String> { vec![] }
