@@ -1,11 +1,9 @@
 //! Left sides of the rules of docs/RULES.md at random. An earlier rule may come first by chance.
 use rossi::formula::Type;
 
-use crate::generate::{Bytes, Generator, bound, many, node, quantified, type_expression, typed};
+use crate::bytes::{Bytes, FALSE, TRUE, bound, many, node, quantified, type_expression, typed};
+use crate::generate::Generator;
 use crate::rules::{EQUALS_EMPTY_SET, EQUALS_TYPE, FINITE, NOT, Table};
-
-const TRUE: u16 = 610;
-const FALSE: u16 = 611;
 
 fn not(p: Bytes) -> Bytes {
     node(701, &[p])

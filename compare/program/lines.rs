@@ -1,6 +1,7 @@
 //! Lines for `step` at random: accepted frames, frames with one thing altered, damaged frames; places and lent outputs of all kinds.
+use crate::bytes::{Bytes, FALSE, TRUE, node};
 use crate::frame::{self, Body, FRAME_LIMIT, Place, row};
-use crate::generate::{Bytes, Generator, node};
+use crate::generate::Generator;
 use crate::step::replaced;
 use crate::text::to_hex;
 
@@ -13,7 +14,7 @@ fn spliced(bytes: &[u8], start: usize, end: usize, new: &[u8]) -> Bytes {
 }
 
 /// The places of a node's operands.
-fn operands(places: &[Place], of: usize) -> Vec<usize> {
+pub fn operands(places: &[Place], of: usize) -> Vec<usize> {
     let mut list: Vec<usize> = Vec::new();
     for k in of + 1..places.len() {
         let from = list.last().map_or(places[of].start, |last| places[*last].end);
@@ -40,13 +41,21 @@ impl Lines {
     pub fn frame(&mut self) -> Bytes {
         loop {
             self.g.wide = self.g.random.one_in(10);
+            self.g.huge = self.g.random.one_in(100);
             let most = self.g.random.of(&[4, 8, 16, 16, 32, 32, 64, if self.g.wide { 600 } else { 100 }]);
-            self.g.restart(most);
-            let bytes = self.g.pred();
+            self.g.restart(if self.g.huge { 1 } else { most });
+            let bytes = if self.g.huge { self.long() } else { self.g.pred() };
+            self.g.huge = false;
             if frame::read(&bytes).is_ok() {
                 return bytes;
             }
         }
+    }
+
+    /// A left side with many operands, whose right side is longer.
+    fn long(&mut self) -> Bytes {
+        let rule = self.g.random.of(&[6, 24, 39, 58, 85, 85, 86, 86]);
+        self.g.left_side(rule)
     }
 
     fn same_row_tag(&mut self, tag: u16) -> u16 {
@@ -54,10 +63,14 @@ impl Lines {
         self.g.random.of(&same)
     }
 
-    /// One thing altered in an accepted frame; it may be accepted or not.
-    pub fn altered(&mut self, bytes: &[u8]) -> Bytes {
+    /// One thing altered in an accepted frame, at a place or below it; the new frame may be accepted or not.
+    pub fn altered(&mut self, bytes: &[u8], below: usize) -> Bytes {
         let places = frame::read(bytes).unwrap_or_else(|n| panic!("an accepted frame, not {n}"));
-        let at = self.g.random.below(places.len());
+        let inside = places[below..].iter().take_while(|p| p.start < places[below].end).count();
+        // identifiers, bound or not, somewhat more often
+        let names: Vec<usize> = (below..below + inside).filter(|k| matches!(bytes[places[*k].start..], [0, 1 | 3, ..])).collect();
+        let by_name = !names.is_empty() && self.g.random.one_in(4);
+        let at = if by_name { self.g.random.of(&names) } else { below + self.g.random.below(inside) };
         let Place { start, end, ref pred } = places[at];
         let tag = u16::from_be_bytes([bytes[start], bytes[start + 1]]);
         let kids = operands(&places, at);
@@ -75,8 +88,8 @@ impl Lines {
             }
             4 if pred.is_some() => match self.g.random.below(3) {
                 0 => spliced(bytes, start, start, &node(701, &[])),
-                1 => spliced(bytes, start, end, &node(610, &[])),
-                _ => spliced(bytes, start, end, &node(611, &[])),
+                1 => spliced(bytes, start, end, &node(TRUE, &[])),
+                _ => spliced(bytes, start, end, &node(FALSE, &[])),
             },
             5 if matches!(row(tag), Some((_, Body::Many(..)))) => {
                 let kid = &places[self.g.random.of(&kids)];
@@ -101,7 +114,7 @@ impl Lines {
     }
 
     /// Altered in some way that knows nothing of nodes.
-    fn damaged(&mut self, bytes: &[u8]) -> Bytes {
+    pub fn damaged(&mut self, bytes: &[u8]) -> Bytes {
         let mut out = bytes.to_vec();
         for _ in 0..self.g.random.of(&[1, 1, 1, 2, 3]) {
             let at = self.g.random.below(out.len().max(1));
@@ -144,7 +157,7 @@ impl Lines {
     pub fn next(&mut self) -> String {
         let whole = self.frame();
         let bytes = match self.g.random.below(8) {
-            0 => self.altered(&whole),
+            0 => self.altered(&whole, 0),
             1 | 2 => self.damaged(&whole),
             _ => whole,
         };

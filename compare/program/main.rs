@@ -5,6 +5,7 @@ extern crate self as rossi;
 
 mod ast;
 mod builtins;
+mod bytes;
 mod formula;
 mod frame;
 mod generate;
