@@ -216,6 +216,79 @@ fn document_lines(out: &mut Vec<String>) {
     out.extend(frames.iter().map(|f| line(0, 4096, f)));
 }
 
+/// Negations that are unwrapped, on both sides.
+fn negation_lines(out: &mut Vec<String>) {
+    let [p, q] = [7, 8].map(|n| equal(&named(n, &Type::Bool), &node(405, &[])));
+    let not = |x: &Bytes| node(701, &[x.clone()]);
+    let lie = node(611, &[]);
+    for tag in [251, 252] {
+        for sides in [[not(&p), lie.clone()], [lie.clone(), not(&p)], [not(&not(&p)), not(&p)], [not(&p), not(&not(&p))]] {
+            out.push(line(0, 4096, &node(tag, &sides)));
+        }
+    }
+    for (one, conclusion) in [(not(&p), p.clone()), (p.clone(), not(&p)), (not(&not(&p)), not(&p)), (not(&p), not(&not(&p)))] {
+        let among = |tag| node(251, &[many(tag, &[q.clone(), one.clone()]), conclusion.clone()]);
+        out.push(line(0, 4096, &among(351)));
+        out.push(line(0, 4096, &among(352)));
+        out.push(line(0, 4096, &many(352, &[q.clone(), one.clone(), conclusion.clone()])));
+    }
+}
+
+/// finite({x·⊤ ∣ E ↦ F}), its binders recovered or not.
+fn comprehension_lines(out: &mut Vec<String>) {
+    let pair = |l: &Bytes, r: &Bytes| node(201, &[l.clone(), r.clone()]);
+    let single = |e: Bytes| many(5, &[e]);
+    let inside = |index| quantified(803, &[Type::Bool], &[truth(), bound(index)]);
+    let [x, y, outer] = [1, 0, 2].map(bound);
+    let values = [
+        pair(&y, &x),
+        pair(&x, &y),
+        pair(&y, &outer),
+        pair(&outer, &y),
+        pair(&pair(&x, &y), &pair(&y, &x)),
+        pair(&pair(&x, &outer), &pair(&outer, &x)),
+        pair(&pair(&x, &outer), &y),
+        pair(&single(x.clone()), &x),
+        pair(&pair(&single(y.clone()), &x), &x),
+        pair(&x, &inside(2)),
+        pair(&y, &inside(2)),
+        pair(&y, &inside(0)),
+        pair(&y, &inside(3)),
+        pair(&inside(2), &x),
+        pair(&node(405, &[]), &node(405, &[])),
+        y.clone(),
+    ];
+    for value in values {
+        let set = quantified(803, &[Type::Bool, Type::Bool], &[truth(), value]);
+        out.push(line(1, 4096, &quantified(851, &[Type::Bool], &[node(620, &[set])])));
+    }
+    for index in [0, 30, 31] {
+        let set = quantified(803, &vec![Type::Bool; 32], &[truth(), pair(&bound(31), &bound(index))]);
+        out.push(line(0, 4096, &node(620, &[set])));
+    }
+}
+
+/// The type expression of its own elements and what is none; ∅ on either side of a relation.
+fn type_lines(out: &mut Vec<String>) {
+    let (set, bools) = (Type::pow(Type::Bool), node(404, &[]));
+    let relations = Type::relation(Type::Bool, Type::Bool);
+    let [r, s] = [3, 4].map(|n| named(n, &Type::pow(relations.clone())));
+    let both = many(302, &[r, s]);
+    let all = type_expression(&relations);
+    let arrow = node(202, &[bools.clone(), bools.clone()]);
+    for (tag, other) in [(101, &all), (101, &arrow), (111, &all), (102, &all)] {
+        out.push(line(0, 4096, &node(tag, &[both.clone(), other.clone()])));
+        out.push(line(0, 4096, &node(tag, &[other.clone(), both.clone()])));
+    }
+    let empty = typed(407, &set);
+    for side in [bools.clone(), empty.clone(), many(301, &[empty.clone(), bools]), named(1, &set)] {
+        for tag in [101, 102, 111] {
+            out.push(line(0, 4096, &node(tag, &[side.clone(), empty.clone()])));
+            out.push(line(0, 4096, &node(tag, &[empty.clone(), side.clone()])));
+        }
+    }
+}
+
 /// Lines of another form.
 fn malformed_lines(out: &mut Vec<String>) {
     let forms = [
@@ -251,6 +324,9 @@ pub fn lines(seed: u64) -> Vec<String> {
     let mut made = Lines::new(seed);
     let mut out = Vec::new();
     document_lines(&mut out);
+    negation_lines(&mut out);
+    comprehension_lines(&mut out);
+    type_lines(&mut out);
     (1..=87).for_each(|rule| made.rule_lines(rule, &mut out));
     made.refused_lines(&mut out);
     made.place_lines(&mut out);
