@@ -6,4 +6,3 @@ pub mod ProgramTable
 pub mod Onto
 pub mod RightSides
 pub mod Joins
-pub mod Fillings

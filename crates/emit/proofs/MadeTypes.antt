@@ -10,19 +10,26 @@ use Rattle.frame.specs.Encoding.{encNumber, encTy, enc}
 use Rattle.frame.specs.Spans.{Spans}
 use Rattle.frame.proofs.Spans.{span-first, span-left, span-right}
 use Rattle.frame.proofs.Inversion.{true-not}
-use Rattle.typing.specs.Typing.{element, source, target, relation}
+use Rattle.typing.specs.Typing.{element, first, second}
 use Rattle.typing.specs.TypeExpression.{toExpression}
 use Rattle.emit.specs.Out.{Puts}
 use Rattle.emit.specs.Copied.{between}
 use Rattle.emit.specs.Written.{TypeAt, HasType, TypeEnd, Expressed}
 use Rattle.emit.specs.Template.{Mode, whole, ofDom, ofRan, ofElement, ofElements, ofSource, made}
 use Rattle.emit.specs.Programs.{modeCode}
-use Rattle.emit.specs.Holds.{shape, MadeFrom, CanMake, inner, powered, powerCode, InnerAt, MadeType, MadeExpression}
+use Rattle.emit.specs.Holds.{boolAt, MadeFrom, HasParts, PartAt, CanMake, inner, powered, powerCode, InnerAt, MadeType, MadeExpression}
 use Rattle.emit.specs.declared.type_expression.Written.{Written}
 use Rattle.emit.proofs.Puts.{puts-then, puts-as, between-span}
 use Rattle.emit.proofs.TypeBytes.{type-at, pow-bytes}
 
 -- ---- a power's type and a product's types, further on
+abbrev typeByte : Ty → ℕ
+typeByte bool = 0
+typeByte int = 1
+typeByte (given n) = 2
+typeByte (pow t) = 3
+typeByte (prod t u) = 4
+
 pow-below : (s : List ℕ) (at : ℕ) (t : Ty) → TypeAt s at (pow t) → TypeAt s (at + 1) t
 unfolding encTy
 pow-below s at t h = type-at t (span-first h .rest)
@@ -35,85 +42,158 @@ prod-second : (s : List ℕ) (at : ℕ) (t u : Ty) → TypeAt s at (prod t u) �
 unfolding encTy
 prod-second s at t u h = type-at u (span-right (encTy t) (encTy u) (span-first h .rest))
 
--- two further on, as the code counts
-moved : (s : List ℕ) (at : ℕ) (t : Ty) → TypeAt s (at + 1 + 1) t → TypeAt s (at + 2) t
-moved s at t h = let z : at + 1 + 1 ≡ at + 2 = omega arith in subst (λ (i : ℕ). TypeAt s i t) z h
+-- ---- a type's parts: `element_at`, `first_at`, `second_at`
+module _ (s : List ℕ) (at : ℕ) where
+  -- the first byte says which type it is
+  byte-of : (t : Ty) → TypeAt s at t → getD s at 0 ≡ typeByte t
+  unfolding encTy
+  byte-of bool h = span-first h .byte
+  byte-of int h = span-first h .byte
+  byte-of (given n) h = span-first h .byte
+  byte-of (pow t) h = span-first h .byte
+  byte-of (prod t u) h = span-first h .byte
 
-module _ (s : List ℕ) (at : ℕ) (t : Ty) where
-  related : t ≡ relation (source t) (target t) → TypeAt s at t → TypeAt s (at + 1) (prod (source t) (target t))
-  related e h = pow-below s at _ (subst (λ (u : Ty). TypeAt s at u) e h)
+  within-of : (t : Ty) → TypeAt s at t → at < length s
+  unfolding encTy
+  within-of bool h = span-first h .within
+  within-of int h = span-first h .within
+  within-of (given n) h = span-first h .within
+  within-of (pow t) h = span-first h .within
+  within-of (prod t u) h = span-first h .within
 
-  source-there : t ≡ relation (source t) (target t) → TypeAt s at t → TypeAt s (at + 2) (source t)
-  source-there e h = moved s at (source t) (prod-first s (at + 1) (source t) (target t) (related e h))
+  pub parts-within : HasParts s at → at < length s
+  parts-within w = within-of (w .0) (w .1 .1)
 
-  target-there : (p : ℕ) → t ≡ relation (source t) (target t) → TypeAt s at t → TypeEnd s (at + 2) p → TypeAt s p (target t)
-  target-there p e h l =
-      let z : at + 1 + 1 + length (encTy (source t)) ≡ p = omega (arith, l .end (source t) (source-there e h)) in
-      subst (λ (i : ℕ). TypeAt s i (target t)) z (prod-second s (at + 1) (source t) (target t) (related e h))
+  pub parts-has : HasParts s at → HasType s at
+  parts-has w = (w .0, w .1 .1)
 
-  element-there : t ≡ pow (element t) → TypeAt s at t → TypeAt s (at + 1) (element t)
-  element-there e h = pow-below s at _ (subst (λ (u : Ty). TypeAt s at u) e h)
+  pub element-below : getD s at 0 ≡ 3 → PartAt element s at (at + 1)
+  element-below e = record { there = λ t h. go t (h .1) (sym (byte-of t (h .1)) ∙ e) }
+    where
+      go : (t : Ty) → TypeAt s at t → typeByte t ≡ 3 → TypeAt s (at + 1) (element t)
+      go bool h z = absurd (omega arith)
+      go int h z = absurd (omega arith)
+      go (given n) h z = absurd (omega arith)
+      go (pow t) h z = pow-below s at t h
+      go (prod t u) h z = absurd (omega arith)
 
-  elements-there : t ≡ pow (pow (element (element t))) → TypeAt s at t → TypeAt s (at + 2) (element (element t))
-  elements-there e h = moved s at _ (pow-below s (at + 1) _ (pow-below s at _ (subst (λ (u : Ty). TypeAt s at u) e h)))
+  pub element-none : (getD s at 0 ≡ 3 → ⊥) → PartAt element s at boolAt
+  element-none d = record { there = λ t h. go t (h .0) (λ z. d (byte-of t (h .1) ∙ z)) }
+    where
+      go : (t : Ty) → TypeAt s boolAt bool → (typeByte t ≡ 3 → ⊥) → TypeAt s boolAt (element t)
+      go bool h z = h
+      go int h z = h
+      go (given n) h z = h
+      go (pow t) h z = absurd (z refl)
+      go (prod t u) h z = h
+
+  pub first-below : getD s at 0 ≡ 4 → PartAt first s at (at + 1)
+  first-below e = record { there = λ t h. go t (h .1) (sym (byte-of t (h .1)) ∙ e) }
+    where
+      go : (t : Ty) → TypeAt s at t → typeByte t ≡ 4 → TypeAt s (at + 1) (first t)
+      go bool h z = absurd (omega arith)
+      go int h z = absurd (omega arith)
+      go (given n) h z = absurd (omega arith)
+      go (pow t) h z = absurd (omega arith)
+      go (prod t u) h z = prod-first s at t u h
+
+  -- a product has a first type, behind which the second stands
+  pub product-has : getD s at 0 ≡ 4 → HasParts s at → HasType s (at + 1)
+  product-has e w = (first (w .0), first-below e .there (w .0) (w .1))
+
+  pub second-below : getD s at 0 ≡ 4 → (p : ℕ) → TypeEnd s (at + 1) p → PartAt second s at p
+  second-below e p l = record { there = λ t h. go t (h .1) (sym (byte-of t (h .1)) ∙ e) }
+    where
+      go : (t : Ty) → TypeAt s at t → typeByte t ≡ 4 → TypeAt s p (second t)
+      go bool h z = absurd (omega arith)
+      go int h z = absurd (omega arith)
+      go (given n) h z = absurd (omega arith)
+      go (pow t) h z = absurd (omega arith)
+      go (prod t u) h z = subst (λ (i : ℕ). TypeAt s i u) (sym (l .end t (prod-first s at t u h))) (prod-second s at t u h)
+
+  module _ (d : getD s at 0 ≡ 4 → ⊥) where
+    no-product : (t : Ty) → TypeAt s at t → (first t ≡ bool) × (second t ≡ bool)
+    no-product t h = go t (λ z. d (byte-of t h ∙ z))
+      where
+        go : (t : Ty) → (typeByte t ≡ 4 → ⊥) → (first t ≡ bool) × (second t ≡ bool)
+        go bool z = (refl, refl)
+        go int z = (refl, refl)
+        go (given n) z = (refl, refl)
+        go (pow t) z = (refl, refl)
+        go (prod t u) z = absurd (z refl)
+
+    pub first-none : PartAt first s at boolAt
+    first-none = record { there = λ t h. subst (λ (u : Ty). TypeAt s boolAt u) (sym (no-product t (h .1) .0)) (h .0) }
+
+    pub second-none : PartAt second s at boolAt
+    second-none = record { there = λ t h. subst (λ (u : Ty). TypeAt s boolAt u) (sym (no-product t (h .1) .1)) (h .0) }
 
 -- ---- `inner_at`
 module _ (s : List ℕ) (at c : ℕ) where
-  there-whole : (m : Mode) (t : Ty) → c ≡ 0 → c ≡ modeCode m → MadeFrom s at m t → TypeAt s at (inner m t)
-  there-whole whole t e k h = h .1
-  there-whole ofDom t e k h = absurd (omega arith)
-  there-whole ofRan t e k h = absurd (omega arith)
-  there-whole ofElement t e k h = absurd (omega arith)
-  there-whole ofElements t e k h = absurd (omega arith)
-  there-whole ofSource t e k h = absurd (omega arith)
-
-  there-ran : (p : ℕ) → TypeEnd s (at + 2) p → (m : Mode) (t : Ty) → c ≡ 2 → c ≡ modeCode m → MadeFrom s at m t → TypeAt s p (inner m t)
-  there-ran p l whole t e k h = absurd (omega arith)
-  there-ran p l ofDom t e k h = absurd (omega arith)
-  there-ran p l ofRan t e k h = target-there s at t p (h .0) (h .1) l
-  there-ran p l ofElement t e k h = absurd (omega arith)
-  there-ran p l ofElements t e k h = absurd (omega arith)
-  there-ran p l ofSource t e k h = absurd (omega arith)
-
-  there-element : (m : Mode) (t : Ty) → c ≡ 3 → c ≡ modeCode m → MadeFrom s at m t → TypeAt s (at + 1) (inner m t)
-  there-element whole t e k h = absurd (omega arith)
-  there-element ofDom t e k h = absurd (omega arith)
-  there-element ofRan t e k h = absurd (omega arith)
-  there-element ofElement t e k h = element-there s at t (h .0) (h .1)
-  there-element ofElements t e k h = absurd (omega arith)
-  there-element ofSource t e k h = absurd (omega arith)
-
-  there-rest : (m : Mode) (t : Ty) → (c ≡ 0 → ⊥) → (c ≡ 2 → ⊥) → (c ≡ 3 → ⊥) → c ≡ modeCode m → MadeFrom s at m t → TypeAt s (at + 2) (inner m t)
-  there-rest whole t x y z k h = absurd (x k)
-  there-rest ofDom t x y z k h = source-there s at t (h .0) (h .1)
-  there-rest ofRan t x y z k h = absurd (y k)
-  there-rest ofElement t x y z k h = absurd (z k)
-  there-rest ofElements t x y z k h = elements-there s at t (h .0) (h .1)
-  there-rest ofSource t x y z k h = source-there s at t (h .0) (h .1)
+  pub make-has : CanMake s at c → HasParts s at
+  make-has w = (w .1, w .3)
 
   pub inner-whole : c ≡ 0 → InnerAt s at c at
-  inner-whole e = record { there = λ m t. there-whole m t e }
+  inner-whole e = record { there = λ m t k h. go m t k (h .1) }
+    where
+      go : (m : Mode) (t : Ty) → c ≡ modeCode m → TypeAt s at t → TypeAt s at (inner m t)
+      go whole t k h = h
+      go ofDom t k h = absurd (omega arith)
+      go ofRan t k h = absurd (omega arith)
+      go ofElement t k h = absurd (omega arith)
+      go ofElements t k h = absurd (omega arith)
+      go ofSource t k h = absurd (omega arith)
 
-  pub inner-ran : (p : ℕ) → c ≡ 2 → TypeEnd s (at + 2) p → InnerAt s at c p
-  inner-ran p e l = record { there = λ m t. there-ran p l m t e }
+  module _ (e : ℕ) (pe : PartAt element s at e) where
+    element-made : (t : Ty) → MadeFrom s at t → MadeFrom s e (element t)
+    element-made t h = (h .0, pe .there t h)
 
-  pub inner-element : c ≡ 3 → InnerAt s at c (at + 1)
-  inner-element e = record { there = λ m t. there-element m t e }
+    pub element-has : CanMake s at c → HasParts s e
+    element-has w = (element (w .1), element-made (w .1) (w .3))
 
-  pub inner-rest : (c ≡ 0 → ⊥) → (c ≡ 2 → ⊥) → (c ≡ 3 → ⊥) → InnerAt s at c (at + 2)
-  inner-rest x y z = record { there = λ m t. there-rest m t x y z }
+    pub inner-ran : c ≡ 2 → (p : ℕ) → PartAt second s e p → InnerAt s at c p
+    inner-ran z p q = record { there = λ m t k h. go m t k h }
+      where
+        go : (m : Mode) (t : Ty) → c ≡ modeCode m → MadeFrom s at t → TypeAt s p (inner m t)
+        go whole t k h = absurd (omega arith)
+        go ofDom t k h = absurd (omega arith)
+        go ofRan t k h = q .there (element t) (element-made t h)
+        go ofElement t k h = absurd (omega arith)
+        go ofElements t k h = absurd (omega arith)
+        go ofSource t k h = absurd (omega arith)
 
-  -- the source of a relation stands before its target
-  ran-source : (m : Mode) (t : Ty) → c ≡ 2 → c ≡ modeCode m → MadeFrom s at m t → TypeAt s (at + 2) (source t)
-  ran-source whole t e k h = absurd (omega arith)
-  ran-source ofDom t e k h = absurd (omega arith)
-  ran-source ofRan t e k h = source-there s at t (h .0) (h .1)
-  ran-source ofElement t e k h = absurd (omega arith)
-  ran-source ofElements t e k h = absurd (omega arith)
-  ran-source ofSource t e k h = absurd (omega arith)
+    pub inner-element : c ≡ 3 → InnerAt s at c e
+    inner-element z = record { there = λ m t k h. go m t k h }
+      where
+        go : (m : Mode) (t : Ty) → c ≡ modeCode m → MadeFrom s at t → TypeAt s e (inner m t)
+        go whole t k h = absurd (omega arith)
+        go ofDom t k h = absurd (omega arith)
+        go ofRan t k h = absurd (omega arith)
+        go ofElement t k h = pe .there t h
+        go ofElements t k h = absurd (omega arith)
+        go ofSource t k h = absurd (omega arith)
 
-  pub source-has : CanMake s at c → c ≡ 2 → HasType s (at + 2)
-  source-has w e = (source (w .1), ran-source (w .0) (w .1) e (w .2) (w .3))
+    pub inner-elements : c ≡ 4 → (p : ℕ) → PartAt element s e p → InnerAt s at c p
+    inner-elements z p q = record { there = λ m t k h. go m t k h }
+      where
+        go : (m : Mode) (t : Ty) → c ≡ modeCode m → MadeFrom s at t → TypeAt s p (inner m t)
+        go whole t k h = absurd (omega arith)
+        go ofDom t k h = absurd (omega arith)
+        go ofRan t k h = absurd (omega arith)
+        go ofElement t k h = absurd (omega arith)
+        go ofElements t k h = q .there (element t) (element-made t h)
+        go ofSource t k h = absurd (omega arith)
+
+    pub inner-rest : (c ≡ 0 → ⊥) → (c ≡ 2 → ⊥) → (c ≡ 3 → ⊥) → (c ≡ 4 → ⊥) → (p : ℕ) → PartAt first s e p → InnerAt s at c p
+    inner-rest x y z u p q = record { there = λ m t k h. go m t k h }
+      where
+        go : (m : Mode) (t : Ty) → c ≡ modeCode m → MadeFrom s at t → TypeAt s p (inner m t)
+        go whole t k h = absurd (x k)
+        go ofDom t k h = q .there (element t) (element-made t h)
+        go ofRan t k h = absurd (y k)
+        go ofElement t k h = absurd (z k)
+        go ofElements t k h = absurd (u k)
+        go ofSource t k h = q .there (element t) (element-made t h)
 
   pub inner-has : (p : ℕ) → CanMake s at c → InnerAt s at c p → HasType s p
   inner-has p w v = (inner (w .0) (w .1), v .there (w .0) (w .1) (w .2) (w .3))

@@ -4,10 +4,10 @@ use mathlib.Core.Bool.{Bool, true, false}
 use mathlib.Core.List.{List, [], _∷_}
 use Prim.Native.Nat.{ℕ, zero, suc, _+_, _≤_, _<_}
 use lib.ListN.{length}
-use Rattle.frame.specs.Types.{Ty, pow, prod}
+use Rattle.frame.specs.Types.{Ty, bool}
 use Rattle.frame.specs.Encoding.{encTys, encTy, enc}
 use Rattle.frame.specs.Spans.{Spans}
-use Rattle.typing.specs.Typing.{element, source, target, relation}
+use Rattle.typing.specs.Typing.{element, source, target}
 use Rattle.typing.specs.TypeExpression.{toExpression}
 use Rattle.emit.specs.Out.{Puts}
 use Rattle.emit.specs.Written.{TypeAt}
@@ -28,26 +28,30 @@ abbrev pub typeOfOperand : Ranges → ℕ → ℕ
 typeOfOperand r zero = r .«first_type»
 typeOfOperand r (suc i) = r .«second_type»
 
--- the form of an operand's type from which a type can be made so
-abbrev pub shape : Mode → Ty → Ty
-shape whole t = t
-shape ofDom t = relation (source t) (target t)
-shape ofRan t = relation (source t) (target t)
-shape ofElement t = pow (element t)
-shape ofElements t = pow (pow (element (element t)))
-shape ofSource t = relation (source t) (target t)
+-- where BOOL stands in the types' buffer: it is the part of a type that has no such part (`element`, `first` and `second` of
+-- typing's definitions)
+abbrev pub boolAt : ℕ
+boolAt = 128
 
--- the bytes of t stand at `at`, and t has the form
-abbrev pub MadeFrom : List ℕ → ℕ → Mode → Ty → Type 0
-MadeFrom types at m t = (t ≡ shape m t) × TypeAt types at t
+-- the bytes of t stand at `at`, and those of BOOL in their place
+abbrev pub MadeFrom : List ℕ → ℕ → Ty → Type 0
+MadeFrom types at t = TypeAt types boolAt bool × TypeAt types at t
+
+-- some type's do
+abbrev pub HasParts : List ℕ → ℕ → Type 0
+HasParts types at = (t : Ty) × MadeFrom types at t
+
+-- r is where that part stands of the type at `at`
+pub record PartAt (f : Ty → Ty) (types : List ℕ) (at r : ℕ) : Type 0 where
+  pub there : (t : Ty) → MadeFrom types at t → TypeAt types r (f t)
 
 -- what a part asks of the buffers: s has the operands and the binders, types the operands' types
 abbrev pub HoldsPart : List ℕ → List ℕ → Ranges → Filling → Part → Type 0
 HoldsPart s types r f (tag g) = Unit {0}
 HoldsPart s types r f (byte c) = Unit {0}
 HoldsPart s types r f (operand i) = Spans s (fromOf r i) (endOf r i) (enc (operandAt i (f .operands)))
-HoldsPart s types r f (type m i) = MadeFrom types (typeOfOperand r i) m (typeAt i (f .types))
-HoldsPart s types r f (expression m i) = MadeFrom types (typeOfOperand r i) m (typeAt i (f .types))
+HoldsPart s types r f (type m i) = MadeFrom types (typeOfOperand r i) (typeAt i (f .types))
+HoldsPart s types r f (expression m i) = MadeFrom types (typeOfOperand r i) (typeAt i (f .types))
 HoldsPart s types r f binders = Spans s (r .binders) (r .«binders_end») (length (f .binderTypes) ∷ encTys (f .binderTypes))
 
 -- the same for all parts. Tags and bytes ask for nothing and are left out, so that at a given place this is what its operands,
@@ -63,7 +67,7 @@ Holds s types r f (binders ∷ ps) = HoldsPart s types r f binders × Holds s ty
 
 -- ---- a type made from the type at `at`, by the mode with this code
 abbrev pub CanMake : List ℕ → ℕ → ℕ → Type 0
-CanMake types at c = (m : Mode) × (t : Ty) × (c ≡ modeCode m) × MadeFrom types at m t
+CanMake types at c = (m : Mode) × (t : Ty) × (c ≡ modeCode m) × MadeFrom types at t
 
 -- the type behind a power, or the made type itself: of dom(r) and ran(r) that of their elements
 abbrev pub inner : Mode → Ty → Ty
@@ -90,13 +94,13 @@ powerCode (suc (suc zero)) = true
 powerCode (suc (suc (suc c))) = false
 
 pub record InnerAt (types : List ℕ) (at c p : ℕ) : Type 0 where
-  pub there : (m : Mode) (t : Ty) → c ≡ modeCode m → MadeFrom types at m t → TypeAt types p (inner m t)
+  pub there : (m : Mode) (t : Ty) → c ≡ modeCode m → MadeFrom types at t → TypeAt types p (inner m t)
 
 pub record MadeType (types : List ℕ) (at c : ℕ) (o : List ℕ) (n : ℕ) (p : List ℕ) (k : ℕ) : Type 0 where
-  pub puts : (m : Mode) (t : Ty) → c ≡ modeCode m → MadeFrom types at m t → Puts o n p k (encTy (made m t))
+  pub puts : (m : Mode) (t : Ty) → c ≡ modeCode m → MadeFrom types at t → Puts o n p k (encTy (made m t))
 
 pub record MadeExpression (types : List ℕ) (at c : ℕ) (o : List ℕ) (n : ℕ) (p : List ℕ) (k : ℕ) : Type 0 where
-  pub puts : (m : Mode) (t : Ty) → c ≡ modeCode m → MadeFrom types at m t → Puts o n p k (enc (toExpression (made m t)))
+  pub puts : (m : Mode) (t : Ty) → c ≡ modeCode m → MadeFrom types at t → Puts o n p k (enc (toExpression (made m t)))
 
 -- ---- a part
 abbrev pub CodeAt : List ℕ → ℕ → Part → Type 0

@@ -1,5 +1,6 @@
 -- The ways out of the functions of src/places.rt, on plain values.
--- Main results: tag-there, arity-room, arity-read (the tag and the number of children of the tree that stands somewhere);
+-- Main results: numbers, tag-there, arity-room, arity-read (the tag, the number behind it and the number of children of the
+-- tree that stands somewhere);
 -- hop-here, hop-more, hop-none; fill-start, fill-root, fill-hops, fill-turn, fill-done; placed-root, tag-done, children-done;
 -- end-place, end-few, end-inside, end-last.
 use mathlib.Core.Path.{_≡_, refl, sym, ap, ap₂, _∙_, subst}
@@ -30,12 +31,12 @@ use Rattle.nav.proofs.View.{all-count}
 use Rattle.nav.proofs.Hops.{framed-few, place-stands, place-sorted, place-end, hops-node, ends-inside, ends-last}
 
 -- ---- the numbers of a head
-record Numbers (s : List ℕ) (at : ℕ) (g n : ℕ) (us : List Ty) (k : ℕ) : Type 0 where
-  tag : numberAt 2 s at ≡ g
-  within : at + 2 + width (formOf g .layout) ≤ length s
-  number : numberAt (width (formOf g .layout)) s (at + 2) ≡ numberIn g n us k
+pub record Numbers (s : List ℕ) (at : ℕ) (g n : ℕ) (us : List Ty) (k : ℕ) : Type 0 where
+  pub tag : numberAt 2 s at ≡ g
+  pub within : at + 2 + width (formOf g .layout) ≤ length s
+  pub number : numberAt (width (formOf g .layout)) s (at + 2) ≡ numberIn g n us k
 
-numbers : (s : List ℕ) (at : ℕ) (e : Sort) (g n : ℕ) (us : List Ty) (ks : Forest) → Stands s at e (node (head g n us) ks) → Numbers s at g n us (count ks)
+pub numbers : (s : List ℕ) (at : ℕ) (e : Sort) (g n : ℕ) (us : List Ty) (ks : Forest) → Stands s at e (node (head g n us) ks) → Numbers s at g n us (count ks)
 unfolding enc encHead
 numbers s at e g n us ks st =
     let w : ℕ = width (formOf g .layout) in

@@ -96,7 +96,7 @@ module _ (s st nx : List ℕ) (a b left : ℕ) (pl : TagPost s st a left) where
       pub out-71 : e ≡ true → (r : Decision) → r ≡ D.Fixed 71 71 a a a → DecidesTwo impAnd s st nx a b r
       unfolding onTag lookup classOf formAt
       out-71 z =
-          on-left impAnd s st nx a b 71 (λ v w. leaf #BTrue)
+          on-left impAnd s st nx a b 71 refl (λ v w. leaf #BTrue)
           (λ t n Γ v w tb fa fb.
           let o = any 351 v (sym (pl .tag t n Γ v (tb .framed) fa) ∙ key) in
           let x : Tree = node (head 351 (o .n) (o .us)) (o .ks) in
@@ -109,7 +109,7 @@ module _ (s st nx : List ℕ) (a b left : ℕ) (pl : TagPost s st a left) where
         pub out-72 : u ≡ true → (r : Decision) → r ≡ D.Fixed 72 72 a a a → DecidesTwo impAnd s st nx a b r
         unfolding onTag lookup classOf formAt makeNeg
         out-72 z =
-            on-left impAnd s st nx a b 72 (λ v w. one #Not v)
+            on-left impAnd s st nx a b 72 refl (λ v w. one #Not v)
             (λ t n Γ v w tb fa fb.
             let o = any 351 v (sym (pl .tag t n Γ v (tb .framed) fa) ∙ key) in
             let x : Tree = node (head 351 (o .n) (o .us)) (o .ks) in

@@ -1,17 +1,11 @@
 -- The rules that src/ decides, back to the definitions of the rules.
 use mathlib.Core.Path.{_≡_, refl, sym, ap, _∙_}
-use mathlib.Core.Bool.{Bool, true, false}
-use Prim.Native.Nat.{ℕ}
-use borrow.Author.Tests.{ne-eqb}
-use Rattle.frame.specs.Trees.{head, Tree, node, leaf, tagOf}
+use Rattle.frame.specs.Trees.{Tree, leaf}
 use Rattle.frame.specs.Operators.{#BTrue, #BFalse}
-use Rattle.frame.specs.Places.{Ctx}
 use Rattle.frame.specs.Sameness.{sameTree}
 use Rattle.rules.specs.Change.{Change, to, same, _orElse_, when, isTag}
 use Rattle.rules.specs.Simplify.{makeNeg, simplifyImp}
-use Rattle.rules.specs.Finite.{rewriteFinite}
-use Rattle.rules.specs.EqualsEmptySet.{rewriteEqualsEmptySet}
-use Rattle.rewriter.specs.RulesAt.{emptyButInter, finiteButSet, impFirst, impAnd, impLast}
+use Rattle.rewriter.specs.RulesAt.{impFirst, impAnd, impLast}
 
 pub or-assoc : (x y z : Change) → (x orElse y) orElse z ≡ x orElse (y orElse z)
 or-assoc (to p u) y z = refl
@@ -31,10 +25,3 @@ imp-parts v w =
     ∙ ap (λ (q : Change). a orElse q)
     (or-assoc b (c orElse (d orElse e)) x
     ∙ ap (λ (q : Change). b orElse q) (or-assoc c (d orElse e) x ∙ ap (λ (q : Change). c orElse q) (or-assoc d e x))))
-
--- = ∅ and finite, apart from ∩ and from comprehension sets
-pub but-inter : (Γ : Ctx) (e : Tree) → (tagOf e ≡ 302 → ⊥) → emptyButInter Γ e ≡ rewriteEqualsEmptySet Γ e
-but-inter Γ e h = rw (ne-eqb (tagOf e) 302 h)
-
-pub but-set : (Γ : Ctx) (e : Tree) → (tagOf e ≡ 803 → ⊥) → finiteButSet Γ e ≡ rewriteFinite Γ e
-but-set Γ e h = rw (ne-eqb (tagOf e) 803 h)

@@ -60,16 +60,16 @@ module _ (v w : Tree) where
 module _ (s st nx : List ℕ) (a b left right : ℕ) (pl : TagPost s st a left) (pr : TagPost s st b right) where
   pub out-66 : left ≡ 610 → (r : Decision) → r ≡ D.Fixed 66 66 b b b → DecidesTwo impFirst s st nx a b r
   out-66 z =
-      on-right impFirst s st nx a b 66 (λ v w. w) (λ t n Γ v w tb fa fb. imp-66 v w (sym (pl .tag t n Γ v (tb .framed) fa) ∙ z)) (λ Γ v w. sym (right-66 w _ _ _))
+      on-right impFirst s st nx a b 66 refl (λ v w. w) (λ t n Γ v w tb fa fb. imp-66 v w (sym (pl .tag t n Γ v (tb .framed) fa) ∙ z)) (λ Γ v w. sym (right-66 w _ _ _))
 
   pub out-67 : left ≡ 611 → (r : Decision) → r ≡ D.Fixed 67 67 a a a → DecidesTwo impFirst s st nx a b r
   out-67 z =
-      on-left impFirst s st nx a b 67 (λ v w. leaf #BTrue) (λ t n Γ v w tb fa fb. imp-67 v w (sym (pl .tag t n Γ v (tb .framed) fa) ∙ z)) (λ Γ v w. sym (right-67 _ _ _))
+      on-left impFirst s st nx a b 67 refl (λ v w. leaf #BTrue) (λ t n Γ v w tb fa fb. imp-67 v w (sym (pl .tag t n Γ v (tb .framed) fa) ∙ z)) (λ Γ v w. sym (right-67 _ _ _))
 
   module _ (n1 : left ≡ 610 → ⊥) (n2 : left ≡ 611 → ⊥) where
     pub out-68 : right ≡ 610 → (r : Decision) → r ≡ D.Fixed 68 68 a a a → DecidesTwo impFirst s st nx a b r
     out-68 z =
-        on-left impFirst s st nx a b 68 (λ v w. leaf #BTrue)
+        on-left impFirst s st nx a b 68 refl (λ v w. leaf #BTrue)
         (λ t n Γ v w tb fa fb.
         let zl = pl .tag t n Γ v (tb .framed) fa in
         let zr : tagOf w ≡ 610 = sym (pr .tag t n Γ w (tb .framed) fb) ∙ z in
@@ -82,7 +82,7 @@ module _ (s st nx : List ℕ) (a b left right : ℕ) (pl : TagPost s st a left) 
           means = λ t n Γ v w tb fa fb x Ξ kept.
               let zl = pl .tag t n Γ v (tb .framed) fa in
               rw er
-              (negated-means s st nx t n a Γ v left 69 (impFirst v w) tb fa zl
+              (negated-means s st nx t n a Γ v left 69 refl (impFirst v w) tb fa zl
               (imp-69 v w (λ q. n1 (zl ∙ q)) (λ q. n2 (zl ∙ q)) (sym (pr .tag t n Γ w (tb .framed) fb) ∙ z))
               (λ c us. sym (right-69 c _ _ us)) x Ξ kept);
         }
@@ -90,7 +90,7 @@ module _ (s st nx : List ℕ) (a b left right : ℕ) (pl : TagPost s st a left) 
     module _ (n3 : right ≡ 610 → ⊥) (n4 : right ≡ 611 → ⊥) (e : Bool) (pe : SameAtPost s st a b e) where
       pub out-70 : e ≡ true → (r : Decision) → r ≡ D.Fixed 70 70 a a a → DecidesTwo impFirst s st nx a b r
       out-70 z =
-          on-left impFirst s st nx a b 70 (λ v w. leaf #BTrue)
+          on-left impFirst s st nx a b 70 refl (λ v w. leaf #BTrue)
           (λ t n Γ v w tb fa fb.
           let zl = pl .tag t n Γ v (tb .framed) fa in
           let zr = pr .tag t n Γ w (tb .framed) fb in
@@ -113,12 +113,12 @@ last-form v w = rw (unary-when v w (to 73 w), unary-when w v (to 74 w))
 module _ (s st nx : List ℕ) (a b : ℕ) (o : Bool) (po : OpposesPost s st nx a b o) where
   pub out-73 : o ≡ true → (r : Decision) → r ≡ D.Fixed 73 73 b b b → DecidesTwo impLast s st nx a b r
   out-73 z =
-      on-right impLast s st nx a b 73 (λ v w. w) (λ t n Γ v w tb fa fb. last-form v w ∙ rw (sym (po .says t n Γ v w tb fa fb) ∙ z)) (λ Γ v w. sym (right-73 w _ _ _))
+      on-right impLast s st nx a b 73 refl (λ v w. w) (λ t n Γ v w tb fa fb. last-form v w ∙ rw (sym (po .says t n Γ v w tb fa fb) ∙ z)) (λ Γ v w. sym (right-73 w _ _ _))
 
   module _ (n1 : o ≡ false) (u : Bool) (pu : OpposesPost s st nx b a u) where
     pub out-74 : u ≡ true → (r : Decision) → r ≡ D.Fixed 74 74 b b b → DecidesTwo impLast s st nx a b r
     out-74 z =
-        on-right impLast s st nx a b 74 (λ v w. w)
+        on-right impLast s st nx a b 74 refl (λ v w. w)
         (λ t n Γ v w tb fa fb. last-form v w ∙ rw (sym (po .says t n Γ v w tb fa fb) ∙ n1, sym (pu .says t n Γ w v tb fb fa) ∙ z)) (λ Γ v w. sym (right-74 w _ _ _))
 
     pub last-none : u ≡ false → DecidesTwo impLast s st nx a b D.Rests

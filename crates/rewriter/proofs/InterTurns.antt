@@ -1,47 +1,30 @@
 -- The ways out of the functions of src/inter.rt.
--- Main results: single-no, single-arity; minus-tag; inter-placed, any-first, any-placed, any-found, any-next, any-none (the loop of any_minus).
+-- Main results: minus-tag; inter-placed, inter-child; any-first, any-found, any-next, any-none (the loop of any_minus); inter-apart, inter-within,
+-- inter-rests (decide_inter).
 use mathlib.Core.Path.{_≡_, refl, sym, ap, _∙_}
-use mathlib.Core.Bool.{Bool, true, false, _||_}
-use mathlib.Core.List.{List, [], _∷_}
+use mathlib.Core.Bool.{Bool, true, false, not, _||_}
+use mathlib.Core.List.{List, []}
+use mathlib.Core.Logic.{_⊎_, inl, inr}
 use Prim.Native.Nat.{ℕ, suc, _+_, _≤_, _<_}
 use native.Mathlib.Omega.{arith}
-use lib.Dec.{eqb}
+use lib.Dec.{eqb, eqb·suc-suc}
 use lib.ListN.{getD}
-use borrow.Author.Tests.{eq-eqb, ne-eqb, eqb-true, eqb-false}
+use borrow.Author.Tests.{ne-eqb, eqb-true}
 use Rattle.frame.specs.Types.{Ty}
-use Rattle.frame.specs.Trees.{Head, head, Tree, node, Forest, nil, cons, count, tagOf, nodes}
+use Rattle.frame.specs.Trees.{head, Tree, node, Forest, nil, cons, count, tagOf, two, many, sole, append}
 use Rattle.frame.specs.Tags.{pick, Sort, lookup, classOf, formAt}
+use Rattle.frame.specs.Operators.{#SetExt, #BInter, #BUnion, #SubsetEq}
 use Rattle.frame.specs.WellFormed.{Wf}
-use Rattle.frame.specs.Places.{Ctx, under, found, find}
+use Rattle.frame.specs.Places.{Ctx, found, find}
 use Rattle.frame.proofs.Splices.{find-lt}
-use Rattle.frame.proofs.Within.{KidsAtPlace}
-use Rattle.nav.specs.PlaceTables.{arity, Framed, Table, Placed, TagPost, ChildrenPost}
-use Rattle.nav.proofs.Hops.{Sorted, framed-few, place-sorted, child-first}
-use Rattle.rules.specs.EqualsEmptySet.{isSingle, singleOf, soleOf, isMinus, minusOf, anyMinus}
-use Rattle.rewriter.proofs.Children.{Child, child-of}
-use Rattle.rewriter.specs.Inter.{SinglePost, MinusPost, InterPre, AnyMinusPost}
-
--- ---- a set of one member
-not-single : (v : Tree) → (tagOf v ≡ 5 → ⊥) → false ≡ isSingle (singleOf v)
-not-single (node (head g n us) ks) d = simp (ne-eqb g 5 d)
-
-sole-count : (ks : Forest) → eqb (count ks) 1 ≡ isSingle (soleOf ks)
-sole-count nil = refl
-sole-count (cons a nil) = refl
-sole-count (cons a (cons b ks)) = ne-eqb (suc (suc (count ks))) 1 (λ q. omega arith)
-
-is-single : (v : Tree) → tagOf v ≡ 5 → eqb (arity v) 1 ≡ isSingle (singleOf v)
-is-single (node (head g n us) ks) e = simp (eq-eqb g 5 e) (sole-count ks)
-
-module _ (s st : List ℕ) (k tag : ℕ) (post : TagPost s st k tag) where
-  pub single-no : (tag ≡ 5 → ⊥) → SinglePost s st k false
-  single-no d = record { single = λ t n Γ v fr f. not-single v (λ z. d (post .tag t n Γ v fr f ∙ z)) }
-
-  pub single-arity : tag ≡ 5 → (r : ℕ) → ChildrenPost s st k r → SinglePost s st k (eqb r 1)
-  single-arity e r many = record {
-    single = λ t n Γ v fr f.
-        ap (λ (i : ℕ). eqb i 1) (many .many t n Γ v fr f) ∙ is-single v (sym (post .tag t n Γ v fr f) ∙ e);
-  }
+use Rattle.nav.specs.PlaceTables.{Table, Placed, TagPost, ChildrenPost}
+use Rattle.nav.proofs.Hops.{Sorted, framed-few, place-sorted}
+use Rattle.rules.specs.Change.{to, same, when, joined}
+use Rattle.rules.specs.EqualsEmptySet.{Single, single, none, isSingle, singleOf, anySingle, Singled, singled, noneSingled, besides, orNext, firstSingle, interSingle, isMinus, minusOf, anyMinus, minuends, subtrahends, interEmpty}
+use Rattle.rewriter.proofs.Children.{Lefts, walk-first, walk-placed, walk-next, walk-stop, walk-end}
+use Rattle.rewriter.specs.Decision.{ApartMeans}
+use Rattle.rewriter.specs.Inter.{MinusPost, InterPre, AnyMinusPost, countSingles, CountPost, SingleAt, FirstPost, apartWhen, InterPost}
+use Rattle.rewriter.specs.declared.decision.Decision.the-variants as D
 
 -- ---- a difference has two operands
 minus-of : (n : ℕ) (us : List Ty) (ks : Forest) (e : Sort) → Wf (node (head 213 n us) ks) e → true ≡ isMinus (minusOf (node (head 213 n us) ks))
@@ -63,79 +46,154 @@ minus-tag s st k tag post = record {
       minus-is v (place-sorted s t st n fr k Γ v f) (eqb tag 213) (ap (λ (i : ℕ). eqb i 213) (sym (post .tag t n Γ v fr f)));
 }
 
--- ---- the children of a node, until one is a difference
+-- what the loop of any_minus keeps: none is behind
+abbrev pub NoMinus : Forest → ℕ → Forest → Type 0
+NoMinus ks c rest = anyMinus ks ≡ anyMinus rest
+
 module _ (s st nx : List ℕ) (k : ℕ) where
   pub inter-placed : InterPre s st nx k → Placed s st k × (k < 2048)
   inter-placed pre =
       let b = find-lt (pre .t) [] k (pre .Γ) (node (head 302 (pre .x) (pre .us)) (pre .ks)) (pre .there) in
       (record { t = pre .t; n = pre .n; framed = pre .table .framed; below = b }, omega (arith, framed-few s (pre .t) st (pre .n) (pre .table .framed)))
 
-  pub record Left (t : Tree) (Θ : Ctx) (ks : Forest) (c i : ℕ) : Type 0 where
-    pub rest : Forest
-    pub below : KidsAtPlace t [] c Θ rest
-    pub done : i + count rest ≡ count ks
-    pub goes : anyMinus ks ≡ anyMinus rest
+  -- a child that a loop has come to
+  pub inter-child : (P : Forest → ℕ → Forest → Type 0) (r : ℕ) → ChildrenPost s st k r → (c i : ℕ) → Lefts s st nx k P c i → i < r → InterPre s st nx k
+      → Placed s st c × (c < 2048)
+  inter-child P r many c i ls h pre =
+      walk-placed s st nx k P r many c i ls h (pre .t) (pre .n) (pre .Γ) 302 (pre .x) (pre .us) (pre .ks) (pre .table) (pre .there)
 
-  abbrev pub Lefts : ℕ → ℕ → Type 0
-  Lefts c i = (t : Tree) (n : ℕ) (Γ : Ctx) (g x : ℕ) (us : List Ty) (ks : Forest) → Table s t st nx n
-      → find t [] k ≡ found Γ (node (head g x us) ks) → Left t (under g us Γ) ks c i
+  -- ---- the children of a node, until one is a difference
+  pub any-first : Lefts s st nx k NoMinus (k + 1) 0
+  any-first = walk-first s st nx k NoMinus (λ ks. refl)
 
-  pub any-first : Lefts (k + 1) 0
-  any-first t n Γ g x us ks tb f = record { rest = ks; below = child-first t k Γ g x us ks f; done = omega arith; goes = refl }
+  module _ (r : ℕ) (many : ChildrenPost s st k r) (c i : ℕ) (ls : Lefts s st nx k NoMinus c i) where
+    module _ (h : i < r) (o : Bool) (post : MinusPost s st c o) where
+      goes-on : (ks : Forest) (w : Tree) (others : Forest) → o ≡ isMinus (minusOf w) → anyMinus ks ≡ anyMinus (cons w others) → anyMinus ks ≡ (o || anyMinus others)
+      unfolding anyMinus
+      goes-on ks w others e p = p ∙ ap (λ (b : Bool). b || anyMinus others) (sym e)
 
-  module _ (r : ℕ) (many : ChildrenPost s st k r) (c i : ℕ) (ls : Lefts c i) where
-    module _ (h : i < r) where
-      child : (t : Tree) (n : ℕ) (Γ : Ctx) (g x : ℕ) (us : List Ty) (ks : Forest) (tb : Table s t st nx n)
-          (f : find t [] k ≡ found Γ (node (head g x us) ks)) → Child nx t (under g us Γ) (ls t n Γ g x us ks tb f .rest) c
-      child t n Γ g x us ks tb f =
-          let q = ls t n Γ g x us ks tb f in
-          let z : r ≡ count ks = many .many t n Γ (node (head g x us) ks) (tb .framed) f in
-          child-of s st nx t n tb (under g us Γ) (q .rest) c (q .below) (omega (arith, q .done))
+      pub any-found : o ≡ true → AnyMinusPost s st nx k true
+      any-found e = record {
+        any = walk-stop s st nx k NoMinus r many c i ls h (λ w. o ≡ isMinus (minusOf w)) (post .minus) (λ ks. true ≡ anyMinus ks)
+            (λ ks w others q p. sym (goes-on ks w others q p ∙ ap (λ (b : Bool). b || anyMinus others) e));
+      }
 
-      pub any-placed : InterPre s st nx k → Placed s st c × (c < 2048)
-      any-placed pre =
-          let v = child (pre .t) (pre .n) (pre .Γ) 302 (pre .x) (pre .us) (pre .ks) (pre .table) (pre .there) in
-          let b = find-lt (pre .t) [] c (under 302 (pre .us) (pre .Γ)) (v .w) (v .there) in
-          (record { t = pre .t; n = pre .n; framed = pre .table .framed; below = b }, omega (arith, framed-few s (pre .t) st (pre .n) (pre .table .framed)))
-
-      module _ (o : Bool) (post : MinusPost s st c o) where
-        goes-on : (t : Tree) (n : ℕ) (Γ : Ctx) (g x : ℕ) (us : List Ty) (ks : Forest) (tb : Table s t st nx n)
-            (f : find t [] k ≡ found Γ (node (head g x us) ks)) → anyMinus ks ≡ (o || anyMinus (child t n Γ g x us ks tb f .others))
-        unfolding anyMinus
-        goes-on t n Γ g x us ks tb f =
-            let q = ls t n Γ g x us ks tb f in
-            let d = child t n Γ g x us ks tb f in
-            q .goes ∙ ap anyMinus (d .is) ∙ ap (λ (b : Bool). b || anyMinus (d .others)) (sym (post .minus t n (under g us Γ) (d .w) (tb .framed) (d .there)))
-
-        pub any-found : o ≡ true → AnyMinusPost s st nx k true
-        any-found e = record {
-          any = λ t n Γ g x us ks tb f.
-              sym (goes-on t n Γ g x us ks tb f ∙ ap (λ (b : Bool). b || anyMinus (child t n Γ g x us ks tb f .others)) e);
-        }
-
-        pub any-next : o ≡ false → (next : ℕ) → next ≡ getD nx c 0 → Lefts next (i + 1)
-        any-next e next en t n Γ g x us ks tb f =
-            let q = ls t n Γ g x us ks tb f in
-            let d = child t n Γ g x us ks tb f in
-            let z : count (q .rest) ≡ suc (count (d .others)) = ap count (d .is) in
-            record {
-              rest = d .others;
-              below = rw en (d .below);
-              done = omega (arith, q .done);
-              goes = goes-on t n Γ g x us ks tb f ∙ ap (λ (b : Bool). b || anyMinus (d .others)) e;
-            }
+      pub any-next : o ≡ false → (next : ℕ) → next ≡ getD nx c 0 → Lefts s st nx k NoMinus next (i + 1)
+      any-next e =
+          walk-next s st nx k NoMinus r many c i ls h (λ w. o ≡ isMinus (minusOf w)) (post .minus) NoMinus
+          (λ ks w others q p. goes-on ks w others q p ∙ ap (λ (b : Bool). b || anyMinus others) e)
 
     pub any-none : r ≤ i → AnyMinusPost s st nx k false
     unfolding anyMinus
-    any-none h = record { any = none }
-      where
-        empty : (l : Forest) → count l ≡ 0 → l ≡ nil
-        empty nil e = refl
-        empty (cons w l) e = absurd (omega arith)
+    any-none h = record { any = walk-end s st nx k NoMinus r many c i ls h (λ ks. false ≡ anyMinus ks) (λ ks p. sym p) }
 
-        none : (t : Tree) (n : ℕ) (Γ : Ctx) (g x : ℕ) (us : List Ty) (ks : Forest) → Table s t st nx n
-            → find t [] k ≡ found Γ (node (head g x us) ks) → false ≡ anyMinus ks
-        none t n Γ g x us ks tb f =
-            let q = ls t n Γ g x us ks tb f in
-            let z : r ≡ count ks = many .many t n Γ (node (head g x us) ks) (tb .framed) f in
-            sym (q .goes ∙ ap anyMinus (empty (q .rest) (omega (arith, q .done))))
+-- ---- the first set of one member, and how many there are
+abbrev Counted : Singled → Forest → Type 0
+Counted (singled a rest) ks = (count ks ≡ suc (count rest)) × (countSingles ks ≡ suc (countSingles rest))
+Counted noneSingled ks = countSingles ks ≡ 0
+
+counted-next : (x : Single) (k : Tree) (ks : Forest) (f : Singled) → singleOf k ≡ x → Counted f ks → Counted (orNext x k ks f) (cons k ks)
+unfolding countSingles
+counted-next (single a) k ks f e h = (refl, rw e (omega arith))
+counted-next none k ks (singled a rest) e h = (ap suc (h .0), rw e (omega (arith, h .1)))
+counted-next none k ks noneSingled e h = rw e (omega arith)
+
+counted : (ks : Forest) → Counted (firstSingle ks) ks
+unfolding firstSingle countSingles
+counted nil = refl
+counted (cons k ks) = counted-next (singleOf k) k ks (firstSingle ks) refl (counted ks)
+
+none-counted : (ks : Forest) → not (anySingle ks) ≡ eqb (countSingles ks) 0
+unfolding anySingle countSingles
+none-counted nil = refl
+none-counted (cons k ks) = go (isSingle (singleOf k)) (none-counted ks)
+  where
+    go : (b : Bool) → not (anySingle ks) ≡ eqb (countSingles ks) 0 → not (b || anySingle ks) ≡ eqb (pick b 1 0 + countSingles ks) 0
+    go true h = sym (ne-eqb (1 + countSingles ks) 0 (λ q. omega arith))
+    go false h = let z : 0 + countSingles ks ≡ countSingles ks = omega arith in rw z h
+
+-- the test of the code is that of the definition
+apart-others : (n m : ℕ) → apartWhen (suc n) (suc m) ≡ (eqb n 1 || eqb m 0)
+apart-others n m =
+    rw (ne-eqb (suc m) 0 (λ q. omega arith), eqb·suc-suc n 1, eqb·suc-suc m 0) (go (eqb n 1))
+  where
+    go : (b : Bool) → pick b true (eqb m 0) ≡ (b || eqb m 0)
+    go true = refl
+    go false = refl
+
+apart-when : (a : Tree) (rest ks : Forest) → Counted (singled a rest) ks → (eqb (count rest) 1 || not (anySingle rest)) ≡ apartWhen (count ks) (countSingles ks)
+apart-when a rest ks h = rw (none-counted rest, h .0, h .1) (sym (apart-others (count rest) (countSingles rest)))
+
+apart-not : (f : Singled) (ks : Forest) → Counted f ks → apartWhen (count ks) (countSingles ks) ≡ false → interSingle f ≡ same
+apart-not (singled a rest) ks h e = rw (apart-when a rest ks h ∙ e)
+apart-not noneSingled ks h e = refl
+
+first-at : (a : Tree) (left right : Forest) → anySingle left ≡ false → firstSingle (append left (cons (many #SetExt (sole a)) right)) ≡ singled a (append left right)
+unfolding anySingle firstSingle
+first-at a nil right h = refl
+first-at a (cons k left) right h = go (singleOf k) h (first-at a left right)
+  where
+    go : (x : Single) → (isSingle x || anySingle left) ≡ false
+        → (anySingle left ≡ false → firstSingle (append left (cons (many #SetExt (sole a)) right)) ≡ singled a (append left right))
+        → orNext x k (append left (cons (many #SetExt (sole a)) right)) (firstSingle (append left (cons (many #SetExt (sole a)) right))) ≡ singled a (cons k (append left right))
+    go (single b) e ih = let z : _≡_ {A = ℕ} 0 1 = cc in absurd (omega arith)
+    go none e ih = ap (besides k) (ih e)
+
+-- ---- the ways out of decide_inter
+module _ (s st nx : List ℕ) (k r m : ℕ) (many : ChildrenPost s st k r) (singles : CountPost s st nx k m) where
+  apart-is : (t : Tree) (n : ℕ) (Γ : Ctx) (x : ℕ) (us : List Ty) (ks : Forest) → Table s t st nx n → find t [] k ≡ found Γ (node (head 302 x us) ks)
+      → apartWhen (count ks) (countSingles ks) ≡ apartWhen r m
+  apart-is t n Γ x us ks tb f =
+      let z : r ≡ count ks = many .many t n Γ (node (head 302 x us) ks) (tb .framed) f in
+      let y : m ≡ countSingles ks = singles .counted t n Γ 302 x us ks tb f in
+      rw (z, y)
+
+  pub inter-apart : apartWhen r m ≡ true → (p : ℕ) → FirstPost s st nx k p → InterPost s st nx k (D.Apart k p)
+  unfolding interEmpty
+  inter-apart e p first = record {
+    means = λ t n Γ x us ks tb f w Ξ kept. go t n Γ x us ks tb f (apart-is t n Γ x us ks tb f ∙ e) (first .first t n Γ 302 x us ks tb f);
+  }
+    where
+      go : (t : Tree) (n : ℕ) (Γ : Ctx) (x : ℕ) (us : List Ty) (ks : Forest) → Table s t st nx n → find t [] k ≡ found Γ (node (head 302 x us) ks)
+          → apartWhen (count ks) (countSingles ks) ≡ true → ((anySingle ks ≡ false) × (p ≡ k)) ⊎ SingleAt (k + 1) p ks → ApartMeans t k p (interEmpty ks)
+      go t n Γ x us ks tb f h (inl q) =
+          let z : eqb (countSingles ks) 0 ≡ true = sym (none-counted ks) ∙ ap not (q .0) in
+          let y : false ≡ true = rw z at h in
+          let v : _≡_ {A = ℕ} 0 1 = cc in
+          absurd (omega arith)
+      go t n Γ x us ks tb f h (inr q) =
+          let rest : Forest = append (q .left) (q .right) in
+          let z : firstSingle ks ≡ singled (q .a) rest = ap firstSingle (q .is) ∙ first-at (q .a) (q .left) (q .right) (q .none) in
+          let c : Counted (singled (q .a) rest) ks = rw z at (counted ks) in
+          let b : (eqb (count rest) 1 || not (anySingle rest)) ≡ true = apart-when (q .a) rest ks c ∙ h in
+          record {
+            a = q .a;
+            left = q .left;
+            right = q .right;
+            Ξ = Γ;
+            n = x;
+            vs = us;
+            at-node = rw (q .is) at f;
+            there = q .there;
+            answer = rw (z, b);
+          }
+
+  module _ (e : apartWhen r m ≡ false) where
+    inter-is : (t : Tree) (n : ℕ) (Γ : Ctx) (x : ℕ) (us : List Ty) (ks : Forest) → Table s t st nx n → find t [] k ≡ found Γ (node (head 302 x us) ks)
+        → interEmpty ks ≡ when (anyMinus ks) (to 38 (two #SubsetEq (joined #BInter (minuends ks)) (joined #BUnion (subtrahends ks))))
+    unfolding interEmpty
+    inter-is t n Γ x us ks tb f = rw (apart-not (firstSingle ks) ks (counted ks) (apart-is t n Γ x us ks tb f ∙ e))
+
+    pub inter-within : (o : Bool) → AnyMinusPost s st nx k o → o ≡ true → InterPost s st nx k (D.Within k)
+    inter-within o post eo = record {
+      means = λ t n Γ x us ks tb f w Ξ kept.
+          let z : anyMinus ks ≡ true = sym (post .any t n Γ 302 x us ks tb f) ∙ eo in
+          record { ks = ks; Ξ = Γ; n = x; vs = us; at-node = f; answer = inter-is t n Γ x us ks tb f ∙ rw z };
+    }
+
+    pub inter-rests : (o : Bool) → AnyMinusPost s st nx k o → o ≡ false → InterPost s st nx k D.Rests
+    inter-rests o post eo = record {
+      means = λ t n Γ x us ks tb f w Ξ kept.
+          let z : anyMinus ks ≡ false = sym (post .any t n Γ 302 x us ks tb f) ∙ eo in
+          inter-is t n Γ x us ks tb f ∙ rw z;
+    }

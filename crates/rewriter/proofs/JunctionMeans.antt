@@ -1,16 +1,16 @@
 -- What `decide_junction` answers stands for the answer of `simplify_assoc_pred`.
 -- Main results: settled-none, settled-one, settled-all, settled-fewer, settled-decided (the ways out of `settle`); conj-done, disj-done.
 use mathlib.Core.Path.{_≡_, refl, sym, ap, _∙_}
-use mathlib.Core.Bool.{Bool, true, false, not}
+use mathlib.Core.Bool.{Bool, true, false, not, _&&_}
 use mathlib.Core.List.{List, [], _∷_}
 use Prim.Native.Nat.{ℕ, zero, suc}
 use native.Mathlib.Omega.{arith}
-use lib.Dec.{eqb}
+use lib.Dec.{eqb, ltb}
 use lib.ListN.{take, getD}
 use borrow.Author.Tests.{eq-eqb, ne-eqb}
 use Rattle.frame.specs.Types.{Ty}
 use Rattle.frame.specs.Trees.{Head, head, Tree, node, Forest, nil, cons, count, leaf, many, tagOf}
-use Rattle.frame.specs.Tags.{pick, lookup, classOf, formAt}
+use Rattle.frame.specs.Tags.{pick, predicate, counted, formOf, lookup, classOf, formAt}
 use Rattle.frame.specs.Encoding.{enc}
 use Rattle.frame.specs.Places.{Ctx, under, found, find}
 use Rattle.typing.specs.Typing.{typeOf}
@@ -20,12 +20,13 @@ use Rattle.rules.specs.Simplify.{Kept, kept, decided, scan, finish, simplifyAss
 use Rattle.emit.specs.Template.{filled}
 use Rattle.emit.specs.Programs.{template}
 use Rattle.emit.proofs.RightSides.{right-1, right-2, right-64}
-use Rattle.rewriter.specs.Decision.{filling, At, Means, FixedMeans, KeptMeans}
+use Rattle.rewriter.specs.Decision.{filling, takesBinders, At, Means, FixedMeans, KeptMeans}
 use Rattle.rewriter.specs.declared.decision.Decision.{Decision}
 use Rattle.rewriter.specs.declared.decision.Decision.the-variants as D
 use Rattle.rewriter.specs.Junction.{Absorbed, AbsorbPost, settled, JunctionPost}
 use Rattle.rewriter.specs.declared.junction.Outcome.{Outcome}
 use Rattle.rewriter.specs.declared.junction.Outcome.the-variants.{Decided, Stay}
+use Rattle.rewriter.proofs.Shapes.{unbound}
 
 -- ---- the ways out of `settle`
 module _ (x : Outcome) (m : ℕ) (ex : x ≡ Stay m) (k n p pn pd : ℕ) where
@@ -58,12 +59,12 @@ module _ (t : Tree) (k : ℕ) (Γ : Ctx) (g x : ℕ) (us : List Ty) (ks : Forest
   v = node (head g x us) ks
 
   -- a right side of one operand
-  fixed-means : (place pattern p : ℕ) (Δ : Ctx) (a new : Tree) (c : Change) → c ≡ to place new → find t [] p ≡ found Δ a
-      → enc new ≡ filled (template pattern) (filling Δ a a us) → FixedMeans t place pattern p p k c
-  fixed-means place pattern p Δ a new c e h b =
-      record { new = new; answer = e; Δ = Δ; a = a; b = a; at-first = h; at-second = h; Θ = Γ; g = g; n = x; us = us; ks = ks; at-binder = f; bytes = b }
+  fixed-means : (place pattern p : ℕ) → (ltb pattern 88 && not (takesBinders pattern)) ≡ true → (Δ : Ctx) (a new : Tree) (c : Change) → c ≡ to place new
+      → find t [] p ≡ found Δ a → enc new ≡ filled (template pattern) (filling Δ a a us) → FixedMeans t place pattern p p k c
+  fixed-means place pattern p plain Δ a new c e h b =
+      record { new = new; answer = e; Δ = Δ; a = a; b = a; at-first = h; at-second = h; Θ = Γ; g = g; n = x; us = us; ks = ks; at-binder = f; bound = unbound pattern g plain; bytes = b }
 
-  module _ (neutral determinant pn pd : ℕ) (en : (Δ : Ctx) (a b : Tree) → filled (template pn) (filling Δ a b us) ≡ enc (leaf neutral))
+  module _ (lay : formOf g .layout ≡ counted 2 255 predicate) (neutral determinant pn pd : ℕ) (ln : (ltb pn 88 && not (takesBinders pn)) ≡ true) (ld : (ltb pd 88 && not (takesBinders pd)) ≡ true) (en : (Δ : Ctx) (a b : Tree) → filled (template pn) (filling Δ a b us) ≡ enc (leaf neutral))
       (ed : (Δ : Ctx) (a b : Tree) → filled (template pd) (filling Δ a b us) ≡ enc (leaf determinant)) (lent : List ℕ) (p : ℕ) (ep : p ≡ getD lent 0 0) where
     abbrev ends : Kept → Change
     ends c = finish g neutral determinant (count ks) c
@@ -71,7 +72,7 @@ module _ (t : Tree) (k : ℕ) (Γ : Ctx) (g x : ℕ) (us : List Ty) (ks : Forest
     more : (out : Forest) (m : ℕ) (c : Change) (b : Bool) → c ≡ pick b same (to 65 (many g out)) → At t Γ (take m lent) out
         → Means t v Γ lent (pick b D.Rests (D.Kept m)) c
     more out m c true e a = e
-    more out m c false e a = record { ks = out; answer = e; listed = a }
+    more out m c false e a = record { ks = out; answer = e; operator = lay; listed = a }
 
     turned : (b : Bool) (c : Change) → when (not b) c ≡ pick b same c
     turned true c = refl
@@ -79,9 +80,9 @@ module _ (t : Tree) (k : ℕ) (Γ : Ctx) (g x : ℕ) (us : List Ty) (ks : Forest
 
     stay : (out : Forest) (c : Kept) → c ≡ kept out → At t Γ (take (count out) lent) out
         → Means t v Γ lent (settled (Stay (count out)) k (count ks) p pn pd) (ends c)
-    stay nil c e a = fixed-means 63 pn k Γ v (leaf neutral) (ends c) (ap ends e) f (sym (en Γ v v))
+    stay nil c e a = fixed-means 63 pn k ln Γ v (leaf neutral) (ends c) (ap ends e) f (sym (en Γ v v))
     stay (cons w nil) c e a =
-        fixed-means 64 64 p Γ w w (ends c) (ap ends e) (ap (find t []) ep ∙ first-there t Γ lent w a) (sym (right-64 w (w ∷ []) _ us))
+        fixed-means 64 64 p refl Γ w w (ends c) (ap ends e) (ap (find t []) ep ∙ first-there t Γ lent w a) (sym (right-64 w (w ∷ []) _ us))
     stay (cons w (cons u out)) c e a =
         let o : Forest = cons w (cons u out) in
         let z : eqb (count o) 0 ≡ false = ne-eqb (count o) 0 (λ q. omega arith) in
@@ -89,7 +90,7 @@ module _ (t : Tree) (k : ℕ) (Γ : Ctx) (g x : ℕ) (us : List Ty) (ks : Forest
         rw (z, y) (more o (count o) (ends c) (eqb (count o) (count ks)) (ap ends e ∙ turned (eqb (count o) (count ks)) (to 65 (many g o))) a)
 
     settle-means : (r : Outcome) (c : Kept) → Absorbed t Γ lent r c → Means t v Γ lent (settled r k (count ks) p pn pd) (ends c)
-    settle-means Decided c e = fixed-means 62 pd k Γ v (leaf determinant) (ends c) (ap ends e) f (sym (ed Γ v v))
+    settle-means Decided c e = fixed-means 62 pd k ld Γ v (leaf determinant) (ends c) (ap ends e) f (sym (ed Γ v v))
     settle-means (Stay m) c a =
         let z = a .2 in
         rw z (stay (a .0) c (a .1) (rw z at (a .3)))
@@ -103,19 +104,27 @@ or-under : (us : List Ty) (Γ : Ctx) → under 352 us Γ ≡ Γ
 unfolding lookup classOf formAt
 or-under us Γ = refl
 
+and-layout : formOf 351 .layout ≡ counted 2 255 predicate
+unfolding lookup classOf formAt
+and-layout = refl
+
+or-layout : formOf 352 .layout ≡ counted 2 255 predicate
+unfolding lookup classOf formAt
+or-layout = refl
+
 -- the decision, by the node's operator
 module _ (s st nx : List ℕ) (k r : ℕ) (many : ChildrenPost s st k r) (tag : ℕ) (post : TagPost s st k tag) (lent : List ℕ) (x : Outcome) (p : ℕ)
     (ep : p ≡ getD lent 0 0) (d : Decision) where
   pub conj-done : tag ≡ 351 → AbsorbPost s st nx k 610 611 lent x → d ≡ settled x k r p 1 2 → JunctionPost s st nx k lent d
   unfolding simplifyAssocPred
-  conj-done e absorbed ed = record { conj = conj; disj = λ t n Γ y us ks tb f. other t n Γ y us ks tb f }
+  conj-done e absorbed ed = record { long = absorbed .long; conj = conj; disj = λ t n Γ y us ks tb f. other t n Γ y us ks tb f }
     where
       conj : (t : Tree) (n : ℕ) (Γ : Ctx) (y : ℕ) (us : List Ty) (ks : Forest) → Table s t st nx n → find t [] k ≡ found Γ (node (head 351 y us) ks)
           → Means t (node (head 351 y us) ks) Γ lent d (simplifyAssocPred 351 610 611 ks)
       conj t n Γ y us ks tb f =
           let z : r ≡ count ks = many .many t n Γ (node (head 351 y us) ks) (tb .framed) f in
           let a : Absorbed t Γ lent x (scan 610 611 ks nil) = rw (and-under us Γ) at (absorbed .scanned (λ q. omega arith) t n Γ 351 y us ks tb f) in
-          rw (ed, z) (settle-means t k Γ 351 y us ks f 610 611 1 2 (λ Δ i j. right-1 _ _ us) (λ Δ i j. right-2 _ _ us) lent p ep x (scan 610 611 ks nil) a)
+          rw (ed, z) (settle-means t k Γ 351 y us ks f and-layout 610 611 1 2 refl refl (λ Δ i j. right-1 _ _ us) (λ Δ i j. right-2 _ _ us) lent p ep x (scan 610 611 ks nil) a)
 
       other : (t : Tree) (n : ℕ) (Γ : Ctx) (y : ℕ) (us : List Ty) (ks : Forest) → Table s t st nx n → find t [] k ≡ found Γ (node (head 352 y us) ks)
           → Means t (node (head 352 y us) ks) Γ lent d (simplifyAssocPred 352 611 610 ks)
@@ -125,14 +134,14 @@ module _ (s st nx : List ℕ) (k r : ℕ) (many : ChildrenPost s st k r) (tag : 
 
   pub disj-done : (tag ≡ 351 → ⊥) → AbsorbPost s st nx k 611 610 lent x → d ≡ settled x k r p 2 1 → JunctionPost s st nx k lent d
   unfolding simplifyAssocPred
-  disj-done e absorbed ed = record { conj = λ t n Γ y us ks tb f. other t n Γ y us ks tb f; disj = disj }
+  disj-done e absorbed ed = record { long = absorbed .long; conj = λ t n Γ y us ks tb f. other t n Γ y us ks tb f; disj = disj }
     where
       disj : (t : Tree) (n : ℕ) (Γ : Ctx) (y : ℕ) (us : List Ty) (ks : Forest) → Table s t st nx n → find t [] k ≡ found Γ (node (head 352 y us) ks)
           → Means t (node (head 352 y us) ks) Γ lent d (simplifyAssocPred 352 611 610 ks)
       disj t n Γ y us ks tb f =
           let z : r ≡ count ks = many .many t n Γ (node (head 352 y us) ks) (tb .framed) f in
           let a : Absorbed t Γ lent x (scan 611 610 ks nil) = rw (or-under us Γ) at (absorbed .scanned (λ q. omega arith) t n Γ 352 y us ks tb f) in
-          rw (ed, z) (settle-means t k Γ 352 y us ks f 611 610 2 1 (λ Δ i j. right-2 _ _ us) (λ Δ i j. right-1 _ _ us) lent p ep x (scan 611 610 ks nil) a)
+          rw (ed, z) (settle-means t k Γ 352 y us ks f or-layout 611 610 2 1 refl refl (λ Δ i j. right-2 _ _ us) (λ Δ i j. right-1 _ _ us) lent p ep x (scan 611 610 ks nil) a)
 
       other : (t : Tree) (n : ℕ) (Γ : Ctx) (y : ℕ) (us : List Ty) (ks : Forest) → Table s t st nx n → find t [] k ≡ found Γ (node (head 351 y us) ks)
           → Means t (node (head 351 y us) ks) Γ lent d (simplifyAssocPred 351 610 611 ks)

@@ -1,11 +1,11 @@
 -- The ways out of src/logic.rt.
 use mathlib.Core.Path.{_≡_, refl, sym, ap, _∙_}
-use mathlib.Core.Bool.{Bool, true, false, _&&_}
+use mathlib.Core.Bool.{Bool, true, false, not, _&&_}
 use mathlib.Core.List.{List, [], _∷_}
 use Prim.Native.Nat.{ℕ, _+_, _<_}
 use native.Mathlib.Omega.{arith}
 use lib.ListN.{getD}
-use lib.Dec.{eqb}
+use lib.Dec.{eqb, ltb}
 use borrow.Author.Tests.{eq-eqb, ne-eqb, eqb-true, eqb-false}
 use Rattle.frame.specs.Types.{Ty}
 use Rattle.frame.specs.Trees.{head, Tree, node, Forest, nil, cons, tagOf, leaf, one}
@@ -22,13 +22,13 @@ use Rattle.rules.specs.Simplify.{makeNeg, simplifyEqv}
 use Rattle.emit.specs.Template.{filled}
 use Rattle.emit.specs.Programs.{template}
 use Rattle.emit.proofs.RightSides.{right-64, right-75, right-76, right-77, right-78, right-79, right-80, right-81}
-use Rattle.rewriter.specs.Decision.{filling, Means}
+use Rattle.rewriter.specs.Decision.{filling, takesBinders, Means}
 use Rattle.rewriter.specs.Decides.{negatedAt}
 use Rattle.rewriter.specs.Decides.{Here, HereTwo, Decides, DecidesTwo, OpposesPost}
 use Rattle.rewriter.specs.RulesAt.{opposes}
 use Rattle.rewriter.specs.declared.decision.Decision.{Decision}
 use Rattle.rewriter.specs.declared.decision.Decision.the-variants as D
-use Rattle.rewriter.proofs.Shapes.{Single, single, placed, place-few, ownTypes, fixed-at, first-placed, second-placed}
+use Rattle.rewriter.proofs.Shapes.{Single, single, placed, place-few, ownTypes, fixed-at, unbound, first-placed, second-placed}
 
 -- ---- one tree is the negation of another
 pub unary-when : (v w : Tree) (c : Change) → unary #Not v (λ inner. when (sameTree inner w) c) ≡ when (opposes v w) c
@@ -85,14 +85,14 @@ pub two-few : {s st nx : List ℕ} {a b : ℕ} → HereTwo s st nx a b → (a < 
 two-few h = (place-few (h .table) (h .first), place-few (h .table) (h .second))
 
 -- ---- decisions on one of two trees
-module _ (rule : Tree → Tree → Change) (s st nx : List ℕ) (a b : ℕ) (place : ℕ) (new : Tree → Tree → Tree)
+module _ (rule : Tree → Tree → Change) (s st nx : List ℕ) (a b : ℕ) (place : ℕ) (plain : (ltb place 88 && not (takesBinders place)) ≡ true) (new : Tree → Tree → Tree)
     (ans : (t : Tree) (n : ℕ) (Γ : Ctx) (v w : Tree) → Table s t st nx n → find t [] a ≡ found Γ v → find t [] b ≡ found Γ w → rule v w ≡ to place (new v w)) where
   pub on-left : ((Γ : Ctx) (v w : Tree) → enc (new v w) ≡ filled (template place) (filling Γ v v (ownTypes v)))
       → (r : Decision) → r ≡ D.Fixed place place a a a → DecidesTwo rule s st nx a b r
   on-left bytes r er =
       record {
         means = λ t n Γ v w tb fa fb x Ξ kept.
-            rw er (fixed-at t place place (rule v w) (new v w) (ans t n Γ v w tb fa fb) a a a Γ Γ v v v fa fa fa (bytes Γ v w));
+            rw er (fixed-at t place place (rule v w) (new v w) (ans t n Γ v w tb fa fb) a a a Γ Γ v v v fa fa fa (unbound place (tagOf v) plain) (bytes Γ v w));
       }
 
   pub on-right : ((Γ : Ctx) (v w : Tree) → enc (new v w) ≡ filled (template place) (filling Γ w w (ownTypes w)))
@@ -100,7 +100,7 @@ module _ (rule : Tree → Tree → Change) (s st nx : List ℕ) (a b : ℕ) (pla
   on-right bytes r er =
       record {
         means = λ t n Γ v w tb fa fb x Ξ kept.
-            rw er (fixed-at t place place (rule v w) (new v w) (ans t n Γ v w tb fa fb) b b b Γ Γ w w w fb fb fb (bytes Γ v w));
+            rw er (fixed-at t place place (rule v w) (new v w) (ans t n Γ v w tb fa fb) b b b Γ Γ w w w fb fb fb (unbound place (tagOf w) plain) (bytes Γ v w));
       }
 
 -- ---- a negation, removed where there is one
@@ -108,20 +108,20 @@ make-not : (v : Tree) → (tagOf v ≡ 701 → ⊥) → makeNeg v ≡ one #Not v
 unfolding makeNeg
 make-not (node (head g n us) ks) h = rw (ne-eqb g 701 h)
 
-pub negated-means : (s st nx : List ℕ) (t : Tree) (n p : ℕ) (Γ : Ctx) (v : Tree) (tag place : ℕ) (c : Change) → Table s t st nx n → find t [] p ≡ found Γ v → tag ≡ tagOf v
+pub negated-means : (s st nx : List ℕ) (t : Tree) (n p : ℕ) (Γ : Ctx) (v : Tree) (tag place : ℕ) → (ltb place 88 && not (takesBinders place)) ≡ true → (c : Change) → Table s t st nx n → find t [] p ≡ found Γ v → tag ≡ tagOf v
     → c ≡ to place (makeNeg v)
     → ((a : Tree) (us : List Ty) → enc (one #Not a) ≡ filled (template place) (filling Γ a a us))
     → (x : Tree) (Ξ : Ctx) (kept : List ℕ) → Means t x Ξ kept (negatedAt place tag p) c
 unfolding lookup classOf formAt makeNeg
-negated-means s st nx t n p Γ v tag place c tb f z ans bytes x Ξ kept = go (eqb tag 701) refl
+negated-means s st nx t n p Γ v tag place plain c tb f z ans bytes x Ξ kept = go (eqb tag 701) refl
   where
     go : (b : Bool) → eqb tag 701 ≡ b → Means t x Ξ kept (pick b (D.Fixed place 64 (p + 1) (p + 1) p) (D.Fixed place place p p p)) c
     go true h =
         let o = single 701 predicate (λ x. refl) v (place-sorted s t st n (tb .framed) p Γ v f) (sym z ∙ eqb-true tag 701 h) in
         let fc = only-child t nx (tb .follows) p Γ 701 (o .n) (o .us) (o .a) (f ∙ ap (found Γ) (o .is)) in
-        fixed-at t place 64 c (o .a) (ans ∙ ap (λ (u : Tree). to place (makeNeg u)) (o .is)) (p + 1) (p + 1) p Γ Γ (o .a) (o .a) v fc fc f (sym (right-64 (o .a) _ _ _))
+        fixed-at t place 64 c (o .a) (ans ∙ ap (λ (u : Tree). to place (makeNeg u)) (o .is)) (p + 1) (p + 1) p Γ Γ (o .a) (o .a) v fc fc f (unbound 64 (tagOf v) refl) (sym (right-64 (o .a) _ _ _))
     go false h =
-        fixed-at t place place c (one #Not v) (ans ∙ ap (to place) (make-not v (λ q. eqb-false tag 701 h (z ∙ q)))) p p p Γ Γ v v v f f f (bytes v (ownTypes v))
+        fixed-at t place place c (one #Not v) (ans ∙ ap (to place) (make-not v (λ q. eqb-false tag 701 h (z ∙ q)))) p p p Γ Γ v v v f f f (unbound place (tagOf v) plain) (bytes v (ownTypes v))
 
 -- ---- ⇔
 module _ (v w : Tree) where
@@ -153,18 +153,18 @@ module _ (v w : Tree) where
 module _ (s st nx : List ℕ) (a b left right : ℕ) (pl : TagPost s st a left) (pr : TagPost s st b right) where
   pub out-75 : right ≡ 610 → (r : Decision) → r ≡ D.Fixed 75 75 a a a → DecidesTwo simplifyEqv s st nx a b r
   out-75 z =
-      on-left simplifyEqv s st nx a b 75 (λ v w. v) (λ t n Γ v w tb fa fb. eqv-75 v w (sym (pr .tag t n Γ w (tb .framed) fb) ∙ z)) (λ Γ v w. sym (right-75 v _ _ _))
+      on-left simplifyEqv s st nx a b 75 refl (λ v w. v) (λ t n Γ v w tb fa fb. eqv-75 v w (sym (pr .tag t n Γ w (tb .framed) fb) ∙ z)) (λ Γ v w. sym (right-75 v _ _ _))
 
   module _ (n1 : right ≡ 610 → ⊥) where
     pub out-76 : left ≡ 610 → (r : Decision) → r ≡ D.Fixed 76 76 b b b → DecidesTwo simplifyEqv s st nx a b r
     out-76 z =
-        on-right simplifyEqv s st nx a b 76 (λ v w. w)
+        on-right simplifyEqv s st nx a b 76 refl (λ v w. w)
         (λ t n Γ v w tb fa fb. eqv-76 v w (λ q. n1 (pr .tag t n Γ w (tb .framed) fb ∙ q)) (sym (pl .tag t n Γ v (tb .framed) fa) ∙ z)) (λ Γ v w. sym (right-76 w _ _ _))
 
     module _ (n2 : left ≡ 610 → ⊥) (e : Bool) (pe : SameAtPost s st a b e) where
       pub out-77 : e ≡ true → (r : Decision) → r ≡ D.Fixed 77 77 a a a → DecidesTwo simplifyEqv s st nx a b r
       out-77 z =
-          on-left simplifyEqv s st nx a b 77 (λ v w. leaf #BTrue)
+          on-left simplifyEqv s st nx a b 77 refl (λ v w. leaf #BTrue)
           (λ t n Γ v w tb fa fb. eqv-77 v w (λ q. n1 (pr .tag t n Γ w (tb .framed) fb ∙ q)) (λ q. n2 (pl .tag t n Γ v (tb .framed) fa ∙ q)) (sym (pe .same t n Γ Γ v w (tb .framed) fa fb) ∙ z))
           (λ Γ v w. sym (right-77 _ _ _))
 
@@ -176,7 +176,7 @@ module _ (s st nx : List ℕ) (a b left right : ℕ) (pl : TagPost s st a left) 
                   let zl = pl .tag t n Γ v (tb .framed) fa in
                   let zr = pr .tag t n Γ w (tb .framed) fb in
                   rw er
-                  (negated-means s st nx t n a Γ v left 78 (simplifyEqv v w) tb fa zl
+                  (negated-means s st nx t n a Γ v left 78 refl (simplifyEqv v w) tb fa zl
                   (eqv-78 v w (λ q. n1 (zr ∙ q)) (λ q. n2 (zl ∙ q)) (sym (pe .same t n Γ Γ v w (tb .framed) fa fb) ∙ n3) (sym zr ∙ z))
                   (λ c us. sym (right-78 c _ _ us)) x Ξ kept);
             }
@@ -189,7 +189,7 @@ module _ (s st nx : List ℕ) (a b left right : ℕ) (pl : TagPost s st a left) 
                     let zl = pl .tag t n Γ v (tb .framed) fa in
                     let zr = pr .tag t n Γ w (tb .framed) fb in
                     rw er
-                    (negated-means s st nx t n b Γ w right 79 (simplifyEqv v w) tb fb zr
+                    (negated-means s st nx t n b Γ w right 79 refl (simplifyEqv v w) tb fb zr
                     (eqv-79 v w (λ q. n1 (zr ∙ q)) (λ q. n2 (zl ∙ q)) (sym (pe .same t n Γ Γ v w (tb .framed) fa fb) ∙ n3) (λ q. n4 (zr ∙ q)) (sym zl ∙ z))
                     (λ c us. sym (right-79 c _ _ us)) x Ξ kept);
               }
@@ -205,13 +205,13 @@ module _ (s st nx : List ℕ) (a b left right : ℕ) (pl : TagPost s st a left) 
             module _ (o : Bool) (po : OpposesPost s st nx b a o) where
               pub out-80 : o ≡ true → (r : Decision) → r ≡ D.Fixed 80 80 a a a → DecidesTwo simplifyEqv s st nx a b r
               out-80 z =
-                  on-left simplifyEqv s st nx a b 80 (λ v w. leaf #BFalse)
+                  on-left simplifyEqv s st nx a b 80 refl (λ v w. leaf #BFalse)
                   (λ t n Γ v w tb fa fb. last t n Γ v w tb fa fb ∙ rw (sym (po .says t n Γ w v tb fb fa) ∙ z)) (λ Γ v w. sym (right-80 _ _ _))
 
               module _ (n6 : o ≡ false) (u : Bool) (pu : OpposesPost s st nx a b u) where
                 pub out-81 : u ≡ true → (r : Decision) → r ≡ D.Fixed 81 81 a a a → DecidesTwo simplifyEqv s st nx a b r
                 out-81 z =
-                    on-left simplifyEqv s st nx a b 81 (λ v w. leaf #BFalse)
+                    on-left simplifyEqv s st nx a b 81 refl (λ v w. leaf #BFalse)
                     (λ t n Γ v w tb fa fb. last t n Γ v w tb fa fb ∙ rw (sym (po .says t n Γ w v tb fb fa) ∙ n6, sym (pu .says t n Γ v w tb fa fb) ∙ z)) (λ Γ v w. sym (right-81 _ _ _))
 
                 pub eqv-none : u ≡ false → DecidesTwo simplifyEqv s st nx a b D.Rests

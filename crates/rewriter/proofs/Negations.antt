@@ -20,7 +20,7 @@ use Rattle.rewriter.specs.Decides.{Here, HereTwo, Decides, DecidesTwo}
 use Rattle.rewriter.specs.RulesAt.{negationOf, unequal}
 use Rattle.rewriter.specs.declared.decision.Decision.{Decision}
 use Rattle.rewriter.specs.declared.decision.Decision.the-variants as D
-use Rattle.rewriter.proofs.Shapes.{Double, double, place-few, fixed-at, by-rest, by-node, by-single, by-double}
+use Rattle.rewriter.proofs.Shapes.{Double, double, place-few, fixed-at, unbound, by-rest, by-node, by-single, by-double}
 
 -- ---- ¬ a = b
 module _ (v w : Tree) where
@@ -51,7 +51,7 @@ module _ (s st nx : List ℕ) (a b : ℕ) (right : ℕ) (pr : TagPost s st b rig
       record {
         means = λ t n Γ v w tb fa fb x Ξ kept.
             let z : tagOf w ≡ 406 = sym (pr .tag t n Γ w (tb .framed) fb) ∙ h in
-            rw er (fixed-at t 20 20 (unequal v w) (two #Equal v (leaf #True)) (ans-20 v w z) a a a Γ Γ v v v fa fa fa (sym (right-20 v _ _ _)));
+            rw er (fixed-at t 20 20 (unequal v w) (two #Equal v (leaf #True)) (ans-20 v w z) a a a Γ Γ v v v fa fa fa (unbound 20 (tagOf v) refl) (sym (right-20 v _ _ _)));
       }
 
   pub unequal-21 : right ≡ 405 → (r : Decision) → r ≡ D.Fixed 21 21 a a a → DecidesTwo unequal s st nx a b r
@@ -59,7 +59,7 @@ module _ (s st nx : List ℕ) (a b : ℕ) (right : ℕ) (pr : TagPost s st b rig
       record {
         means = λ t n Γ v w tb fa fb x Ξ kept.
             let z : tagOf w ≡ 405 = sym (pr .tag t n Γ w (tb .framed) fb) ∙ h in
-            rw er (fixed-at t 21 21 (unequal v w) (two #Equal v (leaf #False)) (ans-21 v w z) a a a Γ Γ v v v fa fa fa (sym (right-21 v _ _ _)));
+            rw er (fixed-at t 21 21 (unequal v w) (two #Equal v (leaf #False)) (ans-21 v w z) a a a Γ Γ v v v fa fa fa (unbound 21 (tagOf v) refl) (sym (right-21 v _ _ _)));
       }
 
   module _ (h : right ≡ 406 → ⊥) (i : right ≡ 405 → ⊥) (left : ℕ) (pl : TagPost s st a left) where
@@ -69,7 +69,7 @@ module _ (s st nx : List ℕ) (a b : ℕ) (right : ℕ) (pr : TagPost s st b rig
           means = λ t n Γ v w tb fa fb x Ξ kept.
               let y = pr .tag t n Γ w (tb .framed) fb in
               let z : tagOf v ≡ 406 = sym (pl .tag t n Γ v (tb .framed) fa) ∙ j in
-              rw er (fixed-at t 22 22 (unequal v w) (two #Equal (leaf #True) w) (ans-22 v w (λ q. h (y ∙ q)) (λ q. i (y ∙ q)) z) b b a Γ Γ w w v fb fb fa (sym (right-22 w _ _ _)));
+              rw er (fixed-at t 22 22 (unequal v w) (two #Equal (leaf #True) w) (ans-22 v w (λ q. h (y ∙ q)) (λ q. i (y ∙ q)) z) b b a Γ Γ w w v fb fb fa (unbound 22 (tagOf v) refl) (sym (right-22 w _ _ _)));
         }
 
     pub unequal-23 : left ≡ 405 → (r : Decision) → r ≡ D.Fixed 23 23 b b a → DecidesTwo unequal s st nx a b r
@@ -78,7 +78,7 @@ module _ (s st nx : List ℕ) (a b : ℕ) (right : ℕ) (pr : TagPost s st b rig
           means = λ t n Γ v w tb fa fb x Ξ kept.
               let y = pr .tag t n Γ w (tb .framed) fb in
               let z : tagOf v ≡ 405 = sym (pl .tag t n Γ v (tb .framed) fa) ∙ j in
-              rw er (fixed-at t 23 23 (unequal v w) (two #Equal (leaf #False) w) (ans-23 v w (λ q. h (y ∙ q)) (λ q. i (y ∙ q)) z) b b a Γ Γ w w v fb fb fa (sym (right-23 w _ _ _)));
+              rw er (fixed-at t 23 23 (unequal v w) (two #Equal (leaf #False) w) (ans-23 v w (λ q. h (y ∙ q)) (λ q. i (y ∙ q)) z) b b a Γ Γ w w v fb fb fa (unbound 23 (tagOf v) refl) (sym (right-23 w _ _ _)));
         }
 
     pub unequal-none : (left ≡ 406 → ⊥) → (left ≡ 405 → ⊥) → DecidesTwo unequal s st nx a b D.Rests
@@ -94,40 +94,40 @@ module _ (s st nx : List ℕ) (a b : ℕ) (right : ℕ) (pr : TagPost s st b rig
 module _ (s st nx : List ℕ) (k tag : ℕ) (pt : TagPost s st k tag) where
   pub not-82 : tag ≡ 610 → (r : Decision) → r ≡ D.Fixed 82 82 k k k → Decides negationOf s st nx k r
   unfolding onTag
-  not-82 key = by-node negationOf s st nx k tag pt 610 key 82 (λ Γ n us ks. leaf #BFalse) (λ Γ n us ks. refl) (λ Γ n us ks. sym (right-82 _ _ _))
+  not-82 key = by-node negationOf s st nx k tag pt 610 key 82 refl (λ Γ n us ks. leaf #BFalse) (λ Γ n us ks. refl) (λ Γ n us ks. sym (right-82 _ _ _))
 
   pub not-83 : tag ≡ 611 → (r : Decision) → r ≡ D.Fixed 83 83 k k k → Decides negationOf s st nx k r
   unfolding onTag
-  not-83 key = by-node negationOf s st nx k tag pt 611 key 83 (λ Γ n us ks. leaf #BTrue) (λ Γ n us ks. refl) (λ Γ n us ks. sym (right-83 _ _ _))
+  not-83 key = by-node negationOf s st nx k tag pt 611 key 83 refl (λ Γ n us ks. leaf #BTrue) (λ Γ n us ks. refl) (λ Γ n us ks. sym (right-83 _ _ _))
 
   pub not-84 : tag ≡ 701 → (r : Decision) → r ≡ D.Fixed 84 84 (k + 1) (k + 1) k → Decides negationOf s st nx k r
   unfolding onTag lookup classOf formAt
   not-84 key =
-      by-single negationOf s st nx k tag pt 701 key 84 predicate (λ x. refl) (λ Γ n us a. a) (λ Γ n us a. refl) (λ Γ n us a. sym (right-84 a _ _ _))
+      by-single negationOf s st nx k tag pt 701 key 84 refl predicate (λ x. refl) (λ Γ n us a. a) (λ Γ n us a. refl) (λ Γ n us a. sym (right-84 a _ _ _))
 
   module _ (j : ℕ) (ej : k + 1 < 2048 → j ≡ getD nx (k + 1) 0) where
     pub not-16 : tag ≡ 104 → (r : Decision) → r ≡ D.Fixed 16 16 (k + 1) j k → Decides negationOf s st nx k r
     unfolding onTag lookup classOf formAt
     not-16 key =
-        by-double negationOf s st nx k tag pt 104 key 16 expression expression (λ x. refl) (λ Γ n us a b. two #Gt a b) (λ Γ n us a b. refl)
+        by-double negationOf s st nx k tag pt 104 key 16 refl expression expression (λ x. refl) (λ Γ n us a b. two #Gt a b) (λ Γ n us a b. refl)
         (λ Γ n us a b. sym (right-16 a b _ us)) j ej
 
     pub not-17 : tag ≡ 106 → (r : Decision) → r ≡ D.Fixed 17 17 (k + 1) j k → Decides negationOf s st nx k r
     unfolding onTag lookup classOf formAt
     not-17 key =
-        by-double negationOf s st nx k tag pt 106 key 17 expression expression (λ x. refl) (λ Γ n us a b. two #Lt a b) (λ Γ n us a b. refl)
+        by-double negationOf s st nx k tag pt 106 key 17 refl expression expression (λ x. refl) (λ Γ n us a b. two #Lt a b) (λ Γ n us a b. refl)
         (λ Γ n us a b. sym (right-17 a b _ us)) j ej
 
     pub not-18 : tag ≡ 105 → (r : Decision) → r ≡ D.Fixed 18 18 (k + 1) j k → Decides negationOf s st nx k r
     unfolding onTag lookup classOf formAt
     not-18 key =
-        by-double negationOf s st nx k tag pt 105 key 18 expression expression (λ x. refl) (λ Γ n us a b. two #Le a b) (λ Γ n us a b. refl)
+        by-double negationOf s st nx k tag pt 105 key 18 refl expression expression (λ x. refl) (λ Γ n us a b. two #Le a b) (λ Γ n us a b. refl)
         (λ Γ n us a b. sym (right-18 a b _ us)) j ej
 
     pub not-19 : tag ≡ 103 → (r : Decision) → r ≡ D.Fixed 19 19 (k + 1) j k → Decides negationOf s st nx k r
     unfolding onTag lookup classOf formAt
     not-19 key =
-        by-double negationOf s st nx k tag pt 103 key 19 expression expression (λ x. refl) (λ Γ n us a b. two #Ge a b) (λ Γ n us a b. refl)
+        by-double negationOf s st nx k tag pt 103 key 19 refl expression expression (λ x. refl) (λ Γ n us a b. two #Ge a b) (λ Γ n us a b. refl)
         (λ Γ n us a b. sym (right-19 a b _ us)) j ej
 
     -- ¬ a = b: at the two children

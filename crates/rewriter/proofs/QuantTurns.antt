@@ -21,7 +21,7 @@ use Rattle.rewriter.specs.Decides.{Here, Decides}
 use Rattle.rewriter.specs.RulesAt.{partitionOf, forallOf, existsOf}
 use Rattle.rewriter.specs.declared.decision.Decision.{Decision}
 use Rattle.rewriter.specs.declared.decision.Decision.the-variants as D
-use Rattle.rewriter.proofs.Shapes.{Single, single, Double, double, any, place-few, fixed-at, each-means, joins-and, joins-or, by-rest, Takes}
+use Rattle.rewriter.proofs.Shapes.{Single, single, Double, double, any, place-few, fixed-at, few-of, sorted-is, each-means, joins-and, joins-or, by-rest, Takes}
 
 -- ---- partition(S), partition(S, T)
 module _ (s st nx : List ℕ) (k tag : ℕ) (pt : TagPost s st k tag) where
@@ -49,7 +49,7 @@ module _ (s st nx : List ℕ) (k tag : ℕ) (pt : TagPost s st k tag) where
         go t n Γ i us nil tb fx h = absurd (omega arith)
         go t n Γ i us (cons a nil) tb fx h =
             let fa = only-child t nx (tb .follows) k Γ 901 i us a fx in
-            fixed-at t 14 14 (to 14 (isEmpty Γ a)) (isEmpty Γ a) refl (k + 1) (k + 1) k Γ Γ a a (node (head 901 i us) (cons a nil)) fa fa fx (sym (right-14 Γ a _ _ us))
+            fixed-at t 14 14 (to 14 (isEmpty Γ a)) (isEmpty Γ a) refl (k + 1) (k + 1) k Γ Γ a a (node (head 901 i us) (cons a nil)) fa fa fx refl (sym (right-14 Γ a _ _ us))
         go t n Γ i us (cons a (cons b ks)) tb fx h = absurd (omega arith)
 
     pub part-15 : m ≡ 2 → (j : ℕ) → (k + 1 < 2048 → j ≡ getD nx (k + 1) 0) → (r : Decision) → r ≡ D.Fixed 15 15 (k + 1) j k → Decides partitionOf s st nx k r
@@ -70,7 +70,7 @@ module _ (s st nx : List ℕ) (k tag : ℕ) (pt : TagPost s st k tag) where
         go t n Γ i us (cons a (cons b nil)) tb fx h =
             let fs = two-children t nx (tb .follows) k Γ 901 i us a b fx in
             rw (ej (place-few tb (fs .0)))
-            (fixed-at t 15 15 (to 15 (two #Equal a b)) (two #Equal a b) refl (k + 1) (getD nx (k + 1) 0) k Γ Γ a b (node (head 901 i us) (cons a (cons b nil))) (fs .0) (fs .1) fx (sym (right-15 a b _ us)))
+            (fixed-at t 15 15 (to 15 (two #Equal a b)) (two #Equal a b) refl (k + 1) (getD nx (k + 1) 0) k Γ Γ a b (node (head 901 i us) (cons a (cons b nil))) (fs .0) (fs .1) fx refl (sym (right-15 a b _ us)))
         go t n Γ i us (cons a (cons b (cons c ks))) tb fx h = absurd (omega arith)
 
     pub part-none : (m ≡ 1 → ⊥) → (m ≡ 2 → ⊥) → Decides partitionOf s st nx k D.Rests
@@ -140,9 +140,10 @@ module _ (s st nx : List ℕ) (k tag : ℕ) (pt : TagPost s st k tag) where
               let fa = only-child t nx (tb .follows) k Γ 851 (o .n) (o .us) (o .a) fx in
               let y = any 351 (o .a) (sym (pb .tag t n (push (o .us) Γ) (o .a) (tb .framed) fa) ∙ z) in
               let fy : find t [] (k + 1) ≡ found (push (o .us) Γ) (node (head 351 (y .n) (y .us)) (y .ks)) = fa ∙ ap (found (push (o .us) Γ)) (y .is) in
+              let few = few-of 351 (λ i ts m. refl) (y .n) (y .us) (y .ks) (sorted-is (o .a) (node (head 351 (y .n) (y .us)) (y .ks)) (y .is) (place-sorted s t st n (tb .framed) (k + 1) (push (o .us) Γ) (o .a) fa)) in
               rw (er, o .is, y .is)
-              (each-means t 85 (k + 1) k (to 85 (many #LAnd (mapF (quantified #Forall (o .us)) (y .ks)))) 351 joins-and (quantified #Forall (o .us)) (y .ks) refl
-              (push (o .us) Γ) 351 (y .n) (y .us) fy Γ x fx (λ a. sym (right-85 a _ _ (o .us))));
+              (each-means t 85 (k + 1) k (to 85 (many #LAnd (mapF (quantified #Forall (o .us)) (y .ks)))) joins-and (quantified #Forall (o .us)) (y .ks) refl
+              (push (o .us) Γ) 351 (y .n) (y .us) fy few Γ x fx refl (λ a. sym (right-85 a _ _ (o .us))));
         }
 
     pub forall-none : tag ≡ 851 → (body ≡ 351 → ⊥) → Decides forallOf s st nx k D.Rests
@@ -171,9 +172,10 @@ module _ (s st nx : List ℕ) (k tag : ℕ) (pt : TagPost s st k tag) where
               let fa = only-child t nx (tb .follows) k Γ 852 (o .n) (o .us) (o .a) fx in
               let y = any 352 (o .a) (sym (pb .tag t n (push (o .us) Γ) (o .a) (tb .framed) fa) ∙ z) in
               let fy : find t [] (k + 1) ≡ found (push (o .us) Γ) (node (head 352 (y .n) (y .us)) (y .ks)) = fa ∙ ap (found (push (o .us) Γ)) (y .is) in
+              let few = few-of 352 (λ i ts m. refl) (y .n) (y .us) (y .ks) (sorted-is (o .a) (node (head 352 (y .n) (y .us)) (y .ks)) (y .is) (place-sorted s t st n (tb .framed) (k + 1) (push (o .us) Γ) (o .a) fa)) in
               rw (er, o .is, y .is)
-              (each-means t 86 (k + 1) k (to 86 (many #LOr (mapF (quantified #Exists (o .us)) (y .ks)))) 352 joins-or (quantified #Exists (o .us)) (y .ks) refl
-              (push (o .us) Γ) 352 (y .n) (y .us) fy Γ x fx (λ a. sym (right-86 a _ _ (o .us))));
+              (each-means t 86 (k + 1) k (to 86 (many #LOr (mapF (quantified #Exists (o .us)) (y .ks)))) joins-or (quantified #Exists (o .us)) (y .ks) refl
+              (push (o .us) Γ) 352 (y .n) (y .us) fy few Γ x fx refl (λ a. sym (right-86 a _ _ (o .us))));
         }
 
     pub out-87 : tag ≡ 852 → body ≡ 251 → (j : ℕ) → (k + 1 + 1 < 2048 → j ≡ getD nx (k + 1 + 1) 0) → (r : Decision) → r ≡ D.Fixed 87 87 (k + 1 + 1) j k
@@ -192,7 +194,7 @@ module _ (s st nx : List ℕ) (k tag : ℕ) (pt : TagPost s st k tag) where
               let fs = two-children t nx (tb .follows) (k + 1) Δ 251 (y .n) (y .us) (y .a) (y .b) fy in
               let new : Tree = two #LImp (quantified #Forall (o .us) (y .a)) (quantified #Exists (o .us) (y .b)) in
               rw (er, o .is, y .is, ej (place-few tb (fs .0)))
-              (fixed-at t 87 87 (to 87 new) new refl (k + 1 + 1) (getD nx (k + 1 + 1) 0) k Δ Γ (y .a) (y .b) x (fs .0) (fs .1) fx (sym (right-87 (y .a) (y .b) _ (o .us))));
+              (fixed-at t 87 87 (to 87 new) new refl (k + 1 + 1) (getD nx (k + 1 + 1) 0) k Δ Γ (y .a) (y .b) x (fs .0) (fs .1) fx refl (sym (right-87 (y .a) (y .b) _ (o .us))));
         }
 
     pub exists-none : tag ≡ 852 → (body ≡ 352 → ⊥) → (body ≡ 251 → ⊥) → Decides existsOf s st nx k D.Rests

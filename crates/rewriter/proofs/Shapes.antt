@@ -2,12 +2,12 @@
 -- Main results: here-few, here-placed, first-placed, second-placed; tag-of; bare, single, double (the shape by the tag);
 -- Node and node-here (what the tables say of a place), fixed-0, fixed-1, fixed-2 (decisions on a node, its child, its two children).
 use mathlib.Core.Path.{_≡_, refl, sym, ap, ap₂, _∙_}
-use mathlib.Core.Bool.{Bool, true, false, _&&_}
+use mathlib.Core.Bool.{Bool, true, false, not, _&&_, _||_}
 use mathlib.Core.List.{List, [], _∷_, _++_}
 use Prim.Native.Nat.{ℕ, _+_, _/_, _≤_, _<_}
 use native.Mathlib.Omega.{arith}
 use lib.ListN.{getD}
-use lib.Dec.{eqb, leb}
+use lib.Dec.{eqb, leb, ltb}
 use borrow.Author.Tests.{leb-true, ne-eqb}
 use Rattle.frame.specs.Types.{Ty}
 use Rattle.frame.specs.Trees.{head, Tree, node, Forest, nil, cons, count, tagOf, nodes, many, mapF}
@@ -17,6 +17,7 @@ use Rattle.frame.specs.WellFormed.{Wf, Wfs, numberIn}
 use Rattle.frame.specs.Places.{Ctx, under, found, find}
 use Rattle.frame.proofs.Splices.{find-lt}
 use Rattle.frame.proofs.SameTrees.{both-true}
+use Rattle.frame.proofs.Inversion.{true-not}
 use Rattle.rules.proofs.Operands.{count-map}
 use Rattle.nav.specs.PlaceTables.{Table, Placed, TagPost, ChildrenPost}
 use Rattle.nav.proofs.Hops.{framed-few, Sorted, place-sorted}
@@ -24,8 +25,8 @@ use Rattle.nav.proofs.SamePlaces.{only-child, two-children}
 use Rattle.rules.specs.Change.{Change, to, same, _orElse_, with2, joined}
 use Rattle.emit.specs.Template.{filled}
 use Rattle.emit.specs.Programs.{template}
-use Rattle.rewriter.specs.Decision.{filling, FixedMeans, eachFilled, EachMeans, Means}
-use Rattle.rewriter.specs.Decides.{Here, HereTwo, Decides, DecidesTwo}
+use Rattle.rewriter.specs.Decision.{filling, takesBinders, hasBinders, Bound, joint, FixedMeans, eachFilled, EachMeans, Means}
+use Rattle.rewriter.specs.Decides.{Here, HereTwo, Decides, DecidesPair, DecidesTwo}
 use Rattle.rewriter.specs.declared.decision.Decision.{Decision}
 use Rattle.rewriter.specs.declared.decision.Decision.the-variants as D
 
@@ -120,9 +121,18 @@ ownTypes (node (head g n us) ks) = us
 -- operands anywhere, in one context
 pub fixed-at : (t : Tree) (place pattern : ℕ) (c : Change) (new : Tree) → c ≡ to place new
     → (i j k : ℕ) (Δ Θ : Ctx) (a b v : Tree) → find t [] i ≡ found Δ a → find t [] j ≡ found Δ b → find t [] k ≡ found Θ v
-    → enc new ≡ filled (template pattern) (filling Δ a b (ownTypes v)) → FixedMeans t place pattern i j k c
-fixed-at t place pattern c new ans i j k Δ Θ a b (node (head g n us) ks) fi fj fk e =
-    record { new = new; answer = ans; Δ = Δ; a = a; b = b; at-first = fi; at-second = fj; Θ = Θ; g = g; n = n; us = us; ks = ks; at-binder = fk; bytes = e }
+    → Bound pattern (tagOf v) → enc new ≡ filled (template pattern) (filling Δ a b (ownTypes v)) → FixedMeans t place pattern i j k c
+fixed-at t place pattern c new ans i j k Δ Θ a b (node (head g n us) ks) fi fj fk bd e =
+    record { new = new; answer = ans; Δ = Δ; a = a; b = b; at-first = fi; at-second = fj; Θ = Θ; g = g; n = n; us = us; ks = ks; at-binder = fk; bound = bd; bytes = e }
+
+-- a pattern that takes no binders goes with any node
+pub unbound : (p g : ℕ) → (ltb p 88 && not (takesBinders p)) ≡ true → Bound p g
+unbound p g h = go (ltb p 88) (not (takesBinders p)) h
+  where
+    go : (x y : Bool) → (x && y) ≡ true → (x && (y || hasBinders (formOf g .layout))) ≡ true
+    go true true z = refl
+    go true false z = true-not z
+    go false y z = z
 
 -- what a function decides by the tag at place k alone
 module _ (rule : Ctx → Tree → Change) (s st nx : List ℕ) (k tag : ℕ) (pt : TagPost s st k tag) where
@@ -131,7 +141,7 @@ module _ (rule : Ctx → Tree → Change) (s st nx : List ℕ) (k tag : ℕ) (pt
   by-rest ans r er =
       record { means = λ t n Γ v tb f w Ξ kept. rw er (ans Γ v (sym (pt .tag t n Γ v (tb .framed) f))) }
 
-  module _ (g : ℕ) (key : tag ≡ g) (place : ℕ) where
+  module _ (g : ℕ) (key : tag ≡ g) (place : ℕ) (bd : Bound place g) where
     tag-is : {t : Tree} {n : ℕ} {Γ : Ctx} {v : Tree} → Table s t st nx n → find t [] k ≡ found Γ v → tagOf v ≡ g
     tag-is {t} {n} {Γ} {v} tb f = sym (pt .tag t n Γ v (tb .framed) f) ∙ key
 
@@ -147,7 +157,7 @@ module _ (rule : Ctx → Tree → Change) (s st nx : List ℕ) (k tag : ℕ) (pt
               let x : Tree = node (head g (o .n) (o .us)) (o .ks) in
               let fx : find t [] k ≡ found Γ x = f ∙ ap (found Γ) (o .is) in
               rw (er, o .is)
-              (fixed-at t place place (rule Γ x) (new Γ (o .n) (o .us) (o .ks)) (ans Γ (o .n) (o .us) (o .ks)) k k k Γ Γ x x x fx fx fx (bytes Γ (o .n) (o .us) (o .ks)));
+              (fixed-at t place place (rule Γ x) (new Γ (o .n) (o .us) (o .ks)) (ans Γ (o .n) (o .us) (o .ks)) k k k Γ Γ x x x fx fx fx bd (bytes Γ (o .n) (o .us) (o .ks)));
         }
 
     -- its operand is the child
@@ -163,7 +173,7 @@ module _ (rule : Ctx → Tree → Change) (s st nx : List ℕ) (k tag : ℕ) (pt
               let fx : find t [] k ≡ found Γ x = f ∙ ap (found Γ) (o .is) in
               let fa = only-child t nx (tb .follows) k Γ g (o .n) (o .us) (o .a) fx in
               rw (er, o .is)
-              (fixed-at t place place (rule Γ x) (new Γ (o .n) (o .us) (o .a)) (ans Γ (o .n) (o .us) (o .a)) (k + 1) (k + 1) k (under g (o .us) Γ) Γ (o .a) (o .a) x fa fa fx (bytes Γ (o .n) (o .us) (o .a)));
+              (fixed-at t place place (rule Γ x) (new Γ (o .n) (o .us) (o .a)) (ans Γ (o .n) (o .us) (o .a)) (k + 1) (k + 1) k (under g (o .us) Γ) Γ (o .a) (o .a) x fa fa fx bd (bytes Γ (o .n) (o .us) (o .a)));
         }
 
     -- its operands are the two children
@@ -180,7 +190,7 @@ module _ (rule : Ctx → Tree → Change) (s st nx : List ℕ) (k tag : ℕ) (pt
               let fx : find t [] k ≡ found Γ x = f ∙ ap (found Γ) (o .is) in
               let fs = two-children t nx (tb .follows) k Γ g (o .n) (o .us) (o .a) (o .b) fx in
               rw (er, o .is, ej (place-few tb (fs .0)))
-              (fixed-at t place place (rule Γ x) (new Γ (o .n) (o .us) (o .a) (o .b)) (ans Γ (o .n) (o .us) (o .a) (o .b)) (k + 1) (getD nx (k + 1) 0) k (under g (o .us) Γ) Γ (o .a) (o .b) x (fs .0) (fs .1) fx (bytes Γ (o .n) (o .us) (o .a) (o .b)));
+              (fixed-at t place place (rule Γ x) (new Γ (o .n) (o .us) (o .a) (o .b)) (ans Γ (o .n) (o .us) (o .a) (o .b)) (k + 1) (getD nx (k + 1) 0) k (under g (o .us) Γ) Γ (o .a) (o .b) x (fs .0) (fs .1) fx bd (bytes Γ (o .n) (o .us) (o .a) (o .b)));
         }
 
 -- ---- a pattern for each child
@@ -207,50 +217,63 @@ joined-many o f nil h = absurd (omega arith)
 joined-many o f (cons a nil) h = absurd (omega arith)
 joined-many o f (cons a (cons b ks)) h = refl
 
-pub each-means : (t : Tree) (place at binder : ℕ) (c : Change) (o : ℕ) → Joins o → (f : Tree → Tree) (ks : Forest) → c ≡ to place (many o (mapF f ks))
-    → (Ξ : Ctx) (g n : ℕ) (vs : List Ty) → find t [] at ≡ found Ξ (node (head g n vs) ks)
-    → (Θ : Ctx) (b : Tree) → find t [] binder ≡ found Θ b
+pub each-means : (t : Tree) (place at binder : ℕ) (c : Change) → Joins (joint place) → (f : Tree → Tree) (ks : Forest) → c ≡ to place (many (joint place) (mapF f ks))
+    → (Ξ : Ctx) (g n : ℕ) (vs : List Ty) → find t [] at ≡ found Ξ (node (head g n vs) ks) → count ks ≤ 255
+    → (Θ : Ctx) (b : Tree) → find t [] binder ≡ found Θ b → Bound place (tagOf b)
     → ((a : Tree) → enc (f a) ≡ filled (template place) (filling (under g vs Ξ) a a (ownTypes b)))
     → EachMeans t place at binder c
-each-means t place at binder c o j f ks ans Ξ g n vs fa Θ (node (head h m us) ls) fb bytes =
+each-means t place at binder c j f ks ans Ξ g n vs fa few Θ (node (head h m us) ls) fb bd bytes =
     record {
-      new = many o (mapF f ks);
+      new = many (joint place) (mapF f ks);
       answer = ans;
-      o = o;
-      Δ = under g vs Ξ;
+      Ξ = Ξ;
       g = g;
-      us = us;
+      n = n;
+      vs = vs;
       ks = ks;
-      at-node = (Ξ, n, vs, fa);
-      at-binder = (Θ, h, m, ls, fb);
-      bytes = j (mapF f ks) ∙ ap₂ (λ (x : ℕ) (y : List ℕ). encNumber 2 o ++ (x ∷ y)) (count-map f ks) (each-bytes place (under g vs Ξ) us f bytes ks);
+      at-node = fa;
+      few = few;
+      Θ = Θ;
+      h = h;
+      m = m;
+      us = us;
+      ls = ls;
+      at-binder = fb;
+      bound = bd;
+      bytes = j (mapF f ks) ∙ ap₂ (λ (x : ℕ) (y : List ℕ). encNumber 2 (joint place) ++ (x ∷ y)) (count-map f ks) (each-bytes place (under g vs Ξ) us f bytes ks);
     }
 
 -- the children of a tag that is followed by a count from 2 on
 abbrev pub Counts : ℕ → Type 0
 Counts g = (n : ℕ) (us : List Ty) (m : ℕ) → inRange (formOf g .layout) (numberIn g n us m) ≡ (leb 2 m && leb m 255)
 
-pub some-two : (g : ℕ) → Counts g → (n : ℕ) (us : List Ty) (ks : Forest) → Sorted (node (head g n us) ks) → 2 ≤ count ks
-some-two g h n us ks (e, w) =
-    leb-true 2 (count ks) (both-true (leb 2 (count ks)) (leb (count ks) 255) (sym (h n us (count ks)) ∙ w .0 .range) .0)
+both-counts : (g : ℕ) → Counts g → (n : ℕ) (us : List Ty) (ks : Forest) → Sorted (node (head g n us) ks) → (leb 2 (count ks) ≡ true) × (leb (count ks) 255 ≡ true)
+both-counts g h n us ks (e, w) = both-true (leb 2 (count ks)) (leb (count ks) 255) (sym (h n us (count ks)) ∙ w .0 .range)
 
-sorted-is : (v w : Tree) → v ≡ w → Sorted v → Sorted w
+pub few-of : (g : ℕ) → Counts g → (n : ℕ) (us : List Ty) (ks : Forest) → Sorted (node (head g n us) ks) → count ks ≤ 255
+few-of g h n us ks o = leb-true (count ks) 255 (both-counts g h n us ks o .1)
+
+pub some-two : (g : ℕ) → Counts g → (n : ℕ) (us : List Ty) (ks : Forest) → Sorted (node (head g n us) ks) → 2 ≤ count ks
+some-two g h n us ks o = leb-true 2 (count ks) (both-counts g h n us ks o .0)
+
+pub sorted-is : (v w : Tree) → v ≡ w → Sorted v → Sorted w
 sorted-is v w z o = rw z at o
 
-module _ (rule : Ctx → Tree → Change) (s st nx : List ℕ) (k tag : ℕ) (pt : TagPost s st k tag) (g : ℕ) (key : tag ≡ g) (place : ℕ) where
-  pub by-each : Counts g → (o : ℕ) → Joins o → (f : Ctx → Tree → Tree)
-      → ((Γ : Ctx) (n : ℕ) (us : List Ty) (ks : Forest) → 2 ≤ count ks → rule Γ (node (head g n us) ks) ≡ to place (many o (mapF (f Γ) ks)))
+module _ (rule : Ctx → Tree → Change) (s st nx : List ℕ) (k tag : ℕ) (pt : TagPost s st k tag) (g : ℕ) (key : tag ≡ g) (place : ℕ) (bd : Bound place g) where
+  pub by-each : Counts g → Joins (joint place) → (f : Ctx → Tree → Tree)
+      → ((Γ : Ctx) (n : ℕ) (us : List Ty) (ks : Forest) → 2 ≤ count ks → rule Γ (node (head g n us) ks) ≡ to place (many (joint place) (mapF (f Γ) ks)))
       → ((Γ : Ctx) (us : List Ty) (a : Tree) → enc (f Γ a) ≡ filled (template place) (filling (under g us Γ) a a us))
       → (r : Decision) → r ≡ D.Each place k k → Decides rule s st nx k r
-  by-each cs o jo f ans bytes r er =
+  by-each cs jo f ans bytes r er =
       record {
         means = λ t n Γ v tb q w Ξ kept.
             let y = any g v (sym (pt .tag t n Γ v (tb .framed) q) ∙ key) in
             let x : Tree = node (head g (y .n) (y .us)) (y .ks) in
             let fx : find t [] k ≡ found Γ x = q ∙ ap (found Γ) (y .is) in
-            let l = some-two g cs (y .n) (y .us) (y .ks) (sorted-is v x (y .is) (place-sorted s t st n (tb .framed) k Γ v q)) in
+            let sx = sorted-is v x (y .is) (place-sorted s t st n (tb .framed) k Γ v q) in
+            let l = some-two g cs (y .n) (y .us) (y .ks) sx in
             rw (er, y .is)
-            (each-means t place k k (rule Γ x) o jo (f Γ) (y .ks) (ans Γ (y .n) (y .us) (y .ks) l) Γ g (y .n) (y .us) fx Γ x fx (bytes Γ (y .us)));
+            (each-means t place k k (rule Γ x) jo (f Γ) (y .ks) (ans Γ (y .n) (y .us) (y .ks) l) Γ g (y .n) (y .us) fx (few-of g cs (y .n) (y .us) (y .ks) sx) Γ x fx bd (bytes Γ (y .us)));
       }
 
   -- an operator over a list, where it has just two operands
@@ -278,7 +301,7 @@ module _ (rule : Ctx → Tree → Change) (s st nx : List ℕ) (k tag : ℕ) (pt
           let fs = two-children t nx (tb .follows) k Γ g i us a b fx in
           let x : Tree = node (head g i us) (cons a (cons b nil)) in
           rw (ej (place-few tb (fs .0)))
-          (fixed-at t place place (rule Γ x) (new Γ a b) (ans Γ i us (cons a (cons b nil))) (k + 1) (getD nx (k + 1) 0) k (under g us Γ) Γ a b x (fs .0) (fs .1) fx (bytes Γ us a b))
+          (fixed-at t place place (rule Γ x) (new Γ a b) (ans Γ i us (cons a (cons b nil))) (k + 1) (getD nx (k + 1) 0) k (under g us Γ) Γ a b x (fs .0) (fs .1) fx bd (bytes Γ us a b))
       go t n Γ i us (cons a (cons b (cons d ks))) tb fx w Ξ kept =
           let z : eqb (count (cons a (cons b (cons d ks)))) 2 ≡ false = ne-eqb (count (cons a (cons b (cons d ks)))) 2 (λ h. omega arith) in
           rw z (ans Γ i us (cons a (cons b (cons d ks))))
@@ -311,10 +334,10 @@ module _ (s st nx : List ℕ) (k tag : ℕ) (pt : TagPost s st k tag) (g : ℕ) 
         second = rw (ej (place-few (h .table) (fs .0))) (fs .1);
       }
 
-  pub by-two : (rule : Ctx → Tree → Change) (on : Tree → Tree → Change)
-      → ((Γ : Ctx) (n : ℕ) (us : List Ty) (a b : Tree) → rule Γ (node (head g n us) (cons a (cons b nil))) ≡ on a b)
-      → (r : Decision) → DecidesTwo on s st nx (k + 1) j r → Decides rule s st nx k r
-  by-two rule on ans r de =
+  pub by-both : (rule : Ctx → Tree → Change) (on : Ctx → Tree → Tree → Change)
+      → ((Γ : Ctx) (n : ℕ) (us : List Ty) (a b : Tree) → rule Γ (node (head g n us) (cons a (cons b nil))) ≡ on (under g us Γ) a b)
+      → (r : Decision) → DecidesPair on s st nx (k + 1) j r → Decides rule s st nx k r
+  by-both rule on ans r de =
       record {
         means = λ t n Γ v tb f w Ξ kept.
             let o = double g e d tk v (place-sorted s t st n (tb .framed) k Γ v f) (sym (pt .tag t n Γ v (tb .framed) f) ∙ key) in
@@ -322,3 +345,9 @@ module _ (s st nx : List ℕ) (k tag : ℕ) (pt : TagPost s st k tag) (g : ℕ) 
             rw (o .is, ans Γ (o .n) (o .us) (o .a) (o .b))
             (de .means t n (under g (o .us) Γ) (o .a) (o .b) tb (fs .0) (rw (ej (place-few tb (fs .0))) (fs .1)) w Ξ kept);
       }
+
+  -- where the rule does not ask for the context
+  pub by-two : (rule : Ctx → Tree → Change) (on : Tree → Tree → Change)
+      → ((Γ : Ctx) (n : ℕ) (us : List Ty) (a b : Tree) → rule Γ (node (head g n us) (cons a (cons b nil))) ≡ on a b)
+      → (r : Decision) → DecidesTwo on s st nx (k + 1) j r → Decides rule s st nx k r
+  by-two rule on ans r de = by-both rule (λ Γ. on) ans r de

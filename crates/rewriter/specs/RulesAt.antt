@@ -1,17 +1,18 @@
 -- The rules that are decided by places, at the trees whose tags they look at first.
 use Prim.Native.Nat.{ℕ}
-use mathlib.Core.Bool.{Bool, true, false, _&&_}
+use mathlib.Core.Bool.{Bool, false, _&&_}
+use mathlib.Core.List.{List, [], _∷_}
 use lib.Dec.{eqb}
 use Rattle.frame.specs.Trees.{head, Tree, node, Forest, nil, cons, leaf, two}
 use Rattle.frame.specs.Sameness.{sameTree}
-use Rattle.frame.specs.Tags.{pick}
-use Rattle.frame.specs.Operators.{#Equal, #BInter, #CSet, #Not, #Partition, #Forall, #Exists, #BTrue, #BFalse, #LAnd}
+use Rattle.frame.specs.Operators.{#Equal, #SRel, #STRel, #SetMinus, #CProd, #DProd, #PProd, #DomRes, #DomSub, #RanRes, #RanSub, #UpTo, #RelImage, #BInter, #BComp, #FComp, #QUnion, #Not, #Partition, #Forall, #Exists, #BTrue, #BFalse, #LAnd}
 use Rattle.frame.specs.Places.{Ctx}
-use Rattle.rules.specs.Change.{Change, to, same, _orElse_, when, isTag, onTag, with1, unary, quantifier, contains}
+use Rattle.rules.specs.Change.{Change, to, _orElse_, when, isTag, onTag, unary, quantifier, contains}
 use Rattle.rules.specs.Simplify.{makeNeg, simplifyNot, simplifyForall, simplifyExists}
 use Rattle.rules.specs.Negation.{rewriteNotInner, rewritePartition}
-use Rattle.rules.specs.Finite.{finite, isProjection, rewriteFinite}
-use Rattle.rules.specs.EqualsEmptySet.{rewriteEqualsEmptySet}
+use Rattle.rules.specs.Finite.{finite, isProjection}
+use Rattle.rules.specs.EqualsType.{rewriteEqualsType}
+use Rattle.rules.specs.Dispatch.{isOwnType}
 
 -- ¬ a: logic, then negation
 abbrev pub negationOf : Ctx → Tree → Change
@@ -21,13 +22,10 @@ negationOf Γ a = simplifyNot a orElse rewriteNotInner a
 abbrev pub unequal : Tree → Tree → Change
 unequal a b = rewriteNotInner (two #Equal a b)
 
--- a set equated to ∅, unless it is an intersection
-abbrev pub emptyButInter : Ctx → Tree → Change
-emptyButInter Γ e = pick (isTag #BInter e) same (rewriteEqualsEmptySet Γ e)
-
--- finite(S), unless S is a comprehension set
-abbrev pub finiteButSet : Ctx → Tree → Change
-finiteButSet Γ e = pick (isTag #CSet e) same (rewriteFinite Γ e)
+-- a set equated to ∅: the tags at which code looks for more than the tag. The last that is tested comes first.
+abbrev pub lookedUp : List ℕ
+lookedUp =
+    #QUnion ∷ #BComp ∷ #FComp ∷ #PProd ∷ #DProd ∷ #RelImage ∷ #RanSub ∷ #RanRes ∷ #DomSub ∷ #DomRes ∷ #STRel ∷ #SRel ∷ #UpTo ∷ #CProd ∷ #SetMinus ∷ #BInter ∷ []
 
 -- finite(a ◁ b)
 abbrev pub finiteRestricted : Tree → Tree → Change
@@ -72,3 +70,7 @@ impAnd left right =
     onTag #LAnd left (λ ts children.
     when (contains right children) (to 71 (leaf #BTrue))
     orElse when (contains (makeNeg right) children) (to 72 (makeNeg left)))
+
+-- v = w, where w is the type expression of its own elements
+abbrev pub typeRight : Ctx → Tree → Tree → Change
+typeRight Γ v w = when (isOwnType Γ w) (rewriteEqualsType Γ v)

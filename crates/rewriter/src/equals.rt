@@ -1,10 +1,12 @@
-// A set equated to the type expression of its elements (24 to 35), or to ∅ (36, 39 to 61): the set's tag says the place.
+// A set equated to the type expression of its elements (24 to 35), or to ∅ (36 to 61): the set's tag says the place.
 // Tags whose operands come in the node's own form need no further look.
 use crate::decision::Decision;
 use crate::operands::fixed;
+ghost use Prim.Native.Nat.{_<_};
 ghost use Rattle.rules.specs.EqualsType.{rewriteEqualsType};
-ghost use Rattle.rewriter.specs.Decides.{Here, Decides};
-ghost use Rattle.rewriter.specs.RulesAt.{emptyButInter};
+ghost use Rattle.rules.specs.EqualsEmptySet.{rewriteEqualsEmptySet};
+ghost use Rattle.rewriter.specs.Decides.{Here, Decides, ByTag, Unlike};
+ghost use Rattle.rewriter.specs.RulesAt.{lookedUp};
 
 // The set at place k equals the type expression of its elements.
 pub fn equals_type_at(s: &[u8], starts: &[u16; 2048], nexts: &[u16; 2048], k: usize) -> Decision
@@ -32,19 +34,42 @@ pub fn equals_type_at(s: &[u8], starts: &[u16; 2048], nexts: &[u16; 2048], k: us
     }
 }
 
+// The set equals ∅, of a tag that says the place and the operands by itself: they are the node, its children, or none.
+fn empty_by_tag(tag: usize, k: usize) -> Decision
+    requires { ⌜ (k < 2048) × Unlike tag lookedUp ⌝ }
+    ensures { λ r. ⌜ ByTag rewriteEqualsEmptySet tag k r ⌝ }
+{
+    let a = k + 1;
+    match tag {
+        5 => fixed(36, k, k, k),
+        301 => crate::operands::each(39, k),
+        752 => fixed(52, a, a, k),
+        753 => fixed(53, a, a, k),
+        754 => fixed(54, a, a, k),
+        756 => fixed(55, a, a, k),
+        757 => fixed(55, a, a, k),
+        763 => fixed(55, a, a, k),
+        305 => crate::operands::each(58, k),
+        402 => fixed(60, k, k, k),
+        403 => fixed(60, k, k, k),
+        412 => fixed(61, k, k, k),
+        410 => fixed(61, k, k, k),
+        411 => fixed(61, k, k, k),
+        _ => Decision::Rests,
+    }
+}
+
 // The set at place k equals ∅. An intersection has a function of its own.
 pub fn equals_empty_at(s: &[u8], starts: &[u16; 2048], nexts: &[u16; 2048], k: usize) -> Decision
     requires { ⌜ Here (now s) (now starts) (now nexts) k ⌝ }
-    ensures { λ r. ⌜ Decides emptyButInter (now (s .entry)) (now (starts .entry)) (now (nexts .entry)) k r ⌝ }
+    ensures { λ r. ⌜ Decides rewriteEqualsEmptySet (now (s .entry)) (now (starts .entry)) (now (nexts .entry)) k r ⌝ }
 {
     let tag = nav::places::tag_at(s, starts, k);
     let a = k + 1;
     let b = crate::operands::second_of(nexts, k);
     let m = nav::places::arity_at(s, starts, k);
     match tag {
-        5 => fixed(36, k, k, k),
-        302 => Decision::Rests,
-        301 => crate::operands::each(39, k),
+        302 => crate::inter::decide_inter(s, starts, nexts, k),
         213 => fixed(40, a, b, k),
         214 => fixed(41, a, b, k),
         221 => fixed(42, a, b, k),
@@ -57,21 +82,9 @@ pub fn equals_empty_at(s: &[u8], starts: &[u16; 2048], nexts: &[u16; 2048], k: u
         227 => fixed(49, a, b, k),
         215 => fixed(50, a, b, k),
         216 => fixed(51, a, b, k),
-        752 => fixed(52, a, a, k),
-        753 => fixed(53, a, a, k),
-        754 => fixed(54, a, a, k),
-        756 => fixed(55, a, a, k),
-        757 => fixed(55, a, a, k),
-        763 => fixed(55, a, a, k),
         304 => crate::operands::fixed_if_two(m, 56, a, b, k),
         303 => crate::operands::fixed_if_two(m, 57, a, b, k),
-        305 => crate::operands::each(58, k),
         801 => fixed(59, a, b, k),
-        402 => fixed(60, k, k, k),
-        403 => fixed(60, k, k, k),
-        412 => fixed(61, k, k, k),
-        410 => fixed(61, k, k, k),
-        411 => fixed(61, k, k, k),
-        _ => Decision::Rests,
+        _ => empty_by_tag(tag, k),
     }
 }

@@ -1,8 +1,10 @@
-// finite(S) by the tag of S (1 to 10, 12, 13).
+// finite(S) by the tag of S (1 to 13).
 use crate::decision::Decision;
 use crate::operands::fixed;
 ghost use Rattle.rewriter.specs.Decides.{Here, HereTwo, Decides, DecidesTwo};
-ghost use Rattle.rewriter.specs.RulesAt.{finiteButSet, finiteRestricted};
+ghost use Rattle.rewriter.specs.RulesAt.{finiteRestricted};
+ghost use Rattle.rewriter.specs.FiniteSet.{SetPre, SetPost};
+ghost use Rattle.rules.specs.Finite.{rewriteFinite};
 
 // finite(a ◁ b), where b is id, prj1 or prj2.
 fn finite_restricted_at(
@@ -24,10 +26,28 @@ fn finite_restricted_at(
     }
 }
 
-// finite of the set at place k. A comprehension set has a function of its own.
+// finite of the comprehension set at place k, {x · P ∣ E ↦ F}: as finite as {x · P ∣ E} where F is a function of E.
+fn finite_set_at(s: &[u8], starts: &[u16; 2048], nexts: &[u16; 2048], k: usize) -> Decision
+    requires { ⌜ SetPre (now s) (now starts) (now nexts) k ⌝ }
+    ensures { λ r. ⌜ SetPost (now (s .entry)) (now (starts .entry)) (now (nexts .entry)) k r ⌝ }
+{
+    let value = crate::operands::second_of(nexts, k);
+    if nav::places::tag_at(s, starts, value) != 201 {
+        return Decision::Rests;
+    }
+    let left = value + 1;
+    let right = crate::operands::second_of(nexts, value);
+    let n = functional::binders_at(s, starts, k);
+    if functional::functional_check(s, starts, nexts, left, right, n) {
+        return fixed(11, k + 1, left, k);
+    }
+    Decision::Rests
+}
+
+// finite of the set at place k.
 pub fn finite_at(s: &[u8], starts: &[u16; 2048], nexts: &[u16; 2048], k: usize) -> Decision
     requires { ⌜ Here (now s) (now starts) (now nexts) k ⌝ }
-    ensures { λ r. ⌜ Decides finiteButSet (now (s .entry)) (now (starts .entry)) (now (nexts .entry)) k r ⌝ }
+    ensures { λ r. ⌜ Decides rewriteFinite (now (s .entry)) (now (starts .entry)) (now (nexts .entry)) k r ⌝ }
 {
     let tag = nav::places::tag_at(s, starts, k);
     let a = k + 1;
@@ -45,7 +65,7 @@ pub fn finite_at(s: &[u8], starts: &[u16; 2048], nexts: &[u16; 2048], k: usize) 
         214 => fixed(8, a, b, k),
         763 => fixed(9, a, a, k),
         221 => fixed(10, k, k, k),
-        803 => Decision::Rests,
+        803 => finite_set_at(s, starts, nexts, k),
         217 => finite_restricted_at(s, starts, nexts, a, b),
         410 => fixed(13, k, k, k),
         411 => fixed(13, k, k, k),

@@ -1,17 +1,8 @@
-// ∩ = ∅: which operands are sets of one member, and which are differences.
+// ∩ = ∅: operands that are sets of one member, or differences.
+use crate::decision::Decision;
+ghost use mathlib.Core.Path.{_≡_};
 ghost use Rattle.nav.specs.PlaceTables.{Placed};
-ghost use Rattle.rewriter.specs.Inter.{SinglePost, MinusPost, InterPre, AnyMinusPost};
-
-// Whether the expression at place k is a set of one member, {a}.
-fn is_single(s: &[u8], starts: &[u16; 2048], k: usize) -> bool
-    requires { ⌜ Placed (now s) (now starts) k ⌝ }
-    ensures { λ r. ⌜ SinglePost (now (s .entry)) (now (starts .entry)) k r ⌝ }
-{
-    if nav::places::tag_at(s, starts, k) != 5 {
-        return false;
-    }
-    nav::places::arity_at(s, starts, k) == 1
-}
+ghost use Rattle.rewriter.specs.Inter.{MinusPost, InterPre, AnyMinusPost, apartWhen, InterPost};
 
 // Whether the expression at place k is a difference, A ∖ B.
 fn is_minus(s: &[u8], starts: &[u16; 2048], k: usize) -> bool
@@ -37,4 +28,35 @@ fn any_minus(s: &[u8], starts: &[u16; 2048], nexts: &[u16; 2048], k: usize) -> b
         i += 1;
     }
     false
+}
+
+// Whether the rule for a set of one member applies to n operands, of which m are such sets. The others must be just one, or
+// have no such set among them.
+fn is_apart(n: usize, m: usize) -> bool
+    ensures { λ r. ⌜ r ≡ apartWhen n m ⌝ }
+{
+    if m == 0 {
+        return false;
+    }
+    if n == 2 {
+        return true;
+    }
+    m == 1
+}
+
+// The intersection at place k equals ∅.
+pub fn decide_inter(s: &[u8], starts: &[u16; 2048], nexts: &[u16; 2048], k: usize) -> Decision
+    requires { ⌜ InterPre (now s) (now starts) (now nexts) k ⌝ }
+    ensures { λ r. ⌜ InterPost (now (s .entry)) (now (starts .entry)) (now (nexts .entry)) k r ⌝ }
+{
+    let n = nav::places::arity_at(s, starts, k);
+    let m = crate::singles::count_singles(s, starts, nexts, k);
+    if is_apart(n, m) {
+        let p = crate::singles::first_single(s, starts, nexts, k);
+        return Decision::Apart { node: k, single: p };
+    }
+    if any_minus(s, starts, nexts, k) {
+        return Decision::Within(k);
+    }
+    Decision::Rests
 }

@@ -7,5 +7,9 @@ pub mod finite; // finite.rt: finite(S)
 pub mod logic; // logic.rt: ⇒ and ⇔
 pub mod quantified; // quantified.rt: quantifiers, and partitions
 pub mod junction; // junction.rt: ∧ and ∨
+pub mod singles; // singles.rt: sets of one member among operands
 pub mod inter; // inter.rt: ∩ = ∅
 pub mod contains; // contains.rt: a tree among others
+pub mod own_type; // own_type.rt: an expression that is a type
+pub mod equality; // equality.rt: = and ⊆
+pub mod dispatch; // dispatch.rt: which rule a node goes to

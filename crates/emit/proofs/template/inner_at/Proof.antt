@@ -1,52 +1,59 @@
-use Rattle.emit.proofs.MadeTypes.{source-has, inner-whole, inner-ran, inner-element, inner-rest}
+use Rattle.emit.proofs.MadeTypes.{make-has, element-has, inner-whole, inner-ran, inner-element, inner-elements, inner-rest}
 use borrow.Author.Needs.{needs}
 use Rattle.emit.proofs.template.inner_at.Statement.{statement}
 use Rattle.emit.proofs.template.inner_at.Tie as tie
 use Rattle.emit.proofs.template.inner_at.Reads as reads
 use Rattle.emit.proofs.template.inner_at.Lts as lts
-use Rattle.emit.proofs.type_expression.type_end.Reads as type-end-reads
+use Rattle.emit.proofs.template.element_at.Reads as element-at-reads
+use Rattle.emit.proofs.template.first_at.Reads as first-at-reads
+use Rattle.emit.proofs.template.second_at.Reads as second-at-reads
 
--- src/template.rt:41:30
-add-type-end : tie.Need-add-type-end
-add-type-end c = search needs
+-- src/template.rt:94:9
+element-at-requires : tie.Need-element-at-requires
+element-at-requires c κs = make-has _ _ _ (c .before .pre)
 
--- src/template.rt:41:14
-type-end-requires : tie.Need-type-end-requires
-type-end-requires c κs = source-has _ _ _ (c .before .before .pre) (c .match .keys2)
+-- src/template.rt:97:14
+second-at-requires : tie.Need-second-at-requires
+second-at-requires c κs = element-has _ _ _ _ (c .before .element-at .ensures) (c .before .before .before .pre)
 
--- src/template.rt:42:14
-add-result : tie.Need-add-result
-add-result c = search needs
+-- src/template.rt:99:14
+element-at-requires-2 : tie.Need-element-at-requires-2
+element-at-requires-2 c κs = element-has _ _ _ _ (c .before .element-at .ensures) (c .before .before .before .pre)
 
--- src/template.rt:43:14
-add-result-2 : tie.Need-add-result-2
-add-result-2 c = search needs
+-- src/template.rt:100:14
+first-at-requires : tie.Need-first-at-requires
+first-at-requires c κs = element-has _ _ _ _ (c .before .element-at .ensures) (c .before .before .before .pre)
 
--- src/template.rt:35:1
+-- src/template.rt:90:1
 returns : tie.Need-returns
 returns c = inner-whole _ _ _ (c .match .keys1)
 
--- src/template.rt:35:1
+-- src/template.rt:90:1
 returns-2 : tie.Need-returns-2
-returns-2 c = inner-ran _ _ _ _ (c .before .match .keys2) (c .type-end .ensures)
+returns-2 c = inner-ran _ _ _ _ (c .before .before .element-at .ensures) (c .before .match .keys2) _ (c .second-at .ensures)
 
--- src/template.rt:35:1
+-- src/template.rt:90:1
 returns-3 : tie.Need-returns-3
-returns-3 c = inner-element _ _ _ (c .match .keys3)
+returns-3 c = inner-element _ _ _ _ (c .before .element-at .ensures) (c .match .keys3)
 
--- src/template.rt:35:1
+-- src/template.rt:90:1
 returns-4 : tie.Need-returns-4
-returns-4 c = inner-rest _ _ _ (c .match .rest .0 .0 .1) (c .match .rest .0 .1) (c .match .rest .1)
+returns-4 c = inner-elements _ _ _ _ (c .before .before .element-at .ensures) (c .before .match .keys4) _ (c .element-at2 .ensures)
+
+-- src/template.rt:90:1
+returns-5 : tie.Need-returns-5
+returns-5 c = inner-rest _ _ _ _ (c .before .before .element-at .ensures) (c .before .match .rest .0 .0 .0 .1) (c .before .match .rest .0 .0 .1) (c .before .match .rest .0 .1) (c .before .match .rest .1) _ (c .first-at .ensures)
 
 pub inner-at-spec : {M : Type 1} → statement M
 inner-at-spec =
     tie.close
     (tie.spec
-    add-type-end
-    type-end-requires
-    add-result
-    add-result-2
+    element-at-requires
+    second-at-requires
+    element-at-requires-2
+    first-at-requires
     returns
     returns-2
     returns-3
-    returns-4)
+    returns-4
+    returns-5)

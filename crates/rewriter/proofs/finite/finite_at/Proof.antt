@@ -1,6 +1,6 @@
 use native.Mathlib.Omega.{arith}
 use Rattle.rewriter.proofs.Shapes.{here-few, here-placed}
-use Rattle.rewriter.proofs.FiniteTurns.{finite-1, finite-2-402, finite-2-403, finite-2-401, finite-3, finite-4, finite-5, finite-6, finite-7, finite-8, finite-9, finite-10, finite-inter, restricted-here, finite-restricted, finite-13-410, finite-13-411, finite-none}
+use Rattle.rewriter.proofs.FiniteTurns.{finite-1, finite-2-402, finite-2-403, finite-2-401, finite-3, finite-4, finite-5, finite-6, finite-7, finite-8, finite-9, finite-10, set-here, finite-set, restricted-here, finite-restricted, finite-13-410, finite-13-411, finite-none}
 use borrow.Author.Needs.{needs}
 use Rattle.rewriter.proofs.finite.finite_at.Statement.{statement}
 use Rattle.rewriter.proofs.finite.finite_at.Tie as tie
@@ -50,6 +50,9 @@ fixed-requires-10 c κs = search needs
 fixed-requires-11 : tie.Need-fixed-requires-11
 fixed-requires-11 c κs = search needs
 
+finite-set-at-requires : tie.Need-finite-set-at-requires
+finite-set-at-requires c κs = set-here _ _ _ _ _ (c .before .before .tag-at .ensures) (c .match .keys13) (c .before .before .before .before .pre)
+
 finite-restricted-at-requires : tie.Need-finite-restricted-at-requires
 finite-restricted-at-requires c κs = restricted-here _ _ _ _ _ (c .before .before .tag-at .ensures) (c .match .keys14) _ (c .before .second-of .ensures) (c .before .before .before .before .pre)
 
@@ -96,7 +99,7 @@ returns-12 : tie.Need-returns-12
 returns-12 c = finite-10 _ _ _ _ _ (c .before .before .before .tag-at .ensures) (c .before .match .keys12) _ (c .fixed11 .ensures)
 
 returns-13 : tie.Need-returns-13
-returns-13 c = finite-inter _ _ _ _ _ (c .before .before .tag-at .ensures) (c .match .keys13)
+returns-13 c = finite-set _ _ _ _ _ (c .before .before .before .tag-at .ensures) (c .before .match .keys13) _ (c .finite-set-at .ensures)
 
 returns-14 : tie.Need-returns-14
 returns-14 c = finite-restricted _ _ _ _ _ (c .before .before .before .tag-at .ensures) (c .before .match .keys14) _ (c .before .before .second-of .ensures) _ (c .finite-restricted-at .ensures)
@@ -129,6 +132,7 @@ finite-at-spec =
     fixed-requires-9
     fixed-requires-10
     fixed-requires-11
+    finite-set-at-requires
     finite-restricted-at-requires
     fixed-requires-12
     fixed-requires-13

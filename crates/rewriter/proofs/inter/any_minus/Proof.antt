@@ -1,5 +1,6 @@
-use Rattle.rewriter.proofs.InterTurns.{inter-placed, Lefts, any-first, any-placed, any-found, any-next, any-none}
-use Prim.Native.Nat.{ℕ, _+_, _-_, _≤_, _<_}
+use Rattle.rewriter.proofs.Children.{Lefts}
+use Rattle.rewriter.proofs.InterTurns.{inter-placed, inter-child, NoMinus, any-first, any-found, any-next, any-none}
+use Prim.Native.Nat.{_-_, _≤_}
 use native.Mathlib.Omega.{arith}
 use Rattle.rewriter.proofs.inter.any_minus.Statement.{statement}
 use Rattle.rewriter.proofs.inter.any_minus.Tie as tie
@@ -10,7 +11,7 @@ use Rattle.nav.proofs.places.next_at.Reads as next-at-reads
 use Rattle.rewriter.proofs.inter.is_minus.Reads as is-minus-reads
 
 abbrev Inv-loop : tie.InvT-loop
-Inv-loop s starts nexts k n c₀ i₀ c i = (i ≤ n) × Lefts s starts nexts k c i
+Inv-loop s starts nexts k n c₀ i₀ c i = (i ≤ n) × Lefts s starts nexts k NoMinus c i
 
 abbrev μ-loop : tie.MeasureT-loop
 μ-loop s starts nexts k n c₀ i₀ c i = n - i
@@ -29,7 +30,7 @@ loop-holds c = (omega arith, any-first _ _ _ _)
 
 -- src/inter.rt:33:12
 is-minus-requires : tie.Need-is-minus-requires Inv-loop μ-loop
-is-minus-requires c κs = any-placed _ _ _ _ _ (c .before .before .arity-at .ensures) _ _ (c .before .loop .inv .1) (c .loop-test .taken) (c .before .before .before .before .pre) .0
+is-minus-requires c κs = inter-child _ _ _ _ _ _ (c .before .before .arity-at .ensures) _ _ (c .before .loop .inv .1) (c .loop-test .taken) (c .before .before .before .before .pre) .0
 
 -- src/inter.rt:34:13
 returns : tie.Need-returns Inv-loop μ-loop
@@ -37,7 +38,7 @@ returns c = any-found _ _ _ _ _ (c .before .before .before .before .arity-at .en
 
 -- src/inter.rt:36:9
 next-at-requires : tie.Need-next-at-requires Inv-loop μ-loop
-next-at-requires c κs = any-placed _ _ _ _ _ (c .before .before .before .before .arity-at .ensures) _ _ (c .before .before .before .loop .inv .1) (c .before .before .loop-test .taken) (c .before .before .before .before .before .before .pre) .1
+next-at-requires c κs = inter-child _ _ _ _ _ _ (c .before .before .before .before .arity-at .ensures) _ _ (c .before .before .before .loop .inv .1) (c .before .before .loop-test .taken) (c .before .before .before .before .before .before .pre) .1
 
 -- src/inter.rt:37:9
 add-i : tie.Need-add-i Inv-loop μ-loop

@@ -1,0 +1,28 @@
+use Rattle.build.proofs.RowTurns.{in-few, copy-range, copy-done}
+use borrow.Author.Needs.{needs}
+use Rattle.build.proofs.rows.copy_at.Statement.{statement}
+use Rattle.build.proofs.rows.copy_at.Tie as tie
+use Rattle.build.proofs.rows.copy_at.Reads as reads
+use Rattle.build.proofs.rows.copy_at.Lts as lts
+use Rattle.emit.proofs.put.put_copy.Reads as put-copy-reads
+use Rattle.nav.proofs.places.end_at.Reads as end-at-reads
+use Rattle.nav.proofs.places.start_at.Reads as start-at-reads
+
+-- src/rows.rt:40:9
+start-at-requires : tie.Need-start-at-requires
+start-at-requires c κs = in-few _ _ _ _ _ (c .before .pre)
+
+-- src/rows.rt:41:9
+end-at-requires : tie.Need-end-at-requires
+end-at-requires c κs = search needs
+
+-- src/rows.rt:42:5
+put-copy-requires : tie.Need-put-copy-requires
+put-copy-requires c κs = copy-range _ _ _ _ _ _ (c .before .before .start-at .ensures .0) _ (c .before .end-at .ensures) (c .before .before .before .before .pre)
+
+-- src/rows.rt:28:1
+returns : tie.Need-returns
+returns c = copy-done _ _ _ _ _ _ (c .before .before .before .start-at .ensures .0) _ (c .before .before .end-at .ensures) _ _ _ _ (c .put-copy .ensures)
+
+pub copy-at-spec : {M : Type 1} → statement M
+copy-at-spec = tie.close (tie.spec start-at-requires end-at-requires put-copy-requires returns)

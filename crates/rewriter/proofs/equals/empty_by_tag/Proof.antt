@@ -1,0 +1,163 @@
+use Rattle.rewriter.proofs.EmptyTurns.{empty-36, empty-39, empty-52, empty-53, empty-54, empty-55-756, empty-55-757, empty-55-763, empty-58, empty-60-402, empty-60-403, empty-61-412, empty-61-410, empty-61-411, empty-none}
+use borrow.Author.Needs.{needs}
+use Rattle.rewriter.proofs.equals.empty_by_tag.Statement.{statement}
+use Rattle.rewriter.proofs.equals.empty_by_tag.Tie as tie
+use Rattle.rewriter.proofs.equals.empty_by_tag.Reads as reads
+use Rattle.rewriter.proofs.equals.empty_by_tag.Lts as lts
+use Rattle.rewriter.proofs.operands.each.Reads as each-reads
+use Rattle.rewriter.proofs.operands.fixed.Reads as fixed-reads
+
+-- src/equals.rt:42:13
+add-a : tie.Need-add-a
+add-a c = search needs
+
+-- src/equals.rt:44:14
+fixed-requires : tie.Need-fixed-requires
+fixed-requires c κs = search needs
+
+-- src/equals.rt:45:16
+each-requires : tie.Need-each-requires
+each-requires c κs = search needs
+
+-- src/equals.rt:46:16
+fixed-requires-2 : tie.Need-fixed-requires-2
+fixed-requires-2 c κs = search needs
+
+-- src/equals.rt:47:16
+fixed-requires-3 : tie.Need-fixed-requires-3
+fixed-requires-3 c κs = search needs
+
+-- src/equals.rt:48:16
+fixed-requires-4 : tie.Need-fixed-requires-4
+fixed-requires-4 c κs = search needs
+
+-- src/equals.rt:49:16
+fixed-requires-5 : tie.Need-fixed-requires-5
+fixed-requires-5 c κs = search needs
+
+-- src/equals.rt:50:16
+fixed-requires-6 : tie.Need-fixed-requires-6
+fixed-requires-6 c κs = search needs
+
+-- src/equals.rt:51:16
+fixed-requires-7 : tie.Need-fixed-requires-7
+fixed-requires-7 c κs = search needs
+
+-- src/equals.rt:52:16
+each-requires-2 : tie.Need-each-requires-2
+each-requires-2 c κs = search needs
+
+-- src/equals.rt:53:16
+fixed-requires-8 : tie.Need-fixed-requires-8
+fixed-requires-8 c κs = search needs
+
+-- src/equals.rt:54:16
+fixed-requires-9 : tie.Need-fixed-requires-9
+fixed-requires-9 c κs = search needs
+
+-- src/equals.rt:55:16
+fixed-requires-10 : tie.Need-fixed-requires-10
+fixed-requires-10 c κs = search needs
+
+-- src/equals.rt:56:16
+fixed-requires-11 : tie.Need-fixed-requires-11
+fixed-requires-11 c κs = search needs
+
+-- src/equals.rt:57:16
+fixed-requires-12 : tie.Need-fixed-requires-12
+fixed-requires-12 c κs = search needs
+
+-- src/equals.rt:38:1
+returns : tie.Need-returns
+returns c = record { decides = λ s st nx pt. empty-36 s st nx _ _ pt (c .before .match .keys1) _ (c .fixed .ensures) }
+
+-- src/equals.rt:38:1
+returns-2 : tie.Need-returns-2
+returns-2 c = record { decides = λ s st nx pt. empty-39 s st nx _ _ pt (c .before .match .keys2) _ (c .each .ensures) }
+
+-- src/equals.rt:38:1
+returns-3 : tie.Need-returns-3
+returns-3 c = record { decides = λ s st nx pt. empty-52 s st nx _ _ pt (c .before .match .keys3) _ (c .fixed2 .ensures) }
+
+-- src/equals.rt:38:1
+returns-4 : tie.Need-returns-4
+returns-4 c = record { decides = λ s st nx pt. empty-53 s st nx _ _ pt (c .before .match .keys4) _ (c .fixed3 .ensures) }
+
+-- src/equals.rt:38:1
+returns-5 : tie.Need-returns-5
+returns-5 c = record { decides = λ s st nx pt. empty-54 s st nx _ _ pt (c .before .match .keys5) _ (c .fixed4 .ensures) }
+
+-- src/equals.rt:38:1
+returns-6 : tie.Need-returns-6
+returns-6 c = record { decides = λ s st nx pt. empty-55-756 s st nx _ _ pt (c .before .match .keys6) _ (c .fixed5 .ensures) }
+
+-- src/equals.rt:38:1
+returns-7 : tie.Need-returns-7
+returns-7 c = record { decides = λ s st nx pt. empty-55-757 s st nx _ _ pt (c .before .match .keys7) _ (c .fixed6 .ensures) }
+
+-- src/equals.rt:38:1
+returns-8 : tie.Need-returns-8
+returns-8 c = record { decides = λ s st nx pt. empty-55-763 s st nx _ _ pt (c .before .match .keys8) _ (c .fixed7 .ensures) }
+
+-- src/equals.rt:38:1
+returns-9 : tie.Need-returns-9
+returns-9 c = record { decides = λ s st nx pt. empty-58 s st nx _ _ pt (c .before .match .keys9) _ (c .each2 .ensures) }
+
+-- src/equals.rt:38:1
+returns-10 : tie.Need-returns-10
+returns-10 c = record { decides = λ s st nx pt. empty-60-402 s st nx _ _ pt (c .before .match .keys10) _ (c .fixed8 .ensures) }
+
+-- src/equals.rt:38:1
+returns-11 : tie.Need-returns-11
+returns-11 c = record { decides = λ s st nx pt. empty-60-403 s st nx _ _ pt (c .before .match .keys11) _ (c .fixed9 .ensures) }
+
+-- src/equals.rt:38:1
+returns-12 : tie.Need-returns-12
+returns-12 c = record { decides = λ s st nx pt. empty-61-412 s st nx _ _ pt (c .before .match .keys12) _ (c .fixed10 .ensures) }
+
+-- src/equals.rt:38:1
+returns-13 : tie.Need-returns-13
+returns-13 c = record { decides = λ s st nx pt. empty-61-410 s st nx _ _ pt (c .before .match .keys13) _ (c .fixed11 .ensures) }
+
+-- src/equals.rt:38:1
+returns-14 : tie.Need-returns-14
+returns-14 c = record { decides = λ s st nx pt. empty-61-411 s st nx _ _ pt (c .before .match .keys14) _ (c .fixed12 .ensures) }
+
+-- src/equals.rt:38:1
+returns-15 : tie.Need-returns-15
+returns-15 c = record { decides = λ s st nx pt. empty-none s st nx _ _ pt (c .before .pre .1) (c .match .rest) }
+
+pub empty-by-tag-spec : {M : Type 1} → statement M
+empty-by-tag-spec =
+    tie.close
+    (tie.spec
+    add-a
+    fixed-requires
+    each-requires
+    fixed-requires-2
+    fixed-requires-3
+    fixed-requires-4
+    fixed-requires-5
+    fixed-requires-6
+    fixed-requires-7
+    each-requires-2
+    fixed-requires-8
+    fixed-requires-9
+    fixed-requires-10
+    fixed-requires-11
+    fixed-requires-12
+    returns
+    returns-2
+    returns-3
+    returns-4
+    returns-5
+    returns-6
+    returns-7
+    returns-8
+    returns-9
+    returns-10
+    returns-11
+    returns-12
+    returns-13
+    returns-14
+    returns-15)
