@@ -8,7 +8,7 @@ pub type Bytes = Vec<u8>;
 pub const TRUE: u16 = 610;
 pub const FALSE: u16 = 611;
 
-/// A generator of pseudorandom numbers (Marsaglia's xorshift, stepped by an odd constant).
+/// Pseudorandom numbers: a counter that goes up by an odd constant, its bits mixed.
 pub struct Random(u64);
 
 impl Random {

@@ -93,24 +93,30 @@ impl Lines {
             },
             5 if matches!(row(tag), Some((_, Body::Many(..)))) => {
                 let kid = &places[self.g.random.of(&kids)];
-                let twice = self.g.random.one_in(2);
-                let new = if twice { bytes[kid.start..kid.end].repeat(2) } else { Vec::new() };
-                let mut out = spliced(bytes, kid.start, kid.end, &new);
-                out[start + 2] = if twice { out[start + 2].wrapping_add(1) } else { out[start + 2] - 1 };
-                out
+                self.recounted(bytes, start, kid)
             }
-            // a byte after the tag: of a number, a count or a type, else of an operand's tag
-            _ => {
-                let own = kids.first().map_or(end, |k| places[*k].start) - start - 2;
-                let mut out = bytes.to_vec();
-                let byte = start + 2 + self.g.random.below(own.max(1));
-                if let Some(b) = out.get_mut(byte) {
-                    let any = self.g.random.number() as u8;
-                    *b = self.g.random.of(&[b.wrapping_add(1), b.wrapping_sub(1), 0, 1, any % 6, any]);
-                }
-                out
-            }
+            _ => self.other_byte(bytes, start, kids.first().map_or(end, |k| places[*k].start)),
         }
+    }
+
+    /// One operand doubled or dropped.
+    fn recounted(&mut self, bytes: &[u8], start: usize, kid: &Place) -> Bytes {
+        let twice = self.g.random.one_in(2);
+        let new = if twice { bytes[kid.start..kid.end].repeat(2) } else { Vec::new() };
+        let mut out = spliced(bytes, kid.start, kid.end, &new);
+        out[start + 2] = if twice { out[start + 2].wrapping_add(1) } else { out[start + 2] - 1 };
+        out
+    }
+
+    /// A byte between the node's tag and its first operand changed: of a number, a count or a type; else one of that operand's tag.
+    fn other_byte(&mut self, bytes: &[u8], start: usize, first_operand: usize) -> Bytes {
+        let mut out = bytes.to_vec();
+        let at = start + 2 + self.g.random.below((first_operand - start - 2).max(1));
+        if let Some(b) = out.get_mut(at) {
+            let any = self.g.random.number() as u8;
+            *b = self.g.random.of(&[b.wrapping_add(1), b.wrapping_sub(1), 0, 1, any % 6, any]);
+        }
+        out
     }
 
     /// Altered in some way that knows nothing of nodes.
