@@ -191,7 +191,7 @@ module _ (at single : ℕ) (s : List ℕ) (n : ℕ) (st nx leaves : List ℕ) wh
               let e = apart-count t c tb w .0 in
               let x₃ = h₃ .puts t _ (w .a) tb (member-at t c tb w .1) in
               let x₅ = puts-as o₄ i₄ o₅ i₅ _ _ (row-besides single (at + 1) (w .left) (many #SetExt (sole (w .a))) (w .right) (w .there))
-                  (h₅ .puts t (under #BInter (w .vs) (w .Ξ)) (operands t c w) tb r e) in
+              (h₅ .puts t (under #BInter (w .vs) (w .Ξ)) (operands t c w) tb r e) in
               let z : m - 1 ≡ count rest = omega (arith, count-append (w .left) (cons (many #SetExt (sole (w .a))) (w .right)), count-append (w .left) (w .right)) in
               let x₄ = puts-as o₃ i₃ o₄ i₄ _ _ (ap (joinedBytes #BInter) z) h₄ in
               let x = puts-then o₀ i₀ o₁ i₁ o₅ i₅ _ _ h₁ (puts-then o₁ i₁ o₂ i₂ o₅ i₅ _ _ h₂ (puts-then o₂ i₂ o₃ i₃ o₅ i₅ _ _ x₃ (puts-then o₃ i₃ o₄ i₄ o₅ i₅ _ _ x₄ x₅))) in

@@ -37,19 +37,7 @@ fn fill_row(
     if m == 0 {
         return at;
     }
-    let q = fill(
-        s,
-        n,
-        starts,
-        nexts,
-        leaves,
-        pattern,
-        c,
-        c,
-        binder,
-        out,
-        at,
-    );
+    let q = fill(s, n, starts, nexts, leaves, pattern, c, c, binder, out, at);
     let d = next_at(nexts, c);
     fill_row(
         s,
@@ -114,19 +102,7 @@ fn build_each(
     let m = arity_at(s, starts, node);
     let q = put_many(joint(place), m, out, at);
     let c = node + 1;
-    fill_row(
-        s,
-        n,
-        starts,
-        nexts,
-        leaves,
-        place,
-        c,
-        m,
-        binder,
-        out,
-        q,
-    )
+    fill_row(s, n, starts, nexts, leaves, place, c, m, binder, out, q)
 }
 
 fn build_kept(
@@ -170,17 +146,7 @@ fn build_apart(
     let q = copy_at(s, n, starts, nexts, single + 1, out, q);
     let q = put_joined(302, m - 1, out, q);
     let c = node + 1;
-    put_row(
-        s,
-        n,
-        starts,
-        nexts,
-        c,
-        m,
-        Share::Besides(single),
-        out,
-        q,
-    )
+    put_row(s, n, starts, nexts, c, m, Share::Besides(single), out, q)
 }
 
 // The operands without what they subtract ⊆ what they subtract.
@@ -248,18 +214,7 @@ pub fn build(
             place,
             node,
             binder,
-        } => build_each(
-            s,
-            n,
-            starts,
-            nexts,
-            leaves,
-            place,
-            node,
-            binder,
-            out,
-            at,
-        ),
+        } => build_each(s, n, starts, nexts, leaves, place, node, binder, out, at),
         Decision::Kept(m) => build_kept(s, n, starts, nexts, leaves, k, kept, m, out, at),
         Decision::Apart { node, single } => {
             build_apart(s, n, starts, nexts, leaves, node, single, out, at)

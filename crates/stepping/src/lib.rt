@@ -81,28 +81,12 @@ fn step_held(
         return StepAnswer::Unchanged;
     }
     let mut scratch = [0u8; 4096];
-    let m = splice(
-        s,
-        n,
-        starts,
-        &table,
-        leaves,
-        k,
-        &kept,
-        d,
-        &mut scratch,
-    );
+    let m = splice(s, n, starts, &table, leaves, k, &kept, d, &mut scratch);
     write_out(&scratch, m, out)
 }
 
 // The step at place k of a frame that was read, with n nodes.
-fn step_read(
-    s: &[u8],
-    n: usize,
-    starts: &[u16; 2048],
-    k: usize,
-    out: &mut [u8],
-) -> StepAnswer
+fn step_read(s: &[u8], n: usize, starts: &[u16; 2048], k: usize, out: &mut [u8]) -> StepAnswer
     requires { ⌜ ReadPre (now s) n (now starts) ⌝ }
     ensures { λ r. ⌜ StepPost (now (s .entry)) k (now (out .entry)) (now (out .exit)) r ⌝ }
 {
