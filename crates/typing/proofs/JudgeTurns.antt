@@ -2,10 +2,10 @@
 -- Main results: pair-pattern .. result-pattern (the code's patterns are those of the class); paired-by, fitted-by, lasted-by,
 -- done-by (what is known after each call), with what the calls ask for; judge-unpaired, judge-first-off, judge-last-off,
 -- judge-over, judge-typed (the answers).
-use mathlib.Core.Path.{_≡_, refl, sym, ap, ap₂, _∙_, subst, subst₂}
+use mathlib.Core.Path.{_≡_, refl, sym, ap, _∙_, subst, subst₂}
 use mathlib.Core.Bool.{Bool, true, false, _&&_}
-use mathlib.Core.List.{List, [], _∷_, _++_}
-use Prim.Native.Nat.{ℕ, zero, suc, _+_, _-_, _*_, _≤_, _<_}
+use mathlib.Core.List.{List, []}
+use Prim.Native.Nat.{ℕ, _+_, _-_, _*_, _≤_}
 use native.Mathlib.Omega.{arith}
 use lib.ListN.{length, getD, drop}
 use lib.Dec.{leb}
@@ -13,11 +13,10 @@ use borrow.Author.Tests.{leb-true, leb-false, le-leb, lt-leb}
 use Rattle.frame.specs.Types.{Ty}
 use Rattle.frame.specs.Tags.{pick, Class}
 use Rattle.frame.specs.Spans.{Spans}
-use Rattle.typing.specs.Patterns.{Matched, fits, differs, matches, Rule, ruleAt, Judged, typed, wrong, limited, completed, allBound, filled, pairsFit, lastOnes, thenMatched, ends, judge, cut}
+use Rattle.typing.specs.Patterns.{Matched, fits, differs, matches, Rule, ruleAt, Judged, typed, wrong, completed, allBound, filled, pairsFit, lastOnes, thenMatched, ends, judge, cut}
 use Rattle.typing.specs.RuleNumbers.{ruleNumber}
 use Rattle.typing.specs.Buffers.{Copied, Apart}
-use Rattle.typing.specs.PatternPosts.{RowAt, Slots, EnvAt, Kept, MatchPre, Matching, MatchPost, PairsPre, Pairing, PairsPost, FillPre, Filling, FillPost, JudgePre, Judging, JudgePost}
-use Rattle.typing.specs.declared.patterns.Typed.{Typed}
+use Rattle.typing.specs.PatternPosts.{RowAt, Slots, EnvAt, Kept, MatchPre, Matching, MatchPost, Pairing, PairsPost, FillPre, Filling, FillPost, JudgePre, Judging, JudgePost}
 use Rattle.typing.specs.declared.patterns.Typed.the-variants as T
 use Rattle.typing.specs.declared.patterns.Fit.{Fit}
 use Rattle.typing.specs.declared.patterns.Fit.the-variants as F

@@ -1,6 +1,4 @@
-use mathlib.Core.Path.{_≡_, refl, sym, subst, _∙_}
-use Prim.Native.Nat.{_+_, _≤_, _-_}
-use lib.ListN.{length, getD, set, drop}
+use mathlib.Core.Path.{refl}
 use native.Mathlib.Omega.{arith}
 use Rattle.frame.specs.Tags.{classOf}
 use Rattle.typing.specs.Patterns.{ruleAt}
