@@ -41,15 +41,15 @@ match-pairs-requires c κs = record { us = c .before .before .before .before .be
 
 -- src/patterns.rt:222:21
 enum-known-pairs : tie.Need-enum-known-pairs
-enum-known-pairs c = search needs
+enum-known-pairs c = c .match .keys1
 
 -- src/patterns.rt:223:9
 enum-told : tie.Need-enum-told
-enum-told c = search needs
+enum-told c = c .match .keys2
 
 -- src/patterns.rt:223:9
 same-length : tie.Need-same-length
-same-length c = search needs
+same-length c = refl
 
 -- src/patterns.rt:223:9
 returns : tie.Need-returns
@@ -81,15 +81,15 @@ match-pattern-requires c κs = first-pre (paired (c .before .before .before .bef
 
 -- src/patterns.rt:235:19
 enum-known-first : tie.Need-enum-known-first
-enum-known-first c = search needs
+enum-known-first c = c .match2 .keys1
 
 -- src/patterns.rt:236:9
 enum-told-2 : tie.Need-enum-told-2
-enum-told-2 c = search needs
+enum-told-2 c = c .match2 .keys2
 
 -- src/patterns.rt:236:9
 same-length-2 : tie.Need-same-length-2
-same-length-2 c = search needs
+same-length-2 c = refl
 
 -- src/patterns.rt:236:9
 returns-2 : tie.Need-returns-2
@@ -121,15 +121,15 @@ match-pattern-requires-2 c κs = last-pre (fitted (c .before .before .before .be
 
 -- src/patterns.rt:248:19
 enum-known-second : tie.Need-enum-known-second
-enum-known-second c = search needs
+enum-known-second c = c .match3 .keys1
 
 -- src/patterns.rt:249:9
 enum-told-3 : tie.Need-enum-told-3
-enum-told-3 c = search needs
+enum-told-3 c = c .match3 .keys2
 
 -- src/patterns.rt:249:9
 same-length-3 : tie.Need-same-length-3
-same-length-3 c = search needs
+same-length-3 c = refl
 
 -- src/patterns.rt:249:9
 returns-3 : tie.Need-returns-3
@@ -165,11 +165,11 @@ fill-pattern-requires c κs = fill-pre (lasted (c .before .before .before .befor
 
 -- src/patterns.rt:261:20
 enum-known-filled : tie.Need-enum-known-filled
-enum-known-filled c = search needs
+enum-known-filled c = c .match4 .keys1
 
 -- src/patterns.rt:262:9
 enum-told-4 : tie.Need-enum-told-4
-enum-told-4 c = search needs
+enum-told-4 c = c .match4 .keys2
 
 -- src/patterns.rt:262:9
 same-length-4 : tie.Need-same-length-4
