@@ -150,7 +150,7 @@ module _ (s : List ℕ) (t : Tree) (st : List ℕ) (n : ℕ) (fr : Framed s t st
         let b = fr .begins k (find-lt t [] k Γ v f) in
         let c = fr .begins (suc k) (two-places t [] k Γ (head g x us) a ks f) in
         let e : getD st k 0 + length (encHead (head g x us) (count (cons a ks))) ≡ getD st (k + 1) 0 =
-            ap (λ (m : ℕ). m + length (encHead (head g x us) (count (cons a ks)))) b ∙ sym (first-start t [] k Γ (head g x us) a ks f 0) ∙ sym c ∙ ap (λ (m : ℕ). getD st m 0) (sym z) in
+        ap (λ (m : ℕ). m + length (encHead (head g x us) (count (cons a ks)))) b ∙ sym (first-start t [] k Γ (head g x us) a ks f 0) ∙ sym c ∙ ap (λ (m : ℕ). getD st m 0) (sym z) in
         subst (λ (j : ℕ). Spans s (getD st k 0) j (encHead (head g x us) (count (cons a ks)))) e (span-left (encHead (head g x us) (count (cons a ks))) (encs (cons a ks)) w)
 
     bytes-by : Layout → List ℕ

@@ -1,6 +1,6 @@
 -- Laws for each way out of the check, on plain values.
 -- Main results: read-stands, read-fits, type-pre, typed-by, refused-read, bound-out, names-out, typed-out, accepted-out.
-use mathlib.Core.Path.{_≡_, refl, sym, ap, _∙_}
+use mathlib.Core.Path.{_≡_, refl, sym, ap, _∙_, subst}
 use mathlib.Core.Bool.{Bool, true, false}
 use mathlib.Core.List.{List, []}
 use Prim.Native.Nat.{ℕ, _+_, _*_, _≤_}
@@ -14,7 +14,7 @@ use Rattle.frame.specs.Spans.{Bytes}
 use Rattle.frame.specs.At.{IsAt}
 use Rattle.frame.specs.Post.{frameAnswer}
 use Rattle.frame.specs.declared.reading.FrameAnswer.the-variants as F
-use Rattle.frame.proofs.Frames.{parse-inv}
+use Rattle.frame.proofs.Frames.{parse-inv, parse-enc}
 use Rattle.frame.proofs.Extents.{nodes-enc}
 use Rattle.frame.proofs.View.{FrameAt, frame-at, parse-at, at-span}
 use Rattle.typing.specs.Typing.{typedTree}
@@ -22,10 +22,11 @@ use Rattle.typing.specs.Binding.{closedTree}
 use Rattle.typing.specs.Identifiers.{namesAgree}
 use Rattle.typing.specs.Leaves.{LeavesAt}
 use Rattle.typing.specs.Check.{Checked, accepted, refused, checkTree, checkParsed, check}
+use Rattle.typing.proofs.Decides.{check-accepted}
 use Rattle.typing.specs.TypingPosts.{Lent, TypePre, TypePost, Typing}
 use Rattle.typing.specs.declared.patterns.Typed.{Typed}
 use Rattle.typing.specs.declared.patterns.Typed.the-variants as T
-use Rattle.checking.specs.Posts.{checkAnswer, TypedPre, TypedPost, ReadPre}
+use Rattle.checking.specs.Posts.{checkAnswer, TypedPre, TypedPost, ReadPre, TreePost}
 use Rattle.checking.specs.declared.CheckAnswer.the-variants as A
 
 -- ---- typing
@@ -106,3 +107,21 @@ module _ (s : List ℕ) (bs : Bytes s) (n : ℕ) (p : ReadPre s n) where
       pub accepted-out : typedTree (p .t) [] ≡ true → A.Accepted n ≡ checkAnswer (check s)
       unfolding checkTree
       accepted-out c = rw (checks, a, b, c) (ap A.Accepted (p .many))
+
+-- ---- with the table of bound identifiers
+pub refused-post : (s leaves : List ℕ) (c : ℕ) → length leaves ≡ 2048 → A.Refused c ≡ checkAnswer (check s) → TreePost s leaves (A.Refused c)
+refused-post s leaves c l e = record { answer = e; leafs = λ t h. not-accepted t (e ∙ ap checkAnswer h); size = l }
+  where
+    not-accepted : (t : Tree) → A.Refused c ≡ A.Accepted (nodes t) → LeavesAt t [] 0 s leaves
+    not-accepted t z = let y : _≡_ {A = ℕ} 0 1 = cc in absurd (omega arith)
+
+pub accepted-post : (s leaves : List ℕ) (bs : Bytes s) (n : ℕ) (p : ReadPre s n) → length leaves ≡ 2048 → A.Accepted n ≡ checkAnswer (check s)
+    → LeavesAt (p .t) [] 0 s leaves → TreePost s leaves (A.Accepted n)
+unfolding check
+accepted-post s leaves bs n p l e h =
+    record {
+      answer = e;
+      leafs = λ t c. (let z : checkTree (p .t) ≡ accepted t = ap checkParsed (sym (p .parsed)) ∙ c in
+          subst (λ (u : Tree). LeavesAt u [] 0 s leaves) (sym (check-accepted (p .t) t (parse-enc s bs (p .t) (p .parsed) .wf) z .0)) h);
+      size = l;
+    }

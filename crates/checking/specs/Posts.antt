@@ -10,7 +10,7 @@ use Rattle.frame.specs.Reading.{tree, parse, frameLimit}
 use Rattle.frame.specs.At.{IsAt}
 use Rattle.typing.specs.Typing.{typedTree}
 use Rattle.typing.specs.Leaves.{LeavesAt}
-use Rattle.typing.specs.Check.{Checked, accepted, refused}
+use Rattle.typing.specs.Check.{Checked, accepted, refused, check}
 use Rattle.checking.specs.declared.CheckAnswer.{CheckAnswer}
 use Rattle.checking.specs.declared.CheckAnswer.the-variants as A
 
@@ -34,3 +34,9 @@ pub record ReadPre (s : List ℕ) (n : ℕ) : Type 0 where
   pub t : Tree
   pub parsed : parse s ≡ tree t
   pub many : n ≡ nodes t
+
+-- what the check of a frame's tree answers; where it is accepted, the table has the types of its bound identifiers
+pub record TreePost (s leaves : List ℕ) (r : CheckAnswer) : Type 0 where
+  pub answer : r ≡ checkAnswer (check s)
+  pub leafs : (t : Tree) → check s ≡ accepted t → LeavesAt t [] 0 s leaves
+  pub size : length leaves ≡ 2048

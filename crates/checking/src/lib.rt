@@ -6,7 +6,8 @@ use typing::patterns::Typed;
 use typing::typing::type_tree;
 ghost use mathlib.Core.Path.{_≡_};
 ghost use Rattle.typing.specs.Check.{check as checked};
-ghost use Rattle.checking.specs.Posts.{TypedPre, TypedPost, ReadPre, checkAnswer};
+ghost use lib.ListN.{length};
+ghost use Rattle.checking.specs.Posts.{TypedPre, TypedPost, ReadPre, TreePost, checkAnswer};
 
 // What a check answers.
 pub enum CheckAnswer {
@@ -41,13 +42,13 @@ fn typing_ok(s: &[u8], leaves: &[u16; 2048]) -> bool
     }
 }
 
-// Numbers 8, 9 and 10 of a frame that was read, with n nodes.
-fn check_tree(s: &[u8], n: usize) -> CheckAnswer
-    requires { ⌜ ReadPre (now s) n ⌝ }
-    ensures { λ r. ⌜ r ≡ checkAnswer (checked (now (s .entry))) ⌝ }
+// Numbers 8, 9 and 10 of a frame that was read, with n nodes. Where it is accepted, the table has the types of its bound
+// identifiers.
+pub fn check_tree(s: &[u8], n: usize, leaves: &mut [u16; 2048]) -> CheckAnswer
+    requires { ⌜ ReadPre (now s) n × (length (now leaves) ≡ 2048) ⌝ }
+    ensures { λ r. ⌜ TreePost (now (s .entry)) (now (leaves .exit)) r ⌝ }
 {
-    let mut leaves = [0u16; 2048];
-    let closed = binding_ok(s, &mut leaves);
+    let closed = binding_ok(s, leaves);
     if !closed {
         return CheckAnswer::Refused(8);
     }
@@ -55,7 +56,7 @@ fn check_tree(s: &[u8], n: usize) -> CheckAnswer
     if !agree {
         return CheckAnswer::Refused(9);
     }
-    let typed = typing_ok(s, &leaves);
+    let typed = typing_ok(s, leaves);
     if !typed {
         return CheckAnswer::Refused(10);
     }
@@ -70,6 +71,9 @@ pub fn check(frame: &[u8]) -> CheckAnswer
     let answer = read.answer;
     match answer {
         FrameAnswer::Refused(c) => CheckAnswer::Refused(c),
-        FrameAnswer::Nodes(n) => check_tree(frame, n),
+        FrameAnswer::Nodes(n) => {
+            let mut leaves = [0u16; 2048];
+            check_tree(frame, n, &mut leaves)
+        }
     }
 }

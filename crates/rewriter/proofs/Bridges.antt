@@ -1,11 +1,7 @@
 -- The rules that src/ decides, back to the definitions of the rules.
 use mathlib.Core.Path.{_≡_, refl, sym, ap, _∙_}
-use mathlib.Core.Bool.{Bool, true, false}
-use Prim.Native.Nat.{ℕ}
-use borrow.Author.Tests.{ne-eqb}
-use Rattle.frame.specs.Trees.{head, Tree, node, leaf, tagOf}
+use Rattle.frame.specs.Trees.{Tree, leaf}
 use Rattle.frame.specs.Operators.{#BTrue, #BFalse}
-use Rattle.frame.specs.Places.{Ctx}
 use Rattle.frame.specs.Sameness.{sameTree}
 use Rattle.rules.specs.Change.{Change, to, same, _orElse_, when, isTag}
 use Rattle.rules.specs.Simplify.{makeNeg, simplifyImp}

@@ -10,7 +10,7 @@ use lib.ListN.{take, getD}
 use borrow.Author.Tests.{eq-eqb, ne-eqb}
 use Rattle.frame.specs.Types.{Ty}
 use Rattle.frame.specs.Trees.{Head, head, Tree, node, Forest, nil, cons, count, leaf, many, tagOf}
-use Rattle.frame.specs.Tags.{pick, lookup, classOf, formAt}
+use Rattle.frame.specs.Tags.{pick, predicate, counted, formOf, lookup, classOf, formAt}
 use Rattle.frame.specs.Encoding.{enc}
 use Rattle.frame.specs.Places.{Ctx, under, found, find}
 use Rattle.typing.specs.Typing.{typeOf}
@@ -64,7 +64,7 @@ module _ (t : Tree) (k : ℕ) (Γ : Ctx) (g x : ℕ) (us : List Ty) (ks : Forest
   fixed-means place pattern p plain Δ a new c e h b =
       record { new = new; answer = e; Δ = Δ; a = a; b = a; at-first = h; at-second = h; Θ = Γ; g = g; n = x; us = us; ks = ks; at-binder = f; bound = unbound pattern g plain; bytes = b }
 
-  module _ (neutral determinant pn pd : ℕ) (ln : (ltb pn 88 && not (takesBinders pn)) ≡ true) (ld : (ltb pd 88 && not (takesBinders pd)) ≡ true) (en : (Δ : Ctx) (a b : Tree) → filled (template pn) (filling Δ a b us) ≡ enc (leaf neutral))
+  module _ (lay : formOf g .layout ≡ counted 2 255 predicate) (neutral determinant pn pd : ℕ) (ln : (ltb pn 88 && not (takesBinders pn)) ≡ true) (ld : (ltb pd 88 && not (takesBinders pd)) ≡ true) (en : (Δ : Ctx) (a b : Tree) → filled (template pn) (filling Δ a b us) ≡ enc (leaf neutral))
       (ed : (Δ : Ctx) (a b : Tree) → filled (template pd) (filling Δ a b us) ≡ enc (leaf determinant)) (lent : List ℕ) (p : ℕ) (ep : p ≡ getD lent 0 0) where
     abbrev ends : Kept → Change
     ends c = finish g neutral determinant (count ks) c
@@ -72,7 +72,7 @@ module _ (t : Tree) (k : ℕ) (Γ : Ctx) (g x : ℕ) (us : List Ty) (ks : Forest
     more : (out : Forest) (m : ℕ) (c : Change) (b : Bool) → c ≡ pick b same (to 65 (many g out)) → At t Γ (take m lent) out
         → Means t v Γ lent (pick b D.Rests (D.Kept m)) c
     more out m c true e a = e
-    more out m c false e a = record { ks = out; answer = e; listed = a }
+    more out m c false e a = record { ks = out; answer = e; operator = lay; listed = a }
 
     turned : (b : Bool) (c : Change) → when (not b) c ≡ pick b same c
     turned true c = refl
@@ -104,19 +104,27 @@ or-under : (us : List Ty) (Γ : Ctx) → under 352 us Γ ≡ Γ
 unfolding lookup classOf formAt
 or-under us Γ = refl
 
+and-layout : formOf 351 .layout ≡ counted 2 255 predicate
+unfolding lookup classOf formAt
+and-layout = refl
+
+or-layout : formOf 352 .layout ≡ counted 2 255 predicate
+unfolding lookup classOf formAt
+or-layout = refl
+
 -- the decision, by the node's operator
 module _ (s st nx : List ℕ) (k r : ℕ) (many : ChildrenPost s st k r) (tag : ℕ) (post : TagPost s st k tag) (lent : List ℕ) (x : Outcome) (p : ℕ)
     (ep : p ≡ getD lent 0 0) (d : Decision) where
   pub conj-done : tag ≡ 351 → AbsorbPost s st nx k 610 611 lent x → d ≡ settled x k r p 1 2 → JunctionPost s st nx k lent d
   unfolding simplifyAssocPred
-  conj-done e absorbed ed = record { conj = conj; disj = λ t n Γ y us ks tb f. other t n Γ y us ks tb f }
+  conj-done e absorbed ed = record { long = absorbed .long; conj = conj; disj = λ t n Γ y us ks tb f. other t n Γ y us ks tb f }
     where
       conj : (t : Tree) (n : ℕ) (Γ : Ctx) (y : ℕ) (us : List Ty) (ks : Forest) → Table s t st nx n → find t [] k ≡ found Γ (node (head 351 y us) ks)
           → Means t (node (head 351 y us) ks) Γ lent d (simplifyAssocPred 351 610 611 ks)
       conj t n Γ y us ks tb f =
           let z : r ≡ count ks = many .many t n Γ (node (head 351 y us) ks) (tb .framed) f in
           let a : Absorbed t Γ lent x (scan 610 611 ks nil) = rw (and-under us Γ) at (absorbed .scanned (λ q. omega arith) t n Γ 351 y us ks tb f) in
-          rw (ed, z) (settle-means t k Γ 351 y us ks f 610 611 1 2 refl refl (λ Δ i j. right-1 _ _ us) (λ Δ i j. right-2 _ _ us) lent p ep x (scan 610 611 ks nil) a)
+          rw (ed, z) (settle-means t k Γ 351 y us ks f and-layout 610 611 1 2 refl refl (λ Δ i j. right-1 _ _ us) (λ Δ i j. right-2 _ _ us) lent p ep x (scan 610 611 ks nil) a)
 
       other : (t : Tree) (n : ℕ) (Γ : Ctx) (y : ℕ) (us : List Ty) (ks : Forest) → Table s t st nx n → find t [] k ≡ found Γ (node (head 352 y us) ks)
           → Means t (node (head 352 y us) ks) Γ lent d (simplifyAssocPred 352 611 610 ks)
@@ -126,14 +134,14 @@ module _ (s st nx : List ℕ) (k r : ℕ) (many : ChildrenPost s st k r) (tag : 
 
   pub disj-done : (tag ≡ 351 → ⊥) → AbsorbPost s st nx k 611 610 lent x → d ≡ settled x k r p 2 1 → JunctionPost s st nx k lent d
   unfolding simplifyAssocPred
-  disj-done e absorbed ed = record { conj = λ t n Γ y us ks tb f. other t n Γ y us ks tb f; disj = disj }
+  disj-done e absorbed ed = record { long = absorbed .long; conj = λ t n Γ y us ks tb f. other t n Γ y us ks tb f; disj = disj }
     where
       disj : (t : Tree) (n : ℕ) (Γ : Ctx) (y : ℕ) (us : List Ty) (ks : Forest) → Table s t st nx n → find t [] k ≡ found Γ (node (head 352 y us) ks)
           → Means t (node (head 352 y us) ks) Γ lent d (simplifyAssocPred 352 611 610 ks)
       disj t n Γ y us ks tb f =
           let z : r ≡ count ks = many .many t n Γ (node (head 352 y us) ks) (tb .framed) f in
           let a : Absorbed t Γ lent x (scan 611 610 ks nil) = rw (or-under us Γ) at (absorbed .scanned (λ q. omega arith) t n Γ 352 y us ks tb f) in
-          rw (ed, z) (settle-means t k Γ 352 y us ks f 611 610 2 1 refl refl (λ Δ i j. right-2 _ _ us) (λ Δ i j. right-1 _ _ us) lent p ep x (scan 611 610 ks nil) a)
+          rw (ed, z) (settle-means t k Γ 352 y us ks f or-layout 611 610 2 1 refl refl (λ Δ i j. right-2 _ _ us) (λ Δ i j. right-1 _ _ us) lent p ep x (scan 611 610 ks nil) a)
 
       other : (t : Tree) (n : ℕ) (Γ : Ctx) (y : ℕ) (us : List Ty) (ks : Forest) → Table s t st nx n → find t [] k ≡ found Γ (node (head 351 y us) ks)
           → Means t (node (head 351 y us) ks) Γ lent d (simplifyAssocPred 351 610 611 ks)

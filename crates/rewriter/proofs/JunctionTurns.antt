@@ -272,8 +272,8 @@ module _ (s st nx : List ℕ) (k neutral determinant : ℕ) where
           ∙ ap (λ (y : Verdict). afterVerdict y (d .w) (q .out) (λ o. scan neutral determinant (d .others) o))
           (says t n (under g us Γ) (q .out) (d .w) tb (q .listed) (d .there))
 
-      pub turn-decides : (tbl : List ℕ) → ((neutral ≡ determinant → ⊥) → Says s st nx neutral determinant lent c m decides) → AbsorbPost s st nx k neutral determinant tbl Decided
-      turn-decides tbl says = record { scanned = λ d t n Γ g x us ks tb f. goes-on decides (says d) t n Γ g x us ks tb f }
+      pub turn-decides : (tbl : List ℕ) → length tbl ≡ 256 → ((neutral ≡ determinant → ⊥) → Says s st nx neutral determinant lent c m decides) → AbsorbPost s st nx k neutral determinant tbl Decided
+      turn-decides tbl long says = record { long = long; scanned = λ d t n Γ g x us ks tb f. goes-on decides (says d) t n Γ g x us ks tb f }
 
       module _ (next : ℕ) (en : next ≡ getD nx c 0) where
         pub turn-drops : Says s st nx neutral determinant lent c m drops → States lent next (i + 1) m
@@ -307,9 +307,9 @@ module _ (s st nx : List ℕ) (k neutral determinant : ℕ) where
               goes = goes-on keeps says t n Γ g x us ks tb f;
             }
 
-    pub turn-end : r ≤ i → AbsorbPost s st nx k neutral determinant lent (Stay m)
+    pub turn-end : r ≤ i → length lent ≡ 256 → AbsorbPost s st nx k neutral determinant lent (Stay m)
     unfolding scan
-    turn-end h = record { scanned = λ d t n Γ g x us ks tb f. ends t n Γ g x us ks tb f }
+    turn-end h long = record { long = long; scanned = λ d t n Γ g x us ks tb f. ends t n Γ g x us ks tb f }
       where
         none : (l : Forest) → count l ≡ 0 → l ≡ nil
         none nil e = refl

@@ -17,3 +17,8 @@ pub mod RowTurns
 pub mod AndTurns
 pub mod Bridges
 pub mod Series
+pub mod OwnTypes
+pub mod Descents
+pub mod OwnTurns
+pub mod PairTurns
+pub mod DispatchTurns

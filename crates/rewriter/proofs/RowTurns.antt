@@ -20,7 +20,7 @@ use Rattle.rewriter.specs.Decides.{HereTwo, OpposesPost, InRow, MatchesP
 use Rattle.rewriter.specs.RulesAt.{soleSame, opposes}
 
 -- ---- ¬ w is a tree like any other
-and-true : (b : Bool) → (b && true) ≡ b
+pub and-true : (b : Bool) → (b && true) ≡ b
 and-true true = refl
 and-true false = refl
 

@@ -26,7 +26,7 @@ use Rattle.rules.specs.Change.{Change, to, same, _orElse_, with2, joined}
 use Rattle.emit.specs.Template.{filled}
 use Rattle.emit.specs.Programs.{template}
 use Rattle.rewriter.specs.Decision.{filling, takesBinders, hasBinders, Bound, joint, FixedMeans, eachFilled, EachMeans, Means}
-use Rattle.rewriter.specs.Decides.{Here, HereTwo, Decides, DecidesTwo}
+use Rattle.rewriter.specs.Decides.{Here, HereTwo, Decides, DecidesPair, DecidesTwo}
 use Rattle.rewriter.specs.declared.decision.Decision.{Decision}
 use Rattle.rewriter.specs.declared.decision.Decision.the-variants as D
 
@@ -334,10 +334,10 @@ module _ (s st nx : List ℕ) (k tag : ℕ) (pt : TagPost s st k tag) (g : ℕ) 
         second = rw (ej (place-few (h .table) (fs .0))) (fs .1);
       }
 
-  pub by-two : (rule : Ctx → Tree → Change) (on : Tree → Tree → Change)
-      → ((Γ : Ctx) (n : ℕ) (us : List Ty) (a b : Tree) → rule Γ (node (head g n us) (cons a (cons b nil))) ≡ on a b)
-      → (r : Decision) → DecidesTwo on s st nx (k + 1) j r → Decides rule s st nx k r
-  by-two rule on ans r de =
+  pub by-both : (rule : Ctx → Tree → Change) (on : Ctx → Tree → Tree → Change)
+      → ((Γ : Ctx) (n : ℕ) (us : List Ty) (a b : Tree) → rule Γ (node (head g n us) (cons a (cons b nil))) ≡ on (under g us Γ) a b)
+      → (r : Decision) → DecidesPair on s st nx (k + 1) j r → Decides rule s st nx k r
+  by-both rule on ans r de =
       record {
         means = λ t n Γ v tb f w Ξ kept.
             let o = double g e d tk v (place-sorted s t st n (tb .framed) k Γ v f) (sym (pt .tag t n Γ v (tb .framed) f) ∙ key) in
@@ -345,3 +345,9 @@ module _ (s st nx : List ℕ) (k tag : ℕ) (pt : TagPost s st k tag) (g : ℕ) 
             rw (o .is, ans Γ (o .n) (o .us) (o .a) (o .b))
             (de .means t n (under g (o .us) Γ) (o .a) (o .b) tb (fs .0) (rw (ej (place-few tb (fs .0))) (fs .1)) w Ξ kept);
       }
+
+  -- where the rule does not ask for the context
+  pub by-two : (rule : Ctx → Tree → Change) (on : Tree → Tree → Change)
+      → ((Γ : Ctx) (n : ℕ) (us : List Ty) (a b : Tree) → rule Γ (node (head g n us) (cons a (cons b nil))) ≡ on a b)
+      → (r : Decision) → DecidesTwo on s st nx (k + 1) j r → Decides rule s st nx k r
+  by-two rule on ans r de = by-both rule (λ Γ. on) ans r de

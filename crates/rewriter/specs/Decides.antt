@@ -2,8 +2,7 @@
 use mathlib.Core.Path.{_≡_}
 use mathlib.Core.Bool.{Bool, true, false}
 use mathlib.Core.List.{List, [], _∷_}
-use Prim.Native.Nat.{ℕ, _+_, _<_}
-use lib.ListN.{getD}
+use Prim.Native.Nat.{ℕ, _+_}
 use lib.Dec.{eqb}
 use Rattle.frame.specs.Tags.{pick}
 use Rattle.frame.specs.Trees.{Tree, Forest, count, one}
@@ -43,10 +42,14 @@ pub record Decides (rule : Ctx → Tree → Change) (s st nx : List ℕ) (k : �
   pub means : (t : Tree) (n : ℕ) (Γ : Ctx) (v : Tree) → Table s t st nx n → find t [] k ≡ found Γ v
       → (w : Tree) (Ξ : Ctx) (kept : List ℕ) → Means t w Ξ kept r (rule Γ v)
 
--- the same of a rule on two trees
-pub record DecidesTwo (rule : Tree → Tree → Change) (s st nx : List ℕ) (a b : ℕ) (r : Decision) : Type 0 where
+-- the same of a rule on two trees in one context
+pub record DecidesPair (rule : Ctx → Tree → Tree → Change) (s st nx : List ℕ) (a b : ℕ) (r : Decision) : Type 0 where
   pub means : (t : Tree) (n : ℕ) (Γ : Ctx) (v w : Tree) → Table s t st nx n → find t [] a ≡ found Γ v → find t [] b ≡ found Γ w
-      → (x : Tree) (Ξ : Ctx) (kept : List ℕ) → Means t x Ξ kept r (rule v w)
+      → (x : Tree) (Ξ : Ctx) (kept : List ℕ) → Means t x Ξ kept r (rule Γ v w)
+
+-- and of a rule that does not ask for the context
+abbrev pub DecidesTwo : (Tree → Tree → Change) → List ℕ → List ℕ → List ℕ → ℕ → ℕ → Decision → Type 0
+DecidesTwo rule = DecidesPair (λ Γ. rule)
 
 -- r stands for what the rule answers at place k of whichever frame has this tag there
 pub record ByTag (rule : Ctx → Tree → Change) (tag k : ℕ) (r : Decision) : Type 0 where

@@ -7,7 +7,7 @@ use lib.Dec.{eqb, ltb}
 use lib.ListN.{take}
 use Rattle.frame.specs.Types.{Ty}
 use Rattle.frame.specs.Trees.{Head, head, Tree, node, Forest, nil, cons, count, tagOf, nodesIn, one, two, many, sole, append}
-use Rattle.frame.specs.Tags.{Layout, these, payload, counted, binding, formOf, pick}
+use Rattle.frame.specs.Tags.{predicate, Layout, these, payload, counted, binding, formOf, pick}
 use Rattle.frame.specs.Operators.{#SetExt, #In, #SubsetEq, #BUnion, #BInter, #LAnd, #LOr, #Not}
 use Rattle.frame.specs.Encoding.{encNumber, enc}
 use Rattle.frame.specs.Places.{Ctx, under, found, find}
@@ -96,6 +96,7 @@ pub record EachMeans (t : Tree) (place at binder : ℕ) (c : Change) : Type 0 wh
 pub record KeptMeans (t v : Tree) (Γ : Ctx) (kept : List ℕ) (m : ℕ) (c : Change) : Type 0 where
   pub ks : Forest
   pub answer : c ≡ to 65 (many (tagOf v) ks)
+  pub operator : formOf (tagOf v) .layout ≡ counted 2 255 predicate
   pub listed : At t Γ (take m kept) ks
 
 -- it says that a member is in none of the other operands of an intersection: {a} is the operand at `single`

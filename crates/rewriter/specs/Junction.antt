@@ -45,6 +45,7 @@ Absorbed t Θ lent Decided c = c ≡ decided
 Absorbed t Θ lent (Stay m) c = (out : Forest) × (c ≡ kept out) × (m ≡ count out) × At t Θ (take m lent) out
 
 pub record AbsorbPost (s st nx : List ℕ) (k neutral determinant : ℕ) (lent : List ℕ) (r : Outcome) : Type 0 where
+  pub long : length lent ≡ 256
   pub scanned : (neutral ≡ determinant → ⊥) → (t : Tree) (n : ℕ) (Γ : Ctx) (g x : ℕ) (us : List Ty) (ks : Forest) → Table s t st nx n
       → find t [] k ≡ found Γ (node (head g x us) ks) → Absorbed t (under g us Γ) lent r (scan neutral determinant ks nil)
 
@@ -59,6 +60,7 @@ settled (Stay m) k many p neutral determinant =
 
 -- the decision stands for the answer of `simplify_assoc_pred`
 pub record JunctionPost (s st nx : List ℕ) (k : ℕ) (lent : List ℕ) (r : Decision) : Type 0 where
+  pub long : length lent ≡ 256
   pub conj : (t : Tree) (n : ℕ) (Γ : Ctx) (x : ℕ) (us : List Ty) (ks : Forest) → Table s t st nx n
       → find t [] k ≡ found Γ (node (head #LAnd x us) ks)
       → Means t (node (head #LAnd x us) ks) Γ lent r (simplifyAssocPred #LAnd #BTrue #BFalse ks)

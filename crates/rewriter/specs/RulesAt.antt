@@ -1,17 +1,18 @@
 -- The rules that are decided by places, at the trees whose tags they look at first.
 use Prim.Native.Nat.{ℕ}
-use mathlib.Core.Bool.{Bool, true, false, _&&_}
+use mathlib.Core.Bool.{Bool, false, _&&_}
 use mathlib.Core.List.{List, [], _∷_}
 use lib.Dec.{eqb}
 use Rattle.frame.specs.Trees.{head, Tree, node, Forest, nil, cons, leaf, two}
 use Rattle.frame.specs.Sameness.{sameTree}
-use Rattle.frame.specs.Tags.{pick}
 use Rattle.frame.specs.Operators.{#Equal, #SRel, #STRel, #SetMinus, #CProd, #DProd, #PProd, #DomRes, #DomSub, #RanRes, #RanSub, #UpTo, #RelImage, #BInter, #BComp, #FComp, #QUnion, #Not, #Partition, #Forall, #Exists, #BTrue, #BFalse, #LAnd}
 use Rattle.frame.specs.Places.{Ctx}
-use Rattle.rules.specs.Change.{Change, to, same, _orElse_, when, isTag, onTag, with1, unary, quantifier, contains}
+use Rattle.rules.specs.Change.{Change, to, _orElse_, when, isTag, onTag, unary, quantifier, contains}
 use Rattle.rules.specs.Simplify.{makeNeg, simplifyNot, simplifyForall, simplifyExists}
 use Rattle.rules.specs.Negation.{rewriteNotInner, rewritePartition}
 use Rattle.rules.specs.Finite.{finite, isProjection}
+use Rattle.rules.specs.EqualsType.{rewriteEqualsType}
+use Rattle.rules.specs.Dispatch.{isOwnType}
 
 -- ¬ a: logic, then negation
 abbrev pub negationOf : Ctx → Tree → Change
@@ -69,3 +70,7 @@ impAnd left right =
     onTag #LAnd left (λ ts children.
     when (contains right children) (to 71 (leaf #BTrue))
     orElse when (contains (makeNeg right) children) (to 72 (makeNeg left)))
+
+-- v = w, where w is the type expression of its own elements
+abbrev pub typeRight : Ctx → Tree → Tree → Change
+typeRight Γ v w = when (isOwnType Γ w) (rewriteEqualsType Γ v)

@@ -10,3 +10,6 @@ pub mod junction; // junction.rt: ∧ and ∨
 pub mod singles; // singles.rt: sets of one member among operands
 pub mod inter; // inter.rt: ∩ = ∅
 pub mod contains; // contains.rt: a tree among others
+pub mod own_type; // own_type.rt: an expression that is a type
+pub mod equality; // equality.rt: = and ⊆
+pub mod dispatch; // dispatch.rt: which rule a node goes to

@@ -59,7 +59,7 @@ step-inv t k place u e = on-found (find t [] k) refl e
     on-found absent f e = let z : _≡_ {A = ℕ} 0 1 = cc in absurd (omega arith)
 
 -- an accepted tree that is a predicate's is accepted as one
-as-predicate : (σ : ℕ → Ty) (v : Tree) (Γ : Ctx) (e : Sort) → isPredicate v ≡ true → Accepted σ v Γ e → Accepted σ v Γ predicate
+pub as-predicate : (σ : ℕ → Ty) (v : Tree) (Γ : Ctx) (e : Sort) → isPredicate v ≡ true → Accepted σ v Γ e → Accepted σ v Γ predicate
 unfolding Accepted
 as-predicate σ (node (head g n us) ks) Γ e p a =
     let q : formOf g .sort ≡ predicate = same-sort (formOf g .sort) predicate p in

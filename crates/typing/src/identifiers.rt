@@ -58,7 +58,7 @@ fn same_type(s: &[u8], p: usize, q: usize, e: usize) -> bool
 }
 
 // Whether the type at p is the power of the given set n.
-fn is_power(s: &[u8], p: usize, n: usize) -> bool
+pub fn is_power(s: &[u8], p: usize, n: usize) -> bool
     requires { ⌜ (p ≤ length (now s)) × (length (now s) ≤ frameLimit) × (n < 65536) ⌝ }
     ensures { λ r. ⌜ PowerPost (now (s .entry)) p n r ⌝ }
 {

@@ -1,5 +1,5 @@
-use mathlib.Core.Path.{_≡_, refl, sym, _∙_}
 use Rattle.checking.proofs.Turns.{read-pre, refused-read}
+use mathlib.Core.Path.{_≡_, refl, sym, _∙_}
 use borrow.Author.Needs.{needs}
 use Rattle.checking.proofs.check.Statement.{statement}
 use Rattle.checking.proofs.check.Tie as tie
@@ -8,29 +8,29 @@ use Rattle.checking.proofs.check.Lts as lts
 use Rattle.checking.proofs.check_tree.Reads as check-tree-reads
 use Rattle.frame.proofs.reading.read.Reads as read-reads
 
--- src/lib.rt:69:9
+-- src/lib.rt:70:9
 read-requires : tie.Need-read-requires
 read-requires c κs = search needs
 
--- src/lib.rt:72:30
+-- src/lib.rt:73:30
 enum-known-answer : tie.Need-enum-known-answer
 enum-known-answer c = search needs
 
--- src/lib.rt:73:28
+-- src/lib.rt:74:28
 enum-known-answer-2 : tie.Need-enum-known-answer-2
 enum-known-answer-2 c = search needs
 
--- src/lib.rt:73:34
+-- src/lib.rt:76:13
 check-tree-requires : tie.Need-check-tree-requires
-check-tree-requires c κs = read-pre _ (λ i. c .before .before .before .before .shared-slice-known .given i .fits) _ (sym (c .before .answer2 .given .1) ∙ c .before .before .before .read .ensures .0)
+check-tree-requires c κs = (read-pre _ (λ i. c .before .before .before .before .before .shared-slice-known .given i .fits) _ (sym (c .before .before .answer2 .given .1) ∙ c .before .before .before .before .read .ensures .0), refl)
 
--- src/lib.rt:66:1
+-- src/lib.rt:67:1
 returns : tie.Need-returns
 returns c = refused-read _ _ (sym (c .before .answer .given .1) ∙ c .before .before .before .read .ensures .0)
 
--- src/lib.rt:66:1
+-- src/lib.rt:67:1
 returns-2 : tie.Need-returns-2
-returns-2 c = search needs
+returns-2 c = c .check-tree .ensures .answer
 
 pub check-spec : {M : Type 1} → statement M
 check-spec =

@@ -133,14 +133,14 @@ returns : tie.Need-returns Inv-loop μ-loop Inv-all μ-all
 returns c = let z = children-few _ _ _ _ _ (c .before .before .before .before .before .pre) _ (c .before .before .before .arity-at .ensures) in ⊎-elim
     (λ w. absurd (omega arith))
     (λ v. ⊎-elim
-    (λ w. turn-decides _ _ _ _ _ _ _ (c .before .before .before .arity-at .ensures) _ _ _ _ (c .before .before .all .inv .3) (w .0 .taken) _ (λ d. says-decides _ _ _ _ _ (c .before .before .all .kept) _ (c .before .before .all .m) _ (w .1 .ensures) (w .2 .taken) d))
-    (λ w. turn-decides _ _ _ _ _ _ _ (c .before .before .before .arity-at .ensures) _ _ _ _ (c .before .before .all .inv .3) (w .0 .taken) _ (λ d. scanned-meets _ _ _ _ _ _ _ _ _ _ (w .4 .inv) (w .5 .taken) (omega arith) _ (w .7 .ensures .0) _ (w .8 .ensures) (w .9 .taken)))
+    (λ w. turn-decides _ _ _ _ _ _ _ (c .before .before .before .arity-at .ensures) _ _ _ _ (c .before .before .all .inv .3) (w .0 .taken) _ (c .before .before .all .inv .1) (λ d. says-decides _ _ _ _ _ (c .before .before .all .kept) _ (c .before .before .all .m) _ (w .1 .ensures) (w .2 .taken) d))
+    (λ w. turn-decides _ _ _ _ _ _ _ (c .before .before .before .arity-at .ensures) _ _ _ _ (c .before .before .all .inv .3) (w .0 .taken) _ (c .before .before .all .inv .1) (λ d. scanned-meets _ _ _ _ _ _ _ _ _ _ (w .4 .inv) (w .5 .taken) (omega arith) _ (w .7 .ensures .0) _ (w .8 .ensures) (w .9 .taken)))
     v)
     (c .before .all-test .came)
 
 -- src/junction.rt:53:1
 returns-2 : tie.Need-returns-2 Inv-loop μ-loop Inv-all μ-all
-returns-2 c = turn-end _ _ _ _ _ _ _ (c .before .before .before .arity-at .ensures) _ _ _ _ (c .before .before .all .inv .3) (c .if4 .left)
+returns-2 c = turn-end _ _ _ _ _ _ _ (c .before .before .before .arity-at .ensures) _ _ _ _ (c .before .before .all .inv .3) (c .if4 .left) (c .before .before .all .inv .1)
 
 pub absorb-spec : {M : Type 1} → statement M
 absorb-spec =

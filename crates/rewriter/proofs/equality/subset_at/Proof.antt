@@ -1,0 +1,28 @@
+use borrow.Author.Needs.{needs}
+use Rattle.rewriter.proofs.PairTurns.{within-none, within-empty}
+use Rattle.rewriter.proofs.Shapes.{second-placed}
+use Rattle.rewriter.proofs.equality.subset_at.Statement.{statement}
+use Rattle.rewriter.proofs.equality.subset_at.Tie as tie
+use Rattle.rewriter.proofs.equality.subset_at.Reads as reads
+use Rattle.rewriter.proofs.equality.subset_at.Lts as lts
+use Rattle.nav.proofs.places.tag_at.Reads as tag-at-reads
+use Rattle.rewriter.proofs.equals.equals_empty_at.Reads as equals-empty-at-reads
+
+-- src/equality.rt:18:8
+tag-at-requires : tie.Need-tag-at-requires
+tag-at-requires c κs = second-placed (c .before .pre)
+
+-- src/equality.rt:19:9
+returns : tie.Need-returns
+returns c = within-none _ _ _ _ _ _ (c .before .tag-at .ensures) (c .if1 .taken)
+
+-- src/equality.rt:21:5
+equals-empty-at-requires : tie.Need-equals-empty-at-requires
+equals-empty-at-requires c κs = search needs
+
+-- src/equality.rt:8:1
+returns-2 : tie.Need-returns-2
+returns-2 c = within-empty _ _ _ _ _ _ (c .before .before .tag-at .ensures) (c .before .if1 .left) _ (c .equals-empty-at .ensures)
+
+pub subset-at-spec : {M : Type 1} → statement M
+subset-at-spec = tie.close (tie.spec tag-at-requires returns equals-empty-at-requires returns-2)

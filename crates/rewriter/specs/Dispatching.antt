@@ -1,0 +1,22 @@
+-- Which rule a predicate node goes to: what the function of src/dispatch.rt asks and answers.
+use mathlib.Core.Path.{_≡_}
+use mathlib.Core.List.{List, []}
+use Prim.Native.Nat.{ℕ}
+use lib.ListN.{length}
+use Rattle.frame.specs.Trees.{Tree}
+use Rattle.frame.specs.Places.{Ctx, found, find}
+use Rattle.nav.specs.PlaceTables.{Table}
+use Rattle.rules.specs.Dispatch.{dispatch}
+use Rattle.rewriter.specs.declared.decision.Decision.{Decision}
+use Rattle.rewriter.specs.Decision.{Means}
+use Rattle.rewriter.specs.Decides.{Here}
+
+-- k is a place of some tree with these tables; the lent list has room for the children of any node
+pub record DispatchPre (s st nx : List ℕ) (k : ℕ) (lent : List ℕ) : Type 0 where
+  pub here : Here s st nx k
+  pub long : length lent ≡ 256
+
+-- r stands for the answer of all the rules at the tree at place k
+pub record DispatchPost (s st nx : List ℕ) (k : ℕ) (lent : List ℕ) (r : Decision) : Type 0 where
+  pub long : length lent ≡ 256
+  pub means : (t : Tree) (n : ℕ) (Γ : Ctx) (v : Tree) → Table s t st nx n → find t [] k ≡ found Γ v → Means t v Γ lent r (dispatch Γ v)
