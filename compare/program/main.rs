@@ -1,9 +1,12 @@
 //! reference step | rule | run: answers lines `NUMBER LENT FRAME` of standard input (the number is the step's place or the run's
 //! budget) as the Rattle programs do; `rule` tells the place of docs/RULES.md in front of a step's answer.
+//! reference bench (built with --cfg bench): the port and the source timed on the same frames.
 //! reference gen SEED COUNT: so many lines for `step` at random. reference sample SEED: the lines of crates/step_test/stdin.
 extern crate self as rossi;
 
 mod ast;
+#[cfg(bench)]
+mod bench;
 mod builtins;
 mod bytes;
 mod formula;
@@ -78,6 +81,8 @@ fn work() -> std::io::Result<()> {
                 writeln!(out, "{}", lines.next())?;
             }
         }
+        #[cfg(bench)]
+        ["bench"] => bench::table(),
         ["sample", seed] => {
             for line in sample::lines(number(seed)) {
                 writeln!(out, "{line}")?;

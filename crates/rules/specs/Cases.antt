@@ -51,6 +51,12 @@ cases =
     (to 37 (one #Not (two #In (leaf #True) (two #SetMinus S T))))
     -- ⊤ ∧ ⊥: the absorbing child decides
     ∷ case (many #LAnd (pair ⊤ ⊥ᵖ)) (to 62 ⊥ᵖ)
+    -- ¬⊤ ∧ ⊤: a neutral child goes before opposites are looked for
+    ∷ case (many #LAnd (pair (one #Not ⊤) ⊤)) (to 64 (one #Not ⊤))
+    -- ¬⊤ ⇒ ⊥: the negation that is built has the double negation removed
+    ∷ case (two #LImp (one #Not ⊤) ⊥ᵖ) (to 69 ⊤)
+    -- ⊥ ∧ ¬⊤ ⇒ ⊥: SIMP_SPECIAL_IMP_BFALSE_R, before SIMP_MULTI_IMP_AND
+    ∷ case (two #LImp (many #LAnd (pair ⊥ᵖ (one #Not ⊤))) ⊥ᵖ) (to 69 (one #Not (many #LAnd (pair ⊥ᵖ (one #Not ⊤)))))
     -- ∅ = ∅: no rule
     ∷ case (two #Equal (typed #EmptySet (pow bool)) (typed #EmptySet (pow bool))) same
     ∷ []
