@@ -1,0 +1,29 @@
+use Rattle.lustrejasper.proofs.Short.{run-short}
+use Rattle.lustrejasper.specs.Words.{runWord}
+use mathlib.Core.Path.{_∙_, ap}
+use borrow.Author.Needs.{needs}
+use Rattle.lustrejasper.proofs.lustrejasper_run.Statement.{statement}
+use Rattle.lustrejasper.proofs.lustrejasper_run.Tie as tie
+use Rattle.lustrejasper.proofs.lustrejasper_run.Reads as reads
+use Rattle.lustrejasper.proofs.lustrejasper_run.Lts as lts
+use Rattle.lustrejasper.proofs.run_word.Reads as run-word-reads
+use Rattle.running.proofs.run.Reads as run-reads
+
+-- src/lib.rt:79:9
+run-requires : tie.Need-run-requires
+run-requires c κs = search needs
+
+-- src/lib.rt:80:5
+run-word-requires : tie.Need-run-word-requires
+run-word-requires c κs = run-short _ (λ i. c .before .before .before .before .before .shared-slice-known .given i .fits) _ _ _ (c .before .before .run .ensures .0)
+
+-- src/lib.rt:75:1
+same-length : tie.Need-same-length
+same-length c = search needs
+
+-- src/lib.rt:75:1
+returns : tie.Need-returns
+returns c = (c .run-word .ensures ∙ ap runWord (c .before .before .before .run .ensures .0), c .before .before .before .run .ensures .1)
+
+pub lustrejasper-run-spec : {M : Type 1} → statement M
+lustrejasper-run-spec = tie.close (tie.spec run-requires run-word-requires same-length returns)
