@@ -1,3 +1,4 @@
 pub mod Runs
 pub mod Calls
 pub mod UnionFigure
+pub mod Sizes

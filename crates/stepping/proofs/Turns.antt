@@ -117,6 +117,33 @@ module _ (s : List ℕ) (n : ℕ) (st nx leaves : List ℕ) (k : ℕ) (kp : List
           }
 
 -- ---- `write_out`
+-- what is copied to the front of a list
+module _ (src : List ℕ) (m : ℕ) (o p xs : List ℕ) (c : Copied src 0 (m - 0) o p 0) (e : m ≡ length xs) (f : take m src ≡ xs) (l : m ≤ length o) where
+  long : length o ≡ length (xs ++ drop (length xs) o)
+  long = omega (arith, length-append xs (drop (length xs) o), length-drop (length xs) o)
+
+  front : (i : ℕ) → i < length xs → getD p i 0 ≡ getD (xs ++ drop (length xs) o) i 0
+  front i b =
+      let z : getD p (0 + i) 0 ≡ getD src (0 + i) 0 = c .put i (omega arith) in
+      let y : 0 + i ≡ i = omega arith in
+      subst (λ (j : ℕ). getD p j 0 ≡ getD src j 0) y z ∙ sym (getD-take m src i 0 (omega arith)) ∙ ap (λ (u : List ℕ). getD u i 0) f ∙ sym (List·getD-append xs (drop (length xs) o) 0 i b)
+
+  back : (i : ℕ) → length xs ≤ i → getD p i 0 ≡ getD (xs ++ drop (length xs) o) i 0
+  back i b =
+      let z : i ≡ length xs + (i - length xs) = omega arith in
+      c .high i (omega arith) ∙ ap (λ (j : ℕ). getD o j 0) z ∙ sym (getD-drop (length xs) o (i - length xs) 0)
+      ∙ sym (ap (λ (j : ℕ). getD (xs ++ drop (length xs) o) j 0) z ∙ getD-append-add xs (drop (length xs) o) (i - length xs) 0)
+
+  byte : (i : ℕ) → getD p i 0 ≡ getD (xs ++ drop (length xs) o) i 0
+  byte i = go (ltb i (length xs)) refl
+    where
+      go : (q : Bool) → ltb i (length xs) ≡ q → getD p i 0 ≡ getD (xs ++ drop (length xs) o) i 0
+      go true q = front i (ltb-true i (length xs) q)
+      go false q = back i (ltb-false i (length xs) q)
+
+  pub copied-front : p ≡ xs ++ drop (length xs) o
+  copied-front = ext-getD 0 p (xs ++ drop (length xs) o) (c .long ∙ long) (λ i b. byte i)
+
 module _ (scratch : List ℕ) (m : ℕ) (o : List ℕ) where
   fit-over : (xs : List ℕ) → 4096 < length xs → fit (length o) xs ≡ turnedDown 12
   unfolding fit
@@ -143,42 +170,25 @@ module _ (scratch : List ℕ) (m : ℕ) (o : List ℕ) where
               (sym (ap stepAnswer e), sym (ap (λ (x : Outcome). stepOutput x o) e)));
         }
 
-    copied : (p xs : List ℕ) → Copied scratch 0 (m - 0) o p 0 → m ≡ length xs → take m scratch ≡ xs → m ≤ length o → p ≡ xs ++ drop (length xs) o
-    copied p xs c e f l =
-        ext-getD 0 p (xs ++ drop (length xs) o) (c .long ∙ long) (λ i b. byte i b)
-      where
-        long : length o ≡ length (xs ++ drop (length xs) o)
-        long = omega (arith, length-append xs (drop (length xs) o), length-drop (length xs) o)
-
-        front : (i : ℕ) → i < length xs → getD p i 0 ≡ getD (xs ++ drop (length xs) o) i 0
-        front i b =
-            let z : getD p (0 + i) 0 ≡ getD scratch (0 + i) 0 = c .put i (omega arith) in
-            let y : 0 + i ≡ i = omega arith in
-            subst (λ (j : ℕ). getD p j 0 ≡ getD scratch j 0) y z ∙ sym (getD-take m scratch i 0 (omega arith)) ∙ ap (λ (u : List ℕ). getD u i 0) f ∙ sym (List·getD-append xs (drop (length xs) o) 0 i b)
-
-        back : (i : ℕ) → length xs ≤ i → getD p i 0 ≡ getD (xs ++ drop (length xs) o) i 0
-        back i b =
-            let z : i ≡ length xs + (i - length xs) = omega arith in
-            c .high i (omega arith) ∙ ap (λ (j : ℕ). getD o j 0) z ∙ sym (getD-drop (length xs) o (i - length xs) 0)
-            ∙ sym (ap (λ (j : ℕ). getD (xs ++ drop (length xs) o) j 0) z ∙ getD-append-add xs (drop (length xs) o) (i - length xs) 0)
-
-        byte : (i : ℕ) → i < length p → getD p i 0 ≡ getD (xs ++ drop (length xs) o) i 0
-        byte i b = go (ltb i (length xs)) refl
-          where
-            go : (q : Bool) → ltb i (length xs) ≡ q → getD p i 0 ≡ getD (xs ++ drop (length xs) o) i 0
-            go true q = front i (ltb-true i (length xs) q)
-            go false q = back i (ltb-false i (length xs) q)
-
     pub out-written : m ≤ length o → (p : List ℕ) → Copied scratch 0 (m - 0) o p 0 → OutPost scratch m o p (A.Changed m)
     out-written l p c =
         record {
           done = λ xs w.
               (let v = wrote-held scratch m xs w h in
               let e = fit-fits xs (omega (arith, v .0)) (omega (arith, v .0)) in
-              (ap A.Changed (v .0) ∙ sym (ap stepAnswer e), copied p xs c (v .0) (v .1) l ∙ sym (ap (λ (x : Outcome). stepOutput x o) e)));
+              (ap A.Changed (v .0) ∙ sym (ap stepAnswer e), copied-front scratch m o p xs c (v .0) (v .1) l ∙ sym (ap (λ (x : Outcome). stepOutput x o) e)));
         }
 
 -- ---- `step_held`
+-- a decision that does not rest stands for a tree
+pub changes : (t v : Tree) (Γ : Ctx) (kp : List ℕ) (x : Decision) (c : Change) → isRests x ≡ false → Means t v Γ kp x c → (place : ℕ) × ((new : Tree) × (c ≡ to place new))
+changes t v Γ kp D.Rests c h m = true-not (sym h)
+changes t v Γ kp (D.Fixed a b e f g) c h m = (a, (m .new, m .answer))
+changes t v Γ kp (D.Each a b e) c h m = (a, (m .new, m .answer))
+changes t v Γ kp (D.Kept i) c h m = (65, (_, m .answer))
+changes t v Γ kp (D.Apart i j) c h m = (37, (_, m .answer))
+changes t v Γ kp (D.Within i) c h m = (38, (_, m .answer))
+
 module _ (s : List ℕ) (n : ℕ) (st leaves : List ℕ) (p : HeldPre s n st leaves) (k : ℕ) (o : List ℕ) where
   stepped : step s k (length o) ≡ outcomeOf (length o) (stepTree (p .t) k)
   unfolding step
@@ -257,18 +267,9 @@ module _ (s : List ℕ) (n : ℕ) (st leaves : List ℕ) (p : HeldPre s n st lea
             pub held-splice : (l : List ℕ) → length l ≡ 4096 → SplicePre s n st nx leaves k kp d l
             held-splice l h = record { t = p .t; table = table; held = p .held; decided = decided; long = pd .long; room = h }
 
-            -- a decision that does not rest stands for a tree
-            changes : (x : Decision) (c : Change) → isRests x ≡ false → Means (p .t) (here .1 .0) (here .0) kp x c → (place : ℕ) × ((new : Tree) × (c ≡ to place new))
-            changes D.Rests c h m = true-not (sym h)
-            changes (D.Fixed a b e f g) c h m = (a, (m .new, m .answer))
-            changes (D.Each a b e) c h m = (a, (m .new, m .answer))
-            changes (D.Kept i) c h m = (65, (_, m .answer))
-            changes (D.Apart i j) c h m = (37, (_, m .answer))
-            changes (D.Within i) c h m = (38, (_, m .answer))
-
             module _ (r : Bool) (er : r ≡ isRests d) (z : r ≡ false) where
               change : (place : ℕ) × ((new : Tree) × (dispatch (here .0) (here .1 .0) ≡ to place new))
-              change = changes d (dispatch (here .0) (here .1 .0)) (sym er ∙ z) means
+              change = changes (p .t) (here .1 .0) (here .0) kp d (dispatch (here .0) (here .1 .0)) (sym er ∙ z) means
 
               module _ (scratch : List ℕ) (m : ℕ) (ps : SplicePost s n st nx leaves k kp d scratch m) where
                 new-bytes : Wrote scratch m (enc (replace (p .t) k (change .1 .0)))

@@ -1,0 +1,196 @@
+-- Answers of runs and of lines, on plain values: the ways out of src/line.rs.
+-- Main results: ended-fits, ended-room, ended-post (a run that ended, for any of the three words); refused-room, refused-post; run-answers;
+-- line-refused, line-frame (a line by what reading it answers); no-frame.
+use mathlib.Core.Path.{_≡_, refl, sym, ap, ap₂, _∙_, subst}
+use mathlib.Core.Bool.{Bool, true, false}
+use mathlib.Core.List.{List, [], _∷_, _++_}
+use Prim.Native.Nat.{ℕ, _+_, _*_, _≤_, _<_}
+use native.Mathlib.Omega.{arith}
+use lib.ListN.{length, take, drop, length-append, length-drop}
+use lib.Seq.{take-at, length-sets, length-take-le}
+use lib.Dec.{eqb, ltb}
+use borrow.Author.Tests.{ltb-true, ltb-false, lt-ltb, ne-eqb}
+use Rattle.frame.specs.Tags.{pick}
+use Rattle.frame.specs.Reading.{frameLimit, parse}
+use Rattle.frame.specs.Spans.{Bytes}
+use Rattle.frame.specs.Lines.{Line, frame, badLine, readLine, writeLine}
+use Rattle.frame.specs.LineState.{lineState, lineBytes, lineBuffer, lineAnswer}
+use Rattle.frame.specs.declared.lines.LineState.{LineState}
+use Rattle.frame.specs.declared.lines.LineAnswer.{LineAnswer}
+use Rattle.frame.specs.declared.lines.LineAnswer.the-variants as L
+use Rattle.frame.proofs.LineTurns.{write-length, line-buffer}
+use Rattle.typing.specs.Check.{check}
+use Rattle.run.specs.Run.{Word, REST, SPENT, FULL, RunOutcome, ended, turnedDown, run, wordAnswer, runAnswer, runOutput}
+use Rattle.run.specs.declared.RunAnswer.{RunAnswer}
+use Rattle.run.specs.declared.RunAnswer.the-variants.{Refused}
+use Rattle.run.proofs.Sizes.{run-small}
+use Rattle.answers.specs.Text.{budget, lent, decimal, wordText, endedText, refusedText, answerText, lineOutcome, lineText}
+use Rattle.answers.specs.Posts.{Appends, longest, Small, Answers, AnswerPre, AnswerPost, FramePost, HeldPost, Holds, LinePost}
+use Rattle.answers.proofs.Writes.{appends-as, ended-length, refused-length, digits-3, digits-5}
+
+-- ---- an answer and the outcome that it is the answer of
+same-word : (w v : Word) (k l m j : ℕ) → wordAnswer w k l ≡ wordAnswer v m j → (w ≡ v) × (k ≡ m) × (l ≡ j)
+same-word REST REST k l m j e = (refl, cc, cc)
+same-word REST SPENT k l m j e = let z : _≡_ {A = ℕ} 0 1 = cc in absurd (omega arith)
+same-word REST FULL k l m j e = let z : _≡_ {A = ℕ} 0 1 = cc in absurd (omega arith)
+same-word SPENT REST k l m j e = let z : _≡_ {A = ℕ} 0 1 = cc in absurd (omega arith)
+same-word SPENT SPENT k l m j e = (refl, cc, cc)
+same-word SPENT FULL k l m j e = let z : _≡_ {A = ℕ} 0 1 = cc in absurd (omega arith)
+same-word FULL REST k l m j e = let z : _≡_ {A = ℕ} 0 1 = cc in absurd (omega arith)
+same-word FULL SPENT k l m j e = let z : _≡_ {A = ℕ} 0 1 = cc in absurd (omega arith)
+same-word FULL FULL k l m j e = (refl, cc, cc)
+
+word-not : {X : Type 0} (w : Word) (k l c : ℕ) → wordAnswer w k l ≡ Refused c → X
+word-not REST k l c e = let z : _≡_ {A = ℕ} 0 1 = cc in absurd (omega arith)
+word-not SPENT k l c e = let z : _≡_ {A = ℕ} 0 1 = cc in absurd (omega arith)
+word-not FULL k l c e = let z : _≡_ {A = ℕ} 0 1 = cc in absurd (omega arith)
+
+-- the outcome of an answer with a word: its frame stands at the buffer's start
+record Said (w : Word) (k l : ℕ) (last : List ℕ) (x : RunOutcome) : Type 0 where
+  is : x ≡ ended w k (take l last)
+  few : k ≤ budget
+  short : l ≤ lent
+  fits : l ≤ length last
+
+said : (a : RunAnswer) (w : Word) (k l : ℕ) (last : List ℕ) → a ≡ wordAnswer w k l → (x : RunOutcome) → Answers a last x → Said w k l last x
+said a w k l last e (ended v m ys) h =
+    let s = same-word w v k l m (length ys) (sym e ∙ h .answer) in
+    let t : take l last ≡ ys = ap₂ (λ (i : ℕ) (z : List ℕ). take i z) (s .2) (h .output) ∙ take-at ys (drop (length ys) (h .old)) (length ys) refl in
+    let n : length last ≡ length ys + length (drop (length ys) (h .old)) = ap (λ (z : List ℕ). length z) (h .output) ∙ length-append ys (drop (length ys) (h .old)) in
+    record {
+      is = subst (λ (u : Word). ended v m ys ≡ ended u k (take l last)) (sym (s .0)) (ap₂ (λ (i : ℕ) (z : List ℕ). ended v i z) (sym (s .1)) (sym t));
+      few = omega (arith, s .1, h .small .0);
+      short = omega (arith, s .2, h .small .1);
+      fits = omega (arith, s .2);
+    }
+said a w k l last e (turnedDown c) h = word-not w k l c (sym e ∙ h .answer)
+
+-- ---- `put_answer`
+module _ (a : RunAnswer) (last : List ℕ) (w : Word) (k l : ℕ) (e : a ≡ wordAnswer w k l) (pre : AnswerPre a last) where
+  of-pre : Said w k l last (pre .0)
+  of-pre = said a w k l last e (pre .0) (pre .1)
+
+  pub ended-fits : l ≡ length (take l last)
+  ended-fits = sym (length-take-le l last (of-pre .fits))
+
+  ended-short : length (endedText (wordText w) k (take l last)) ≤ longest
+  ended-short = go w
+    where
+      rest : (word : List ℕ) → length word ≤ 5 → length (endedText word k (take l last)) ≤ longest
+      rest word h =
+          omega (arith, ended-length word k (take l last), write-length (take l last), length-take-le l last (of-pre .fits), of-pre .short, digits-5 k (omega (arith, of-pre .few)))
+
+      go : (w : Word) → length (endedText (wordText w) k (take l last)) ≤ longest
+      go REST = rest (wordText REST) (omega arith)
+      go SPENT = rest (wordText SPENT) (omega arith)
+      go FULL = rest (wordText FULL) (omega arith)
+
+  pub ended-room : (n c : ℕ) → n + longest ≤ c → n + length (endedText (wordText w) k (take l last)) ≤ c
+  ended-room n c h = omega (arith, ended-short)
+
+  pub ended-post : (o : List ℕ) (n : ℕ) (p : List ℕ) (m : ℕ) → Appends o n (endedText (wordText w) k (take l last)) p m → AnswerPost a last o n p m
+  unfolding answerText
+  ended-post o n p m h = record {
+    puts = λ x ans. subst (λ (y : RunOutcome). Appends o n (answerText y) p m) (sym (said a w k l last e x ans .is)) h;
+    room = omega (arith, ended-short, h .after);
+  }
+
+refused-short : (c : ℕ) → c < 256 → length (refusedText c) ≤ longest
+refused-short c h = omega (arith, refused-length c, digits-3 c (omega arith))
+
+pub refused-room : (c : ℕ) → c < 256 → (n k : ℕ) → n + longest ≤ k → n + length (refusedText c) ≤ k
+refused-room c h n k l = omega (arith, refused-short c h)
+
+of-refused : (a : RunAnswer) (last : List ℕ) (c : ℕ) → a ≡ Refused c → (x : RunOutcome) → Answers a last x → x ≡ turnedDown c
+of-refused a last c e (ended v m ys) h = word-not v m (length ys) c (sym (h .answer) ∙ e)
+of-refused a last c e (turnedDown d) h = let y : Refused d ≡ Refused c = sym (h .answer) ∙ e in cc
+
+pub refused-post : (a : RunAnswer) (last : List ℕ) (c : ℕ) → c < 256 → a ≡ Refused c → (o : List ℕ) (n : ℕ) (p : List ℕ) (m : ℕ) → Appends o n (refusedText c) p m
+    → AnswerPost a last o n p m
+unfolding answerText
+refused-post a last c l e o n p m h = record {
+  puts = λ x ans. subst (λ (y : RunOutcome). Appends o n (answerText y) p m) (sym (of-refused a last c e x ans)) h;
+  room = omega (arith, refused-short c l, h .after);
+}
+
+-- ---- `put_run`: `last` is the buffer after a run
+small-of : (s : List ℕ) → Bytes s → (x : RunOutcome) → run s budget lent ≡ x → Small x
+small-of s b (ended w n xs) e = run-small s b budget lent w n xs e
+small-of s b (turnedDown c) e = tt
+
+pub run-answers : (s : List ℕ) → Bytes s → (old : List ℕ) → length old ≡ lent → (a : RunAnswer) (last : List ℕ)
+    → (a ≡ runAnswer (run s budget (length old))) × (last ≡ runOutput (run s budget (length old)) old) → Answers a last (run s budget lent)
+run-answers s b old l a last h = record {
+  old = old;
+  answer = subst (λ (i : ℕ). a ≡ runAnswer (run s budget i)) l (h .0);
+  output = subst (λ (i : ℕ). last ≡ runOutput (run s budget i) old) l (h .1);
+  long = l;
+  small = small-of s b (run s budget lent) refl;
+}
+
+pub run-post : (s : List ℕ) (a : RunAnswer) (last o : List ℕ) (n : ℕ) (p : List ℕ) (m : ℕ) → Answers a last (run s budget lent) → AnswerPost a last o n p m → FramePost s o n p m
+run-post s a last o n p m h q = record { puts = q .puts (run s budget lent) h; room = q .room }
+
+-- ---- `put_held`
+pub held-none : (s : List ℕ) (k : ℕ) (o : List ℕ) (n : ℕ) → length s < k → HeldPost s k o n o n
+held-none s k o n h = record { puts = λ l. absurd (omega arith); room = omega arith }
+
+pub held-frame : (s : List ℕ) (k : ℕ) (o : List ℕ) (n : ℕ) (p : List ℕ) (m : ℕ) → FramePost (take k s) o n p m → HeldPost s k o n p m
+held-frame s k o n p m h = record { puts = λ l. h .puts; room = h .room }
+
+-- ---- `put_line`
+-- "2. The frame has [..] more than 4,096."
+long-refused : (s : List ℕ) → frameLimit < length s → run s budget lent ≡ turnedDown 2
+unfolding run check parse
+long-refused s h = rw (ne-eqb (length s) 0 (λ e. omega arith), lt-ltb frameLimit (length s) h)
+
+refused-text : (cs : List ℕ) (c : ℕ) → L.Refused c ≡ lineAnswer (readLine cs) → refusedText c ≡ lineText cs
+unfolding lineText answerText
+refused-text cs c e = go (readLine cs) e
+  where
+    on-long : (s : List ℕ) (b : Bool) → ltb frameLimit (length s) ≡ b → L.Refused c ≡ pick b (L.Refused 2) (L.Frame (length s)) → refusedText c ≡ answerText (run s budget lent)
+    on-long s true h e = let z : c ≡ 2 = cc in ap refusedText z ∙ sym (ap answerText (long-refused s (ltb-true frameLimit (length s) h)))
+    on-long s false h e = let z : _≡_ {A = ℕ} 0 1 = cc in absurd (omega arith)
+
+    go : (l : Line) → L.Refused c ≡ lineAnswer l → refusedText c ≡ answerText (lineOutcome l)
+    go (frame s) e = on-long s (ltb frameLimit (length s)) refl e
+    go badLine e = let z : c ≡ 1 = cc in ap refusedText z
+
+-- a line that is read: its frame, which fits
+record Framed (cs : List ℕ) (k : ℕ) : Type 0 where
+  s : List ℕ
+  is : readLine cs ≡ frame s
+  long : k ≡ length s
+  fits : length s ≤ frameLimit
+
+framed : (cs : List ℕ) (k : ℕ) → L.Frame k ≡ lineAnswer (readLine cs) → Framed cs k
+framed cs k e = go (readLine cs) refl e
+  where
+    on-long : (s : List ℕ) → readLine cs ≡ frame s → (b : Bool) → ltb frameLimit (length s) ≡ b → L.Frame k ≡ pick b (L.Refused 2) (L.Frame (length s)) → Framed cs k
+    on-long s r true h e = let z : _≡_ {A = ℕ} 0 1 = cc in absurd (omega arith)
+    on-long s r false h e = record { s = s; is = r; long = cc; fits = ltb-false frameLimit (length s) h }
+
+    go : (l : Line) → readLine cs ≡ l → L.Frame k ≡ lineAnswer l → Framed cs k
+    go (frame s) r e = on-long s r (ltb frameLimit (length s)) refl e
+    go badLine r e = let z : _≡_ {A = ℕ} 0 1 = cc in absurd (omega arith)
+
+module _ (st : LineState) (b o : List ℕ) (n : ℕ) (p : List ℕ) (m : ℕ) (r : LineAnswer) (end : (cs : List ℕ) → st ≡ lineState cs → r ≡ lineAnswer (readLine cs)) where
+  pub line-refused : (c : ℕ) → c < 256 → r ≡ L.Refused c → Appends o n (refusedText c) p m → LinePost st b o n p m
+  line-refused c l e h = record {
+    puts = λ held hs. appends-as o n (refusedText c) (lineText held) p m (refused-text held c (sym e ∙ end held (hs .state))) h;
+    room = omega (arith, refused-length c, digits-3 c (omega arith), h .after);
+  }
+
+  pub line-frame : (k : ℕ) → r ≡ L.Frame k → HeldPost b k o n p m → LinePost st b o n p m
+  unfolding lineText
+  line-frame k e h = record {
+    puts = λ held hs. (
+        let f = framed held k (sym e ∙ end held (hs .state)) in
+        let w : b ≡ f .s ++ drop (length (f .s)) (hs .old) = hs .buffer ∙ line-buffer held (f .s) (hs .old) (f .is) (f .fits) (omega (arith, hs .long, f .fits)) in
+        let t : take k b ≡ f .s = ap (λ (x : List ℕ). take k x) w ∙ take-at (f .s) (drop (length (f .s)) (hs .old)) k (sym (f .long)) in
+        let l : k ≤ length b = omega (arith, f .long, ap (λ (x : List ℕ). length x) w, length-append (f .s) (drop (length (f .s)) (hs .old))) in
+        let x : lineOutcome (readLine held) ≡ run (take k b) budget lent = ap lineOutcome (f .is) ∙ ap (λ (y : List ℕ). run y budget lent) (sym t) in
+        appends-as o n (answerText (run (take k b) budget lent)) (lineText held) p m (ap answerText (sym x)) (h .puts l)
+        );
+    room = h .room;
+  }

@@ -1,0 +1,28 @@
+use Rattle.running.proofs.Turns.{at-expression, at-decided}
+use Rattle.rewriter.proofs.Shapes.{here-placed}
+use borrow.Author.Needs.{needs}
+use Rattle.running.proofs.decide_at.Statement.{statement}
+use Rattle.running.proofs.decide_at.Tie as tie
+use Rattle.running.proofs.decide_at.Reads as reads
+use Rattle.running.proofs.decide_at.Lts as lts
+use Rattle.nav.proofs.places.is_expression_at.Reads as is-expression-at-reads
+use Rattle.rewriter.proofs.dispatch.decide.Reads as decide-reads
+
+-- src/lib.rt:41:8
+is-expression-at-requires : tie.Need-is-expression-at-requires
+is-expression-at-requires c κs = here-placed (c .before .pre .here)
+
+-- src/lib.rt:42:9
+returns : tie.Need-returns
+returns c = at-expression _ _ _ _ _ (c .before .is-expression-at .ensures) (c .if1 .taken) _ (c .before .before .before .pre .long)
+
+-- src/lib.rt:44:5
+decide-requires : tie.Need-decide-requires
+decide-requires c κs = search needs
+
+-- src/lib.rt:31:1
+returns-2 : tie.Need-returns-2
+returns-2 c = at-decided _ _ _ _ _ (c .before .before .before .is-expression-at .ensures) (c .before .before .if1 .left) _ _ (c .decide .ensures)
+
+pub decide-at-spec : {M : Type 1} → statement M
+decide-at-spec = tie.close (tie.spec is-expression-at-requires returns decide-requires returns-2)
