@@ -1,19 +1,19 @@
--- Where two places of the source would answer, the first one in its text does. By one evaluation of `dispatch`: each
--- predicate with the place that answers and the tree that it builds.
+-- Where two places of the source would answer, the first one in its text does; and what a place asks for besides its shape. By one
+-- evaluation of `dispatch`: each predicate with the place that answers and the tree that it builds.
 use mathlib.Core.Path.{_≡_, refl}
 use mathlib.Core.List.{List, [], _∷_, map}
 use Prim.Native.Nat.{ℕ}
 use Rattle.frame.specs.Types.{Ty, bool, pow}
-use Rattle.frame.specs.Trees.{Head, head, Tree, node, Forest, nil, cons, leaf, one, two, many, typed, sole, pair}
+use Rattle.frame.specs.Trees.{Head, head, Tree, node, Forest, nil, cons, leaf, one, two, many, typed, sole, pair, bodied}
 use Rattle.frame.specs.Tags.{lookup, classOf, formAt}
-use Rattle.frame.specs.Operators.{#FreeIdent, #SetExt, #Equal, #In, #SetMinus, #BInter, #True, #False, #EmptySet, #LImp, #LEqv, #LAnd, #BTrue, #BFalse, #Not}
+use Rattle.frame.specs.Operators.{#FreeIdent, #BoundIdent, #SetExt, #Equal, #In, #Mapsto, #SetMinus, #BInter, #True, #False, #EmptySet, #LImp, #LEqv, #LAnd, #BTrue, #BFalse, #Not, #Finite, #CSet}
 use Rattle.frame.specs.Sameness.{sameTy, sameTys, sameTree}
 use Rattle.typing.specs.Typing.{typeOf}
 use Rattle.typing.specs.TypeExpression.{toExpression}
 use Rattle.rules.specs.Change.{Change, to, same, onTag, contains}
 use Rattle.rules.specs.Simplify.{makeNeg, verdict, scan, simplifyAssocPred, simplifyPredicateNode}
 use Rattle.rules.specs.Negation.{rewriteNot, rewritePartition}
-use Rattle.rules.specs.Finite.{rewriteFinite}
+use Rattle.rules.specs.Finite.{uses, recovers, functionalCheck, rewriteFinite}
 use Rattle.rules.specs.EqualsEmptySet.{anySingle, firstSingle, anyMinus, minuends, subtrahends, interEmpty, rewriteEqualsEmptySet}
 use Rattle.rules.specs.EqualsType.{rewriteEqualsType}
 use Rattle.rules.specs.Dispatch.{dispatch}
@@ -33,6 +33,14 @@ S = node (head #FreeIdent 1 (pow bool ∷ [])) nil
 
 abbrev T : Tree
 T = node (head #FreeIdent 2 (pow bool ∷ [])) nil
+
+-- x, the nearest binder
+abbrev x : Tree
+x = node (head #BoundIdent 0 []) nil
+
+-- finite({x · ⊤ ∣ e}), x of type BOOL
+abbrev finiteOf : Tree → Tree
+finiteOf e = one #Finite (bodied #CSet (bool ∷ []) ⊤ e)
 
 cases : List Case
 cases =
@@ -57,6 +65,10 @@ cases =
     ∷ case (two #LImp (one #Not ⊤) ⊥ᵖ) (to 69 ⊤)
     -- ⊥ ∧ ¬⊤ ⇒ ⊥: SIMP_SPECIAL_IMP_BFALSE_R, before SIMP_MULTI_IMP_AND
     ∷ case (two #LImp (many #LAnd (pair ⊥ᵖ (one #Not ⊤))) ⊥ᵖ) (to 69 (one #Not (many #LAnd (pair ⊥ᵖ (one #Not ⊤)))))
+    -- finite({x · ⊤ ∣ x ↦ {x}}): x is a leaf of maplets on the left
+    ∷ case (finiteOf (two #Mapsto x (many #SetExt (sole x)))) (to 11 (finiteOf x))
+    -- finite({x · ⊤ ∣ {x} ↦ x}): there it is none
+    ∷ case (finiteOf (two #Mapsto (many #SetExt (sole x)) x)) same
     -- ∅ = ∅: no rule
     ∷ case (two #Equal (typed #EmptySet (pow bool)) (typed #EmptySet (pow bool))) same
     ∷ []
@@ -68,5 +80,5 @@ abbrev expected : Case → Change
 expected (case t c) = c
 
 source-order : map (λ (c : Case). dispatch [] (predicateIn c)) cases ≡ map expected cases
-unfolding lookup classOf formAt sameTy sameTys sameTree typeOf toExpression onTag contains makeNeg verdict scan simplifyAssocPred simplifyPredicateNode rewriteNot rewritePartition rewriteFinite anySingle firstSingle anyMinus minuends subtrahends interEmpty rewriteEqualsEmptySet rewriteEqualsType dispatch cases
+unfolding lookup classOf formAt sameTy sameTys sameTree typeOf toExpression onTag contains makeNeg verdict scan simplifyAssocPred simplifyPredicateNode rewriteNot rewritePartition uses recovers functionalCheck rewriteFinite anySingle firstSingle anyMinus minuends subtrahends interEmpty rewriteEqualsEmptySet rewriteEqualsType dispatch cases
 source-order = refl
