@@ -1,5 +1,5 @@
 use Prim.Native.Nat.{ℕ}
-use lib.ListN.{length-replicate}
+use lib.ListN.{replicate, length-replicate}
 use native.Mathlib.Omega.{arith}
 use mathlib.Core.Path.{_≡_, refl, sym, ap, _∙_}
 use mathlib.Core.Bool.{true, false}
@@ -17,7 +17,7 @@ slice-aggregate-type-tree c = sym (length-replicate {A = ℕ} 131136 0)
 
 -- src/lib.rt:28:9
 type-tree-requires : tie.Need-type-tree-requires
-type-tree-requires c κs = type-pre _ _ _ _ _ _ (λ i. c .before .before .before .before .shared-slice-known .given i .fits) (c .before .before .before .before .before .pre) (length-replicate {A = ℕ} 2048 0) (length-replicate {A = ℕ} 2048 0) (length-replicate {A = ℕ} 2048 0) (length-replicate {A = ℕ} 131136 0)
+type-tree-requires c κs = type-pre _ _ (replicate 2048 0) (replicate 2048 0) (replicate 2048 0) (replicate 131136 0) (λ i. c .before .before .before .before .shared-slice-known .given i .fits) (c .before .before .before .before .before .pre) (length-replicate {A = ℕ} 2048 0) (length-replicate {A = ℕ} 2048 0) (length-replicate {A = ℕ} 2048 0) (length-replicate {A = ℕ} 131136 0)
 
 -- src/lib.rt:39:19
 enum-known-a : tie.Need-enum-known-a
