@@ -75,10 +75,10 @@ fn row(name: &str, bytes: &[u8]) {
     let (_, new) = step::step(bytes, 0, OUT as u64).expect("a step").expect("a change");
     assert_eq!(port_step(bytes, &mut out), 65_536 + new.len() as u64);
     assert!(out.starts_with(&new));
-    let port = least(|| drop(black_box(port_step(black_box(bytes), &mut out))));
+    let port = least(|| _ = black_box(port_step(black_box(bytes), &mut out)));
     let whole = least(|| drop(black_box(step::step(black_box(bytes), 0, OUT as u64))));
     let rule = least(|| drop(black_box(step::rewritten(black_box(&pred)))));
-    let run = least(|| drop(black_box(port_run(black_box(bytes), &mut out))));
+    let run = least(|| _ = black_box(port_run(black_box(bytes), &mut out)));
     let source_run = least(|| drop(black_box(step::run(black_box(bytes), 65_535, OUT as u64))));
     let (_, count, _) = step::run(bytes, 65_535, OUT as u64).expect("a run");
     println!(
