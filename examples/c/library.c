@@ -34,8 +34,8 @@ int main(void)
 
     uint64_t run = lustrejasper_run(frame, sizeof frame, 65535, out, sizeof out);
     if (LUSTREJASPER_RUN_WORD(run) == LUSTREJASPER_REST) {
-        printf("run of %u steps, ", (unsigned)LUSTREJASPER_RUN_COUNT(run));
-        print_frame("then rest", out, LUSTREJASPER_RUN_LENGTH(run));
+        printf("run REST %u", (unsigned)LUSTREJASPER_RUN_COUNT(run));
+        print_frame("", out, LUSTREJASPER_RUN_LENGTH(run));
     }
 
     run = lustrejasper_run(frame, sizeof frame, 65535, out, 100);
