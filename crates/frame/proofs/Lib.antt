@@ -8,6 +8,7 @@ pub mod Frames
 pub mod SameTrees
 pub mod TextLines
 pub mod Extents
+pub mod EveryTag
 pub mod TagTables
 pub mod TypeTurns
 pub mod HeadTurns

@@ -9,11 +9,12 @@ use native.Mathlib.Omega.{arith}
 use lib.ListN.{length, getD}
 use lib.Dec.{ltb, leb, eqb}
 use borrow.Author.Tests.{leb-true, ltb-true, lt-ltb, lt-leb, le-leb, eqb-true, eqb-false}
-use Rattle.frame.specs.Tags.{pick, Sort, predicate, expression, sameSort, repeat, Layout, these, payload, counted, binding, width, inRange, payloadOf, typesOf, sortsOf, Class, literalPred, equality, order, membership, inclusion, binaryPred, associativePred, negation, quantifiedPred, finite, partition, identifier, bound, literal, setExtension, maplet, relationSet, setMinus, cartesian, directProduct, parallelProduct, domainRestriction, rangeRestriction, upTo, arithmetic, functionImage, relationalImage, setOperation, backwardComposition, forwardComposition, override, sum, integerSet, boolSet, truthValue, integerRelation, emptySet, projection1, projection2, identity, boolExpr, cardinal, powerset, generalised, domain, range, extremum, converse, unaryMinus, quantifiedSet, comprehension, unlisted, Row, row, table, lookup, classOf, formAt, formOf}
+use Rattle.frame.specs.Tags.{pick, Sort, predicate, expression, sameSort, repeat, Layout, these, payload, counted, binding, width, inRange, payloadOf, typesOf, sortsOf, Class, literalPred, equality, order, membership, inclusion, binaryPred, associativePred, negation, quantifiedPred, finite, partition, identifier, bound, literal, setExtension, maplet, relationSet, setMinus, cartesian, directProduct, parallelProduct, domainRestriction, rangeRestriction, upTo, arithmetic, functionImage, relationalImage, setOperation, backwardComposition, forwardComposition, override, sum, integerSet, boolSet, truthValue, integerRelation, emptySet, projection1, projection2, identity, boolExpr, cardinal, powerset, generalised, domain, range, extremum, converse, unaryMinus, quantifiedSet, comprehension, unlisted, table, classOf, formAt, formOf}
 use Rattle.frame.specs.TagCodes.{formAtCode, formCode, isExpression, sortFor, firstSort, laterSort, kindsFor, layoutKind, lowOf, highOf, fixedOf}
 use Rattle.frame.proofs.Inversion.{true-not}
 use Rattle.frame.proofs.ReadTrees.{repeat-length}
 use Rattle.frame.proofs.SameTrees.{both-true}
+use Rattle.frame.proofs.EveryTag.{alongRows, every-tag, unlisted-past}
 
 -- ---- a test that is computed at each number below n
 abbrev pub allBelow : ℕ → (ℕ → Bool) → Bool
@@ -167,27 +168,10 @@ code-small c = let h = leb-true (formCode c) 19 (code-bound c) in omega arith
 pub code-form : (t r : ℕ) → r ≡ formCode (classOf t) → formAtCode r ≡ formOf t
 code-form t r e = ap formAtCode e ∙ form-code (classOf t)
 
--- ---- tags past the last row are unlisted
-abbrev endsBy : ℕ → List Row → Bool
-endsBy n [] = true
-endsBy n (row from to c ∷ rows) = leb to n && endsBy n rows
-
-skip : (rows : List Row) (t : ℕ) (c : Class) (a b : Bool) → b ≡ false → lookup rows t ≡ unlisted → pick (a && b) c (lookup rows t) ≡ unlisted
-skip rows t c true true eb e = true-not (sym eb)
-skip rows t c true false eb e = e
-skip rows t c false b eb e = e
-
-past-rows : (n : ℕ) (rows : List Row) → endsBy n rows ≡ true → (t : ℕ) → n < t → lookup rows t ≡ unlisted
-unfolding lookup
-past-rows n [] e t h = refl
-past-rows n (row from to c ∷ rows) e t h =
-    let p = both-true (leb to n) (endsBy n rows) e in
-    let l = leb-true to n (p .0) in
-    skip rows t c (leb from t) (leb t to) (lt-leb t to (omega arith)) (past-rows n rows (p .1) t h)
-
+-- ---- tags past the last row
 pub beyond : (t : ℕ) → 901 < t → formCode (classOf t) ≡ 0
-unfolding classOf formCode
-beyond t h = ap formCode (past-rows 901 table refl t h)
+unfolding formCode
+beyond t h = ap formCode (unlisted-past t h)
 
 -- ---- blocks of fifty tags
 -- where the form of a tag stands, and where those of its block end
@@ -200,13 +184,13 @@ endOf blocks t = getD blocks (t / 50 + 1) 0
 abbrev pub codeIn : List ℕ → List ℕ → ℕ → ℕ
 codeIn blocks fs t = pick (leb (endOf blocks t) (placeOf blocks t)) 0 (getD fs (placeOf blocks t) 0)
 
-abbrev pub tagRight : List ℕ → List ℕ → ℕ → Bool
-tagRight blocks fs t = eqb (codeIn blocks fs t) (formCode (classOf t)) && ltb (codeIn blocks fs t) 20
+abbrev pub tagRight : List ℕ → List ℕ → ℕ → Class → Bool
+tagRight blocks fs t c = eqb (codeIn blocks fs t) (formCode c) && ltb (codeIn blocks fs t) 20
 
-module _ (blocks fs : List ℕ) (test : allBelow 950 (tagRight blocks fs) ≡ true) (t : ℕ) (h : t / 50 < 19) where
+module _ (blocks fs : List ℕ) (test : alongRows (tagRight blocks fs) 950 0 table ≡ true) (t : ℕ) (h : t / 50 < 19) where
   right : (codeIn blocks fs t ≡ formCode (classOf t)) × (codeIn blocks fs t < 20)
   right =
-      let p = both-true (eqb (codeIn blocks fs t) (formCode (classOf t))) (ltb (codeIn blocks fs t) 20) (below 950 (tagRight blocks fs) test t (omega arith)) in
+      let p = both-true (eqb (codeIn blocks fs t) (formCode (classOf t))) (ltb (codeIn blocks fs t) 20) (every-tag (tagRight blocks fs) 950 test t (omega arith)) in
       (eqb-true _ _ (p .0), ltb-true _ _ (p .1))
 
   pub form-none : endOf blocks t ≤ placeOf blocks t → (0 ≡ formCode (classOf t)) × (0 < 20)
@@ -369,8 +353,8 @@ abbrev laters : List ℕ
 laters = 0 ∷ 0 ∷ 1 ∷ 0 ∷ 0 ∷ 1 ∷ 0 ∷ 1 ∷ 0 ∷ 0 ∷ 0 ∷ 0 ∷ 1 ∷ 1 ∷ 0 ∷ 0 ∷ 0 ∷ 1 ∷ 1 ∷ 1 ∷ []
 
 -- every tag below 950, by one evaluation
-tags-right : allBelow 950 (tagRight blocks formsOfTags) ≡ true
-unfolding formCode classOf lookup
+tags-right : alongRows (tagRight blocks formsOfTags) 950 0 table ≡ true
+unfolding formCode
 tags-right = refl
 
 blocks-end : (k : ℕ) → k < 20 → getD blocks k 0 ≤ 121

@@ -4,19 +4,19 @@ use mathlib.Core.Path.{_≡_, refl, sym, ap, subst}
 use mathlib.Core.Logic.{_⊎_, inl, inr}
 use mathlib.Core.Bool.{Bool, true, false, _||_}
 use mathlib.Core.List.{List, [], _∷_}
-use Prim.Native.Nat.{ℕ, suc, _+_, _-_, _≤_, _<_}
+use Prim.Native.Nat.{ℕ, suc, _+_, _≤_, _<_}
 use native.Mathlib.Omega.{arith}
 use lib.ListN.{length, getD}
 use lib.Dec.{eqb, ltb}
-use borrow.Author.Tests.{eqb-true, ltb-true, ltb-false, le-ltb}
+use borrow.Author.Tests.{eqb-true, ltb-true, ltb-false, lt-ltb, le-ltb}
 use Rattle.frame.specs.Types.{Ty}
 use Rattle.frame.specs.Trees.{head, Tree, node, Forest, nil, cons, nodes, nodesIn}
-use Rattle.frame.specs.Tags.{pick, Sort, Layout, these, payload, counted, binding, Form, formOf, formAt, classOf, lookup, typesOf, bindersOf}
+use Rattle.frame.specs.Tags.{pick, Sort, Layout, these, payload, counted, binding, Form, formOf, formAt, Class, table, typesOf, bindersOf}
 use Rattle.frame.specs.TagCodes.{layoutKind, formAtCode}
 use Rattle.frame.specs.Places.{Ctx, push, under}
 use Rattle.frame.specs.WellFormed.{HeadWf}
-use Rattle.frame.proofs.Inversion.{true-not}
-use Rattle.frame.proofs.TagTables.{allBelow, below, beyond, code-form}
+use Rattle.frame.proofs.TagTables.{beyond, code-form}
+use Rattle.frame.proofs.EveryTag.{alongRows, every-tag}
 use Rattle.typing.specs.Typing.{typeAt}
 use Rattle.typing.specs.Binding.{boundTag}
 use Rattle.typing.specs.Leaves.{LeavesAt, LeavesIn}
@@ -40,13 +40,13 @@ mutual
       (leaves-same t Γ k s l m j (omega arith) h (a .0), leaves-same-in ts Γ (k + nodes t) s l m j (omega arith) h (a .1))
 
 -- ---- which tags have binders
-pub plain-tags : allBelow 801 (λ k. ltb (layoutKind (formOf k .layout)) 3) ≡ true
-unfolding lookup classOf formAt
-plain-tags = refl
+-- by one evaluation: below 801 none has; from there on a tag has binders, or carries no types
+abbrev binderTest : ℕ → Class → Bool
+binderTest k c = pick (ltb k 801) (ltb (layoutKind (formAt c .layout)) 3) (eqb (layoutKind (formAt c .layout)) 3 || eqb (formAt c .carried) 0)
 
-pub binding-tags : allBelow 902 (λ k. ltb k 801 || (eqb (layoutKind (formOf k .layout)) 3 || eqb (formOf k .carried) 0)) ≡ true
-unfolding lookup classOf formAt
-binding-tags = refl
+binder-tags : alongRows binderTest 902 0 table ≡ true
+unfolding formAt
+binder-tags = refl
 
 pub no-binders : (l : Layout) (us : List Ty) → layoutKind l < 3 → bindersOf l us ≡ []
 no-binders (these es) us h = refl
@@ -56,7 +56,7 @@ no-binders (binding lo hi es) us h = absurd (omega arith)
 
 pub under-plain : (g : ℕ) (us : List Ty) (Γ : Ctx) → g < 801 → Γ ≡ under g us Γ
 under-plain g us Γ l =
-    let h = ltb-true (layoutKind (formOf g .layout)) 3 (below 801 (λ k. ltb (layoutKind (formOf k .layout)) 3) plain-tags g l) in
+    let h = ltb-true (layoutKind (formOf g .layout)) 3 (rw (lt-ltb g 801 l) at (every-tag binderTest 902 binder-tags g (omega arith))) in
     ap (λ (ts : List Ty). push ts Γ) (sym (no-binders (formOf g .layout) us h))
 
 -- from 801 on a tag has binders, or no types at all
@@ -72,10 +72,9 @@ all-bound (payload w) c x (u ∷ us) (inr k) e = absurd (omega arith)
 all-bound (counted lo hi d) c x [] (inr k) e = refl
 all-bound (counted lo hi d) c x (u ∷ us) (inr k) e = absurd (omega arith)
 
-pub or-either : (a b c : Bool) → (a || (b || c)) ≡ true → a ≡ false → (b ≡ true) ⊎ (c ≡ true)
-or-either true b c h e = true-not (sym e)
-or-either false true c h e = inl refl
-or-either false false c h e = inr h
+pub or-either : (b c : Bool) → (b || c) ≡ true → (b ≡ true) ⊎ (c ≡ true)
+or-either true c h = inl refl
+or-either false c h = inr h
 
 pub unlisted-none : (g : ℕ) → 901 < g → formOf g .carried ≡ 0
 unfolding formAtCode
@@ -87,7 +86,7 @@ pub high-form : (g : ℕ) → 801 ≤ g → (layoutKind (formOf g .layout) ≡ 3
 high-form g h = go (ltb g 902) refl
   where
     go : (b : Bool) → ltb g 902 ≡ b → (layoutKind (formOf g .layout) ≡ 3) ⊎ (formOf g .carried ≡ 0)
-    go true e = on (or-either (ltb g 801) (eqb (layoutKind (formOf g .layout)) 3) (eqb (formOf g .carried) 0) (below 902 (λ k. ltb k 801 || (eqb (layoutKind (formOf k .layout)) 3 || eqb (formOf k .carried) 0)) binding-tags g (ltb-true g 902 e)) (le-ltb g 801 h))
+    go true e = on (or-either (eqb (layoutKind (formOf g .layout)) 3) (eqb (formOf g .carried) 0) (rw (le-ltb g 801 h) at (every-tag binderTest 902 binder-tags g (ltb-true g 902 e))))
       where
         on : (eqb (layoutKind (formOf g .layout)) 3 ≡ true) ⊎ (eqb (formOf g .carried) 0 ≡ true) → (layoutKind (formOf g .layout) ≡ 3) ⊎ (formOf g .carried ≡ 0)
         on (inl x) = inl (eqb-true (layoutKind (formOf g .layout)) 3 x)

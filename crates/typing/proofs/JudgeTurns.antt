@@ -1,10 +1,11 @@
 -- The ways out of `judge_types`: the rule of a class at the types of the operands, step by step.
--- Main results: pair-pattern .. result-pattern (the code's patterns are those of the class); judge-unpaired, judge-first-off,
--- judge-last-off, judge-over, judge-typed, with what the calls ask for.
-use mathlib.Core.Path.{_≡_, refl, sym, ap, ap₂, _∙_, subst, subst₂}
+-- Main results: pair-pattern .. result-pattern (the code's patterns are those of the class); paired-by, fitted-by, lasted-by,
+-- done-by (what is known after each call), with what the calls ask for; judge-unpaired, judge-first-off, judge-last-off,
+-- judge-over, judge-typed (the answers).
+use mathlib.Core.Path.{_≡_, refl, sym, ap, _∙_, subst, subst₂}
 use mathlib.Core.Bool.{Bool, true, false, _&&_}
-use mathlib.Core.List.{List, [], _∷_, _++_}
-use Prim.Native.Nat.{ℕ, zero, suc, _+_, _-_, _*_, _≤_, _<_}
+use mathlib.Core.List.{List, []}
+use Prim.Native.Nat.{ℕ, _+_, _-_, _*_, _≤_}
 use native.Mathlib.Omega.{arith}
 use lib.ListN.{length, getD, drop}
 use lib.Dec.{leb}
@@ -12,11 +13,10 @@ use borrow.Author.Tests.{leb-true, leb-false, le-leb, lt-leb}
 use Rattle.frame.specs.Types.{Ty}
 use Rattle.frame.specs.Tags.{pick, Class}
 use Rattle.frame.specs.Spans.{Spans}
-use Rattle.typing.specs.Patterns.{Matched, fits, differs, matches, Rule, ruleAt, Judged, typed, wrong, limited, completed, allBound, filled, pairsFit, lastOnes, thenMatched, ends, judge, cut}
+use Rattle.typing.specs.Patterns.{Matched, fits, differs, matches, Rule, ruleAt, Judged, typed, wrong, completed, allBound, filled, pairsFit, lastOnes, thenMatched, ends, judge, cut}
 use Rattle.typing.specs.RuleNumbers.{ruleNumber}
 use Rattle.typing.specs.Buffers.{Copied, Apart}
-use Rattle.typing.specs.PatternPosts.{RowAt, Slots, EnvAt, Kept, MatchPre, Matching, MatchPost, PairsPre, Pairing, PairsPost, FillPre, Filling, FillPost, JudgePre, Judging, JudgePost}
-use Rattle.typing.specs.declared.patterns.Typed.{Typed}
+use Rattle.typing.specs.PatternPosts.{RowAt, Slots, EnvAt, Kept, MatchPre, Matching, MatchPost, Pairing, PairsPost, FillPre, Filling, FillPost, JudgePre, Judging, JudgePost}
 use Rattle.typing.specs.declared.patterns.Typed.the-variants as T
 use Rattle.typing.specs.declared.patterns.Fit.{Fit}
 use Rattle.typing.specs.declared.patterns.Fit.the-variants as F
@@ -80,119 +80,136 @@ complete-by r σ n =
     two-tests (allBound r σ) (leb (length (filled r σ)) 64) (typed (filled r σ))
     ∙ ap (λ (b : Bool). pick (allBound r σ && b) (typed (filled r σ)) wrong) (sym (leb-add n (length (filled r σ)) 64 (leb (length (filled r σ)) 64) refl))
 
-module _ (R : Rule) (o : List ℕ) (from n : ℕ) where
-  abbrev Post : List ℕ → Typed → Type 0
-  Post p r = JudgePost R o from n p r
+-- ---- what is known after each call, of every row of types that stands at `from`
+pub record Paired (R : Rule) (o : List ℕ) (from n : ℕ) (s e : List ℕ) (last : ℕ) : Type 0 where
+  pub answer : (ts : List Ty) → RowAt o from n ts → (judge R ts ≡ ends R ts) × RowAt o last n (lastOnes ts) × Slots s e
 
-  turned-down : ((ts : List Ty) → RowAt o from n ts → judge R ts ≡ wrong) → (p : List ℕ) → Post p T.Bad
+pub record Fitted (R : Rule) (o : List ℕ) (from n : ℕ) (s e : List ℕ) (last k : ℕ) : Type 0 where
+  pub answer : (ts : List Ty) → RowAt o from n ts → (ρ : List Ty) × (judge R ts ≡ thenMatched (matches (R .last) (lastOnes ts) ρ) (λ σ. completed (R .result) σ)) × RowAt o last n (lastOnes ts) × EnvAt o n s e ρ × (length ρ ≡ k)
+
+pub record Lasted (R : Rule) (o : List ℕ) (from n : ℕ) (s e : List ℕ) (j : ℕ) : Type 0 where
+  pub answer : (ts : List Ty) → RowAt o from n ts → (σ : List Ty) × (judge R ts ≡ completed (R .result) σ) × EnvAt o n s e σ × (length σ ≡ j)
+
+pub record Done (R : Rule) (o : List ℕ) (from n : ℕ) (o₁ : List ℕ) (m : ℕ) : Type 0 where
+  pub answer : (ts : List Ty) → RowAt o from n ts → (xs : List ℕ) × (judge R ts ≡ typed xs) × (m ≡ n + length xs) × Spans o₁ n m xs × Kept o o₁ n
+
+pairing : (qs : List ℕ) {o : List ℕ} {from n : ℕ} {s₀ e₀ s₁ e₁ : List ℕ} (sl : Slots s₀ e₀) {x : Pairs} {ps : List ℕ} → ps ≡ qs → PairsPost ps o from n s₀ e₀ s₁ e₁ x → (ts : List Ty) (y : Pairs) → RowAt o from n ts → x ≡ y → Pairing (pairsFit qs ts) o n ts s₁ e₁ y
+pairing qs {o} {n = n} {s₁ = s₁} {e₁ = e₁} sl z post ts y row ex = subst₂ (λ (q : List ℕ) (w : Pairs). Pairing (pairsFit q ts) o n ts s₁ e₁ w) z ex (post .answer ts row sl)
+
+-- ---- the ways out; `ps` are the code's patterns, those of the rule by `z`
+module _ {R : Rule} {o : List ℕ} {from n : ℕ} where
+  turned-down : ((ts : List Ty) → RowAt o from n ts → judge R ts ≡ wrong) → (p : List ℕ) → JudgePost R o from n p T.Bad
   turned-down f p = record { answer = λ ts row. subst (λ (j : Judged). Judging j o from p T.Bad) (sym (f ts row)) refl }
 
-  module _ (s₀ e₀ s₁ e₁ : List ℕ) (sl : Slots s₀ e₀) (x₀ : Pairs) (p₀ : PairsPost (R .pair) o from n s₀ e₀ s₁ e₁ x₀) where
-    pub judge-unpaired : x₀ ≡ P.Differ → (p : List ℕ) → Post p T.Bad
+  module _ {s₀ e₀ s₁ e₁ : List ℕ} (sl : Slots s₀ e₀) {x : Pairs} {ps : List ℕ} (z : ps ≡ R .pair) (post : PairsPost ps o from n s₀ e₀ s₁ e₁ x) where
+    pub judge-unpaired : x ≡ P.Differ → (p : List ℕ) → JudgePost R o from n p T.Bad
     unfolding judge
     judge-unpaired ex =
-        turned-down (λ ts row. (let z = unpaired-of (pairsFit (R .pair) ts) o n ts s₁ e₁ (subst (λ (x : Pairs). Pairing (pairsFit (R .pair) ts) o n ts s₁ e₁ x) ex (p₀ .answer ts row sl)) in
-        ap (λ (b : Bool). pick b (ends R ts) wrong) z))
+        turned-down (λ ts row. ap (λ (b : Bool). pick b (ends R ts) wrong) (unpaired-of (pairsFit (R .pair) ts) o n ts s₁ e₁ (pairing (R .pair) sl z post ts P.Differ row ex)))
 
-    module _ (last : ℕ) (ex₀ : x₀ ≡ P.Last last) where
-      paired : (ts : List Ty) → RowAt o from n ts → (pairsFit (R .pair) ts ≡ true) × RowAt o last n (lastOnes ts) × Slots s₁ e₁
-      paired ts row = paired-of (pairsFit (R .pair) ts) o n ts s₁ e₁ last (subst (λ (x : Pairs). Pairing (pairsFit (R .pair) ts) o n ts s₁ e₁ x) ex₀ (p₀ .answer ts row sl))
+    pub paired-by : {last : ℕ} → x ≡ P.Last last → Paired R o from n s₁ e₁ last
+    unfolding judge
+    paired-by {last} ex =
+        record {
+          answer = λ ts row. (let f = paired-of (pairsFit (R .pair) ts) o n ts s₁ e₁ last (pairing (R .pair) sl z post ts (P.Last last) row ex) in
+              (ap (λ (b : Bool). pick b (ends R ts) wrong) (f .0), f .1, f .2));
+        }
 
-      pub first-pre : JudgePre o from n → MatchPre o from n s₁ e₁ 0
-      first-pre p = record { us = p .ts; ρ = []; row = p .row; env = env-empty o n s₁ e₁ (paired (p .ts) (p .row) .2); count = refl }
+  module _ {s₁ e₁ : List ℕ} {last : ℕ} (known : Paired R o from n s₁ e₁ last) where
+    pub first-pre : JudgePre o from n → MatchPre o from n s₁ e₁ 0
+    first-pre p = record { us = p .ts; ρ = []; row = p .row; env = env-empty o n s₁ e₁ (known .answer (p .ts) (p .row) .2); count = refl }
 
-      ends-are : (ts : List Ty) → RowAt o from n ts → judge R ts ≡ ends R ts
-      unfolding judge
-      ends-are ts row = ap (λ (b : Bool). pick b (ends R ts) wrong) (paired ts row .0)
+    module _ {s₂ e₂ : List ℕ} {x : Fit} {ps : List ℕ} (z : ps ≡ R .first) (post : MatchPost ps o from n s₁ e₁ 0 s₂ e₂ x) where
+      firstly : (ts : List Ty) (y : Fit) → RowAt o from n ts → x ≡ y → Matching (matches (R .first) ts []) o n s₂ e₂ y
+      firstly ts y row ex =
+          subst₂ (λ (q : List ℕ) (w : Fit). Matching (matches q ts []) o n s₂ e₂ w) z ex (post .answer ts [] row (env-empty o n s₁ e₁ (known .answer ts row .2)) refl)
 
-      module _ (s₂ e₂ : List ℕ) (x₁ : Fit) (p₁ : MatchPost (R .first) o from n s₁ e₁ 0 s₂ e₂ x₁) where
-        firstly : (ts : List Ty) → RowAt o from n ts → Matching (matches (R .first) ts []) o n s₂ e₂ x₁
-        firstly ts row = p₁ .answer ts [] row (env-empty o n s₁ e₁ (paired ts row .2)) refl
+      -- what is left of the rule once the first operand has answered
+      first-are : (ts : List Ty) (w : Matched) → RowAt o from n ts → matches (R .first) ts [] ≡ w → judge R ts ≡ thenMatched w (λ ρ. thenMatched (matches (R .last) (lastOnes ts) ρ) (λ σ. completed (R .result) σ))
+      first-are ts w row e = known .answer ts row .0 ∙ ap (λ (m : Matched). thenMatched m (λ ρ. thenMatched (matches (R .last) (lastOnes ts) ρ) (λ σ. completed (R .result) σ))) e
 
-        pub judge-first-off : x₁ ≡ F.Differs → (p : List ℕ) → Post p T.Bad
-        judge-first-off ex =
-            turned-down (λ ts row. (let z = unfitted-of (matches (R .first) ts []) o n s₂ e₂ (subst (λ (x : Fit). Matching (matches (R .first) ts []) o n s₂ e₂ x) ex (firstly ts row)) in
-            ends-are ts row ∙ ap (λ (m : Matched). thenMatched m (λ ρ. thenMatched (matches (R .last) (lastOnes ts) ρ) (λ σ. completed (R .result) σ))) z))
+      pub judge-first-off : x ≡ F.Differs → (p : List ℕ) → JudgePost R o from n p T.Bad
+      judge-first-off ex = turned-down (λ ts row. first-are ts differs row (unfitted-of (matches (R .first) ts []) o n s₂ e₂ (firstly ts F.Differs row ex)))
 
-        module _ (k : ℕ) (ex₁ : x₁ ≡ F.Fits k) where
-          fitted : (ts : List Ty) → RowAt o from n ts → (us : List Ty) × (ρ : List Ty) × (matches (R .first) ts [] ≡ fits us ρ) × EnvAt o n s₂ e₂ ρ × (length ρ ≡ k)
-          fitted ts row = fitted-of (matches (R .first) ts []) o n s₂ e₂ k (subst (λ (x : Fit). Matching (matches (R .first) ts []) o n s₂ e₂ x) ex₁ (firstly ts row))
+      pub fitted-by : {k : ℕ} → x ≡ F.Fits k → Fitted R o from n s₂ e₂ last k
+      fitted-by {k} ex =
+          record {
+            answer = λ ts row. (let f = fitted-of (matches (R .first) ts []) o n s₂ e₂ k (firstly ts (F.Fits k) row ex) in
+                (f .1, first-are ts (fits (f .0) (f .1)) row (f .2), known .answer ts row .1, f .3, f .4));
+          }
 
-          pub last-pre : JudgePre o from n → MatchPre o last n s₂ e₂ k
-          last-pre p = let f = fitted (p .ts) (p .row) in
-              record { us = lastOnes (p .ts); ρ = f .1; row = paired (p .ts) (p .row) .1; env = f .3; count = f .4 }
+  module _ {s₂ e₂ : List ℕ} {last k : ℕ} (known : Fitted R o from n s₂ e₂ last k) where
+    pub last-pre : JudgePre o from n → MatchPre o last n s₂ e₂ k
+    last-pre p = let f = known .answer (p .ts) (p .row) in record { us = lastOnes (p .ts); ρ = f .0; row = f .2; env = f .3; count = f .4 }
 
-          module _ (s₃ e₃ : List ℕ) (x₂ : Fit) (p₂ : MatchPost (R .last) o last n s₂ e₂ k s₃ e₃ x₂) where
-            lastly : (ts : List Ty) (row : RowAt o from n ts) → Matching (matches (R .last) (lastOnes ts) (fitted ts row .1)) o n s₃ e₃ x₂
-            lastly ts row = let f = fitted ts row in p₂ .answer (lastOnes ts) (f .1) (paired ts row .1) (f .3) (f .4)
+    module _ {s₃ e₃ : List ℕ} {x : Fit} {ps : List ℕ} (z : ps ≡ R .last) (post : MatchPost ps o last n s₂ e₂ k s₃ e₃ x) where
+      lastly : (ts : List Ty) (y : Fit) (row : RowAt o from n ts) → x ≡ y → Matching (matches (R .last) (lastOnes ts) (known .answer ts row .0)) o n s₃ e₃ y
+      lastly ts y row ex =
+          let f = known .answer ts row in
+          subst₂ (λ (q : List ℕ) (w : Fit). Matching (matches q (lastOnes ts) (f .0)) o n s₃ e₃ w) z ex (post .answer (lastOnes ts) (f .0) (f .2) (f .3) (f .4))
 
-            -- with the variables of the first
-            last-are : (ts : List Ty) (row : RowAt o from n ts) → judge R ts ≡ thenMatched (matches (R .last) (lastOnes ts) (fitted ts row .1)) (λ σ. completed (R .result) σ)
-            last-are ts row = ends-are ts row ∙ ap (λ (m : Matched). thenMatched m (λ ρ. thenMatched (matches (R .last) (lastOnes ts) ρ) (λ σ. completed (R .result) σ))) (fitted ts row .2)
+      -- with the variables of the first
+      last-are : (ts : List Ty) (w : Matched) (row : RowAt o from n ts) → matches (R .last) (lastOnes ts) (known .answer ts row .0) ≡ w → judge R ts ≡ thenMatched w (λ σ. completed (R .result) σ)
+      last-are ts w row e = known .answer ts row .1 ∙ ap (λ (m : Matched). thenMatched m (λ σ. completed (R .result) σ)) e
 
-            pub judge-last-off : x₂ ≡ F.Differs → (p : List ℕ) → Post p T.Bad
-            judge-last-off ex =
-                turned-down (λ ts row. (let m = matches (R .last) (lastOnes ts) (fitted ts row .1) in
-                let z = unfitted-of m o n s₃ e₃ (subst (λ (x : Fit). Matching m o n s₃ e₃ x) ex (lastly ts row)) in
-                last-are ts row ∙ ap (λ (w : Matched). thenMatched w (λ σ. completed (R .result) σ)) z))
+      pub judge-last-off : x ≡ F.Differs → (p : List ℕ) → JudgePost R o from n p T.Bad
+      judge-last-off ex = turned-down (λ ts row. last-are ts differs row (unfitted-of (matches (R .last) (lastOnes ts) (known .answer ts row .0)) o n s₃ e₃ (lastly ts F.Differs row ex)))
 
-            module _ (j : ℕ) (ex₂ : x₂ ≡ F.Fits j) where
-              lasted : (ts : List Ty) → RowAt o from n ts → (σ : List Ty) × (judge R ts ≡ completed (R .result) σ) × EnvAt o n s₃ e₃ σ × (length σ ≡ j)
-              lasted ts row =
-                  let m = matches (R .last) (lastOnes ts) (fitted ts row .1) in
-                  let f = fitted-of m o n s₃ e₃ j (subst (λ (x : Fit). Matching m o n s₃ e₃ x) ex₂ (lastly ts row)) in
-                  (f .1, last-are ts row ∙ ap (λ (w : Matched). thenMatched w (λ σ. completed (R .result) σ)) (f .2), f .3, f .4)
+      pub lasted-by : {j : ℕ} → x ≡ F.Fits j → Lasted R o from n s₃ e₃ j
+      lasted-by {j} ex =
+          record {
+            answer = λ ts row. (let f = fitted-of (matches (R .last) (lastOnes ts) (known .answer ts row .0)) o n s₃ e₃ j (lastly ts (F.Fits j) row ex) in
+                (f .1, last-are ts (fits (f .0) (f .1)) row (f .2), f .3, f .4));
+          }
 
-              pub fill-pre : JudgePre o from n → FillPre o n (n + 64) s₃ e₃ j
-              fill-pre p = let f = lasted (p .ts) (p .row) in record { ρ = f .0; env = f .2; count = f .3; room = (omega arith, p .room) }
+  module _ {s₃ e₃ : List ℕ} {j : ℕ} (known : Lasted R o from n s₃ e₃ j) where
+    pub fill-pre : JudgePre o from n → FillPre o n (n + 64) s₃ e₃ j
+    fill-pre p = let f = known .answer (p .ts) (p .row) in record { ρ = f .0; env = f .2; count = f .3; room = (omega arith, p .room) }
 
-              module _ (o₁ : List ℕ) (x₃ : Filled) (p₃ : FillPost (R .result) o n (n + 64) s₃ e₃ j o₁ x₃) where
-                test : (σ : List Ty) → Bool
-                test σ = allBound (R .result) σ && leb (n + length (filled (R .result) σ)) (n + 64)
+    module _ {o₁ : List ℕ} {x : Filled} {ps : List ℕ} (z : ps ≡ R .result) (post : FillPost ps o n (n + 64) s₃ e₃ j o₁ x) where
+      abbrev test : List Ty → Bool
+      test σ = allBound (R .result) σ && leb (n + length (filled (R .result) σ)) (n + 64)
 
-                pub judge-over : x₃ ≡ L.Over → (p : List ℕ) → Post p T.Bad
-                unfolding test
-                judge-over ex =
-                    turned-down (λ ts row. (let f = lasted ts row in
-                    let xs = filled (R .result) (f .0) in
-                    let z = over-of (test (f .0)) xs o n o₁ (subst (λ (x : Filled). Filling (test (f .0)) xs o n o₁ x) ex (p₃ .answer (f .0) (f .2) (f .3))) in
-                    f .1 ∙ complete-by (R .result) (f .0) n ∙ ap (λ (b : Bool). pick b (typed xs) wrong) z))
+      filling : (ts : List Ty) (y : Filled) (row : RowAt o from n ts) → x ≡ y → Filling (test (known .answer ts row .0)) (filled (R .result) (known .answer ts row .0)) o n o₁ y
+      filling ts y row ex =
+          let f = known .answer ts row in
+          subst₂ (λ (q : List ℕ) (w : Filled). Filling (allBound q (f .0) && leb (n + length (filled q (f .0))) (n + 64)) (filled q (f .0)) o n o₁ w) z ex (post .answer (f .0) (f .2) (f .3))
 
-                module _ (m : ℕ) (ex₃ : x₃ ≡ L.To m) where
-                  done : (ts : List Ty) → RowAt o from n ts → (xs : List ℕ) × (judge R ts ≡ typed xs) × (m ≡ n + length xs) × Spans o₁ n m xs × Kept o o₁ n
-                  unfolding test
-                  done ts row =
-                      let f = lasted ts row in
-                      let xs = filled (R .result) (f .0) in
-                      let z = filled-of (test (f .0)) xs o n o₁ m (subst (λ (x : Filled). Filling (test (f .0)) xs o n o₁ x) ex₃ (p₃ .answer (f .0) (f .2) (f .3))) in
-                      (xs, f .1 ∙ complete-by (R .result) (f .0) n ∙ ap (λ (b : Bool). pick b (typed xs) wrong) (z .0), z .1, z .2, z .3)
+      fill-are : (ts : List Ty) (b : Bool) (row : RowAt o from n ts) → test (known .answer ts row .0) ≡ b → judge R ts ≡ pick b (typed (filled (R .result) (known .answer ts row .0))) wrong
+      fill-are ts b row e =
+          let f = known .answer ts row in
+          f .1 ∙ complete-by (R .result) (f .0) n ∙ ap (λ (b : Bool). pick b (typed (filled (R .result) (f .0))) wrong) e
 
-                  pub copy-pre : JudgePre o from n → (n ≤ m) × (m ≤ length o₁) × (from + (m - n) ≤ length o₁) × Apart n m from
-                  copy-pre p =
-                      let d = done (p .ts) (p .row) in
-                      let l = p .row .span .long in
-                      (omega (arith, d .2), omega (arith, d .3 .within), omega (arith, d .3 .within, d .2), apart-down n m from (omega arith))
+      pub judge-over : x ≡ L.Over → (p : List ℕ) → JudgePost R o from n p T.Bad
+      judge-over ex =
+          turned-down (λ ts row. (let σ = known .answer ts row .0 in
+          fill-are ts false row (over-of (test σ) (filled (R .result) σ) o n o₁ (filling ts L.Over row ex))))
 
-                  pub judge-typed : (p : List ℕ) → Copied o₁ n (m - n) o₁ p from → Post p (T.Is (from + (m - n)))
-                  judge-typed p cp =
-                      record {
-                        answer = λ ts row. (let d = done ts row in
-                            let l = row .span .long in
-                            let z : m - n ≡ length (d .0) = omega (arith, d .2) in
-                            let y : from + (m - n) ≡ from + length (d .0) = omega (arith, z) in
-                            subst (λ (w : Judged). Judging w o from p (T.Is (from + (m - n)))) (sym (d .1)) (
-                              ap T.Is y,
-                              subst (λ (i : ℕ). Spans p from i (d .0)) y (copied-span (m - n) o₁ p from refl (d .3) cp (omega (arith, d .3 .within, d .2))),
-                              record { long = cp .long ∙ d .4 .long; low = λ i h. cp .low i h ∙ d .4 .low i (omega arith) },
-                            ));
-                      }
+      pub done-by : {m : ℕ} → x ≡ L.To m → Done R o from n o₁ m
+      done-by {m} ex =
+          record {
+            answer = λ ts row. (let σ = known .answer ts row .0 in
+                let f = filled-of (test σ) (filled (R .result) σ) o n o₁ m (filling ts (L.To m) row ex) in
+                (filled (R .result) σ, fill-are ts true row (f .0), f .1, f .2, f .3));
+          }
 
--- ---- what was found with a pattern that is another by an equation
-pub pairs-by : {ps qs o : List ℕ} {at n : ℕ} {s e s₁ e₁ : List ℕ} {r : Pairs} → ps ≡ qs → PairsPost ps o at n s e s₁ e₁ r → PairsPost qs o at n s e s₁ e₁ r
-pairs-by {o} {at} {n} {s} {e} {s₁} {e₁} {r} z p = subst (λ (ps : List ℕ). PairsPost ps o at n s e s₁ e₁ r) z p
+  module _ {o₁ : List ℕ} {m : ℕ} (known : Done R o from n o₁ m) where
+    pub copy-pre : JudgePre o from n → (n ≤ m) × (m ≤ length o₁) × (from + (m - n) ≤ length o₁) × Apart n m from
+    copy-pre p =
+        let d = known .answer (p .ts) (p .row) in
+        let l = p .row .span .long in
+        (omega (arith, d .2), omega (arith, d .3 .within), omega (arith, d .3 .within, d .2), apart-down n m from (omega arith))
 
-pub match-by : {ps qs o : List ℕ} {at n : ℕ} {s e : List ℕ} {k : ℕ} {s₁ e₁ : List ℕ} {r : Fit} → ps ≡ qs → MatchPost ps o at n s e k s₁ e₁ r → MatchPost qs o at n s e k s₁ e₁ r
-match-by {o} {at} {n} {s} {e} {k} {s₁} {e₁} {r} z p = subst (λ (ps : List ℕ). MatchPost ps o at n s e k s₁ e₁ r) z p
-
-pub fill-by : {ps qs o : List ℕ} {m limit : ℕ} {s e : List ℕ} {k : ℕ} {p : List ℕ} {r : Filled} → ps ≡ qs → FillPost ps o m limit s e k p r → FillPost qs o m limit s e k p r
-fill-by {o} {m} {limit} {s} {e} {k} {p} {r} z a = subst (λ (ps : List ℕ). FillPost ps o m limit s e k p r) z a
+    pub judge-typed : (p : List ℕ) → Copied o₁ n (m - n) o₁ p from → JudgePost R o from n p (T.Is (from + (m - n)))
+    judge-typed p cp =
+        record {
+          answer = λ ts row. (let d = known .answer ts row in
+              let l = row .span .long in
+              let z : m - n ≡ length (d .0) = omega (arith, d .2) in
+              let y : from + (m - n) ≡ from + length (d .0) = omega (arith, z) in
+              subst (λ (w : Judged). Judging w o from p (T.Is (from + (m - n)))) (sym (d .1)) (
+                ap T.Is y,
+                subst (λ (i : ℕ). Spans p from i (d .0)) y (copied-span (m - n) o₁ p from refl (d .3) cp (omega (arith, d .3 .within, d .2))),
+                record { long = cp .long ∙ d .4 .long; low = λ i h. cp .low i h ∙ d .4 .low i (omega arith) },
+              ));
+        }

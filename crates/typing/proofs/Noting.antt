@@ -31,18 +31,19 @@ unclaimed = replicate 65536 0
 unclaimed-length : length unclaimed ≡ 65536
 unclaimed-length = length-replicate {A = ℕ} 65536 0
 
-zeros : (n : ℕ) → _≡_ {A = ℕ} (getD unclaimed n 0) 0
-zeros n = go (ltb n 65536) refl
+-- for any length: at 65,536 the list would be written out
+zeros : (m n : ℕ) → _≡_ {A = ℕ} (getD (replicate m 0) n 0) 0
+zeros m n = go (ltb n m) refl
   where
-    go : (b : Bool) → ltb n 65536 ≡ b → _≡_ {A = ℕ} (getD unclaimed n 0) 0
-    go true e = getD-replicate 65536 n 0 0 (ltb-true n 65536 e)
-    go false e = (let l : length unclaimed ≤ n = rw unclaimed-length (ltb-false n 65536 e) in List·getD-eq-default unclaimed 0 l)
+    go : (b : Bool) → ltb n m ≡ b → _≡_ {A = ℕ} (getD (replicate m 0) n 0) 0
+    go true e = getD-replicate m n 0 0 (ltb-true n m e)
+    go false e = (let l : length {A = ℕ} (replicate m 0) ≤ n = rw (length-replicate {A = ℕ} m 0) (ltb-false n m e) in List·getD-eq-default {A = ℕ} (replicate m 0) 0 l)
 
 pub told-none : (s : List ℕ) → Told s unclaimed []
 told-none s = record {
   size = unclaimed-length;
   all = λ n t i. absurd i;
-  only = λ n h. absurd (h (zeros n));
+  only = λ n h. absurd (h (zeros 65536 n));
 }
 
 pub ty-long : (t : Ty) → 1 ≤ length (encTy t)

@@ -10,7 +10,7 @@ use lib.Dec.{ltb, leb, eqb}
 use borrow.Author.Tests.{eq-eqb, ne-eqb, eqb-true, eqb-false, ltb-true, ltb-false, lt-leb}
 use Rattle.frame.specs.Types.{Ty}
 use Rattle.frame.specs.Trees.{Head, head, Tree, node, Forest, nil, cons, count}
-use Rattle.frame.specs.Tags.{pick, Sort, predicate, expression, sameSort, formOf, formAt, sortsOf, inRange, typesOf, lookup, classOf, Class, literalPred, equality, order, membership, inclusion, binaryPred, associativePred, negation, quantifiedPred, finite, partition, identifier, bound, literal, setExtension, maplet, relationSet, setMinus, cartesian, directProduct, parallelProduct, domainRestriction, rangeRestriction, upTo, arithmetic, functionImage, relationalImage, setOperation, backwardComposition, forwardComposition, override, sum, integerSet, boolSet, truthValue, integerRelation, emptySet, projection1, projection2, identity, boolExpr, cardinal, powerset, generalised, domain, range, extremum, converse, unaryMinus, quantifiedSet, comprehension, unlisted}
+use Rattle.frame.specs.Tags.{pick, Sort, predicate, expression, sameSort, formOf, formAt, sortsOf, inRange, typesOf, table, classOf, Class, literalPred, equality, order, membership, inclusion, binaryPred, associativePred, negation, quantifiedPred, finite, partition, identifier, bound, literal, setExtension, maplet, relationSet, setMinus, cartesian, directProduct, parallelProduct, domainRestriction, rangeRestriction, upTo, arithmetic, functionImage, relationalImage, setOperation, backwardComposition, forwardComposition, override, sum, integerSet, boolSet, truthValue, integerRelation, emptySet, projection1, projection2, identity, boolExpr, cardinal, powerset, generalised, domain, range, extremum, converse, unaryMinus, quantifiedSet, comprehension, unlisted}
 use Rattle.frame.specs.TagCodes.{formCode, formAtCode, sortFor}
 use Rattle.frame.specs.Encoding.{encTy, encTys}
 use Rattle.frame.specs.Reading.{numberAt, HeadRes, okH, noH, readHead, Res, ok, FRes, okF, readMany, readNode, typeLimit}
@@ -24,7 +24,8 @@ use Rattle.frame.specs.declared.reading.HeadAnswer.the-variants as H
 use Rattle.frame.proofs.Spans.{span-left}
 use Rattle.frame.proofs.Inversion.{NodeInv, node-inv, no-not, HeadInv, head-inv, many-count}
 use Rattle.frame.proofs.ReadTrees.{HeadRead, head-read}
-use Rattle.frame.proofs.TagTables.{allBelow, below, code-form}
+use Rattle.frame.proofs.TagTables.{code-form}
+use Rattle.frame.proofs.EveryTag.{alongRows, every-tag, unlisted-past}
 use Rattle.typing.specs.Typing.{carriedTy, typeAt, wants, result, shape, nodeTyped, typesIn, typedTree, typedForest}
 use Rattle.typing.specs.Binding.{boundTag}
 use Rattle.typing.specs.Patterns.{ownTypes}
@@ -36,7 +37,6 @@ use Rattle.typing.specs.declared.patterns.Typed.{Typed}
 use Rattle.typing.specs.declared.patterns.Typed.the-variants as T
 use Rattle.typing.specs.declared.typing.Opened.{Opened}
 use Rattle.typing.specs.declared.typing.Opened.the-variants as O
-use Rattle.typing.proofs.TagRules.{unlisted-past}
 use Rattle.typing.proofs.RuleTables.{carried-own, bound-own}
 use Rattle.typing.proofs.OwnTurns.{type-wf}
 
@@ -213,14 +213,14 @@ carries-one quantifiedSet x l h = absurd (omega arith)
 carries-one comprehension x l h = absurd (omega arith)
 carries-one unlisted x l h = absurd (omega arith)
 
-bound-right : allBelow 902 (λ g. pick (eqb (ruleNumber (classOf g)) 6) (eqb g 3) true) ≡ true
-unfolding ruleNumber classOf lookup
+bound-right : alongRows (λ g c. pick (eqb (ruleNumber c) 6) (eqb g 3) true) 902 0 table ≡ true
+unfolding ruleNumber
 bound-right = refl
 
 bound-only : (g : ℕ) → ruleNumber (classOf g) ≡ 6 → (b : Bool) → ltb g 902 ≡ b → g ≡ 3
 unfolding ruleNumber
 bound-only g h true e =
-    let t = below 902 (λ i. pick (eqb (ruleNumber (classOf i)) 6) (eqb i 3) true) bound-right g (ltb-true g 902 e) in
+    let t = every-tag (λ i c. pick (eqb (ruleNumber c) 6) (eqb i 3) true) 902 bound-right g (ltb-true g 902 e) in
     eqb-true g 3 (rw (eq-eqb (ruleNumber (classOf g)) 6 h) at t)
 bound-only g h false e =
     let l = ltb-false g 902 e in

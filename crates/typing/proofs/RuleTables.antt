@@ -8,14 +8,13 @@ use native.Mathlib.Omega.{arith}
 use lib.Dec.{ltb, eqb}
 use borrow.Author.Tests.{ltb-true, ltb-false, eqb-true, ne-eqb}
 use Rattle.frame.specs.Types.{Ty, pow, prod}
-use Rattle.frame.specs.Tags.{pick, lookup, classOf, Class, literalPred, equality, order, membership, inclusion, binaryPred, associativePred, negation, quantifiedPred, finite, partition, identifier, bound, literal, setExtension, maplet, relationSet, setMinus, cartesian, directProduct, parallelProduct, domainRestriction, rangeRestriction, upTo, arithmetic, functionImage, relationalImage, setOperation, backwardComposition, forwardComposition, override, sum, integerSet, boolSet, truthValue, integerRelation, emptySet, projection1, projection2, identity, boolExpr, cardinal, powerset, generalised, domain, range, extremum, converse, unaryMinus, quantifiedSet, comprehension, unlisted}
+use Rattle.frame.specs.Tags.{pick, table, classOf, Class, literalPred, equality, order, membership, inclusion, binaryPred, associativePred, negation, quantifiedPred, finite, partition, identifier, bound, literal, setExtension, maplet, relationSet, setMinus, cartesian, directProduct, parallelProduct, domainRestriction, rangeRestriction, upTo, arithmetic, functionImage, relationalImage, setOperation, backwardComposition, forwardComposition, override, sum, integerSet, boolSet, truthValue, integerRelation, emptySet, projection1, projection2, identity, boolExpr, cardinal, powerset, generalised, domain, range, extremum, converse, unaryMinus, quantifiedSet, comprehension, unlisted}
 use Rattle.frame.specs.Places.{Ctx}
-use Rattle.frame.proofs.TagTables.{allBelow, below}
+use Rattle.frame.proofs.EveryTag.{alongRows, every-tag, unlisted-past}
 use Rattle.typing.specs.Typing.{carriedTy, typeAt, shape, element, source, first, second, relation}
 use Rattle.typing.specs.Patterns.{ownTypes}
 use Rattle.typing.specs.RuleNumbers.{ruleNumber}
 use Rattle.typing.proofs.ClassShapes.{shapeFor}
-use Rattle.typing.proofs.TagRules.{unlisted-past}
 
 -- ---- which nodes carry a type
 -- the rules 1 to 5
@@ -313,15 +312,14 @@ class-shaped quantifiedSet t = refl
 class-shaped comprehension t = refl
 class-shaped unlisted t = refl
 
-shapes-right : allBelow 902 (λ g. eqb (shapeNumber (classOf g)) (tagShape g)) ≡ true
-unfolding classOf lookup
+shapes-right : alongRows (λ g c. eqb (shapeNumber c) (tagShape g)) 902 0 table ≡ true
 shapes-right = refl
 
 shape-past : (g : ℕ) → 901 < g → tagShape g ≡ 0
 shape-past g h = simp (ne-eqb g 407 (omega arith), ne-eqb g 410 (omega arith), ne-eqb g 411 (omega arith), ne-eqb g 412 (omega arith))
 
 shape-number : (g : ℕ) (b : Bool) → ltb g 902 ≡ b → shapeNumber (classOf g) ≡ tagShape g
-shape-number g true e = eqb-true _ _ (below 902 (λ i. eqb (shapeNumber (classOf i)) (tagShape i)) shapes-right g (ltb-true g 902 e))
+shape-number g true e = eqb-true _ _ (every-tag (λ i c. eqb (shapeNumber c) (tagShape i)) 902 shapes-right g (ltb-true g 902 e))
 shape-number g false e =
     let h = ltb-false g 902 e in
     ap shapeNumber (unlisted-past g (omega arith)) ∙ sym (shape-past g (omega arith))

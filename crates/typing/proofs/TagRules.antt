@@ -1,16 +1,16 @@
 -- The code's tables of typing rules say what `ruleAt` says, for every tag: by one computed test, and one law.
--- Main results: rule-none, rule-place, rule-some, rule-past (the rule of a tag), row-rule (the four patterns of a rule), unlisted-past.
+-- Main results: rule-none, rule-place, rule-some, rule-past (the rule of a tag), row-rule (the four patterns of a rule).
 use mathlib.Core.Path.{_≡_, refl, sym, ap, _∙_, subst, subst₂}
-use mathlib.Core.Bool.{Bool, true, false, _&&_}
+use mathlib.Core.Bool.{Bool, true, _&&_}
 use mathlib.Core.List.{List, [], _∷_}
 use Prim.Native.Nat.{ℕ, _+_, _*_, _/_, _%_, _≤_, _<_}
 use native.Mathlib.Omega.{arith}
 use lib.ListN.{drop, getD}
 use lib.Dec.{ltb, leb, eqb}
 use borrow.Author.Tests.{leb-true, ltb-true, lt-leb, le-leb, eqb-true}
-use Rattle.frame.specs.Tags.{pick, Row, row, table, lookup, classOf, Class, literalPred, equality, order, membership, inclusion, binaryPred, associativePred, negation, quantifiedPred, finite, partition, identifier, bound, literal, setExtension, maplet, relationSet, setMinus, cartesian, directProduct, parallelProduct, domainRestriction, rangeRestriction, upTo, arithmetic, functionImage, relationalImage, setOperation, backwardComposition, forwardComposition, override, sum, integerSet, boolSet, truthValue, integerRelation, emptySet, projection1, projection2, identity, boolExpr, cardinal, powerset, generalised, domain, range, extremum, converse, unaryMinus, quantifiedSet, comprehension, unlisted}
-use Rattle.frame.proofs.TagTables.{allBelow, below}
-use Rattle.frame.proofs.Inversion.{true-not}
+use Rattle.frame.specs.Tags.{pick, table, classOf, Class, literalPred, equality, order, membership, inclusion, binaryPred, associativePred, negation, quantifiedPred, finite, partition, identifier, bound, literal, setExtension, maplet, relationSet, setMinus, cartesian, directProduct, parallelProduct, domainRestriction, rangeRestriction, upTo, arithmetic, functionImage, relationalImage, setOperation, backwardComposition, forwardComposition, override, sum, integerSet, boolSet, truthValue, integerRelation, emptySet, projection1, projection2, identity, boolExpr, cardinal, powerset, generalised, domain, range, extremum, converse, unaryMinus, quantifiedSet, comprehension, unlisted}
+use Rattle.frame.proofs.TagTables.{below}
+use Rattle.frame.proofs.EveryTag.{alongRows, every-tag, unlisted-past}
 use Rattle.frame.proofs.SameTrees.{both-true}
 use Rattle.typing.specs.Patterns.{Rule, rule, ruleAt, cut}
 use Rattle.typing.specs.RuleNumbers.{ruleNumber}
@@ -28,28 +28,6 @@ rows = 0 ∷ 0 ∷ 0 ∷ 1 ∷ 0 ∷ 5 ∷ 0 ∷ 5 ∷ 0 ∷ 15 ∷ 0 ∷ 15 ∷
 abbrev pub patterns : List ℕ
 patterns = 2 ∷ 0 ∷ 2 ∷ 1 ∷ 2 ∷ 5 ∷ 2 ∷ 6 ∷ 2 ∷ 3 ∷ 0 ∷ 2 ∷ 3 ∷ 1 ∷ 2 ∷ 3 ∷ 5 ∷ 2 ∷ 3 ∷ 6 ∷ 2 ∷ 5 ∷ 5 ∷ 2 ∷ 3 ∷ 3 ∷ 5 ∷ 2 ∷ 4 ∷ 5 ∷ 6 ∷ 2 ∷ 3 ∷ 4 ∷ 1 ∷ 1 ∷ 2 ∷ 3 ∷ 4 ∷ 5 ∷ 5 ∷ 2 ∷ 3 ∷ 4 ∷ 5 ∷ 6 ∷ 2 ∷ 3 ∷ 4 ∷ 5 ∷ 7 ∷ 2 ∷ 3 ∷ 4 ∷ 5 ∷ 8 ∷ 2 ∷ 3 ∷ 4 ∷ 6 ∷ 5 ∷ 2 ∷ 3 ∷ 4 ∷ 7 ∷ 6 ∷ 2 ∷ 3 ∷ 4 ∷ 7 ∷ 8 ∷ 2 ∷ 3 ∷ 3 ∷ 4 ∷ 5 ∷ 6 ∷ 2 ∷ 3 ∷ 4 ∷ 4 ∷ 5 ∷ 6 ∷ 5 ∷ 2 ∷ 3 ∷ 4 ∷ 4 ∷ 5 ∷ 6 ∷ 6 ∷ 2 ∷ 3 ∷ 4 ∷ 5 ∷ 4 ∷ 6 ∷ 7 ∷ 2 ∷ 3 ∷ 4 ∷ 4 ∷ 5 ∷ 7 ∷ 4 ∷ 6 ∷ 8 ∷ 2 ∷ 3 ∷ 4 ∷ 5 ∷ 6 ∷ 3 ∷ 4 ∷ 6 ∷ 7 ∷ 2 ∷ 3 ∷ 4 ∷ 5 ∷ 6 ∷ 3 ∷ 4 ∷ 7 ∷ 5 ∷ 2 ∷ []
 
--- ---- tags past the last row are unlisted
-abbrev pub endsBy : ℕ → List Row → Bool
-endsBy n [] = true
-endsBy n (row from to c ∷ rows) = leb to n && endsBy n rows
-
-pub skip-row : (rows : List Row) (t : ℕ) (c : Class) (a b : Bool) → b ≡ false → lookup rows t ≡ unlisted → pick (a && b) c (lookup rows t) ≡ unlisted
-skip-row rows t c true true eb e = true-not (sym eb)
-skip-row rows t c true false eb e = e
-skip-row rows t c false b eb e = e
-
-pub past-rows : (n : ℕ) (rows : List Row) → endsBy n rows ≡ true → (t : ℕ) → n < t → lookup rows t ≡ unlisted
-unfolding lookup
-past-rows n [] e t h = refl
-past-rows n (row from to c ∷ rows) e t h =
-    let p = both-true (leb to n) (endsBy n rows) e in
-    let l = leb-true to n (p .0) in
-    skip-row rows t c (leb from t) (leb t to) (lt-leb t to (omega arith)) (past-rows n rows (p .1) t h)
-
-pub unlisted-past : (t : ℕ) → 901 < t → classOf t ≡ unlisted
-unfolding classOf
-unlisted-past t h = past-rows 901 table refl t h
-
 -- ---- the rule of a tag
 abbrev pub placeOf : ℕ → ℕ
 placeOf t = getD blocks (t / 50) 0 + t % 50
@@ -60,14 +38,14 @@ endOf t = getD blocks (t / 50 + 1) 0
 abbrev pub codeOf : ℕ → ℕ
 codeOf t = pick (leb (endOf t) (placeOf t)) 0 (getD tagRules (placeOf t) 0)
 
-abbrev pub tagRight : ℕ → Bool
-tagRight t = eqb (codeOf t) (ruleNumber (classOf t)) && ltb (codeOf t) 49
+abbrev pub tagRight : ℕ → Class → Bool
+tagRight t c = eqb (codeOf t) (ruleNumber c) && ltb (codeOf t) 49
 
 abbrev pub RuleOf : ℕ → ℕ → Type 0
 RuleOf t r = (r ≡ ruleNumber (classOf t)) × (r < 49)
 
-pub tags-right : allBelow 950 tagRight ≡ true
-unfolding ruleNumber classOf lookup
+pub tags-right : alongRows tagRight 950 0 table ≡ true
+unfolding ruleNumber
 tags-right = refl
 
 pub blocks-end : (k : ℕ) → k < 20 → getD blocks k 0 ≤ 121
@@ -80,7 +58,7 @@ rule-past t h = (sym (ap ruleNumber (unlisted-past t (omega arith))), omega arit
 module _ (t : ℕ) (h : t / 50 < 19) where
   pub right : RuleOf t (codeOf t)
   right =
-      let p = both-true (eqb (codeOf t) (ruleNumber (classOf t))) (ltb (codeOf t) 49) (below 950 tagRight tags-right t (omega arith)) in
+      let p = both-true (eqb (codeOf t) (ruleNumber (classOf t))) (ltb (codeOf t) 49) (every-tag tagRight 950 tags-right t (omega arith)) in
       (eqb-true _ _ (p .0), ltb-true _ _ (p .1))
 
   module _ (from to : ℕ) (ef : from ≡ getD blocks (t / 50) 0) (et : to ≡ getD blocks (t / 50 + 1) 0) where

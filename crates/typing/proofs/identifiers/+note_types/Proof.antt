@@ -1,7 +1,7 @@
 use borrow.Author.Tests.{not-true, not-false}
-use Prim.Native.Nat.{_-_}
+use Prim.Native.Nat.{_+_, _-_, _*_}
 use lib.ListN.{length}
-use mathlib.Core.Path.{refl}
+use mathlib.Core.Path.{refl, ap₂}
 use native.Mathlib.Omega.{arith}
 use Rattle.typing.proofs.Noting.{noted-true, held-then}
 use Rattle.typing.proofs.NotingTypes.{some-room, some-given, some-pow, some-prod, some-leaf, types-end, types-clash, types-given, types-pow, types-prod, types-leaf}
@@ -157,7 +157,7 @@ note-types-returns-2 : (t : ℕ) → note-types-lts.Need-returns-2 (
   note-types-below t,
   note-types.Post,
 ) (note-types-at t) note-types.Post
-note-types-returns-2 t c = types-clash _ _ _ (c .before .before .before .before .before .before .before .before .before .if1 .left) _ (c .before .before .before .before .before .before .before .match .keys1) _ _ _ (c .before .note-given .ensures) (not-true _ (c .if2 .taken)) (cc (c .before .before .before .before .before .wide .ensures .0, c .before .before .before .wide2 .ensures .0))
+note-types-returns-2 t c = types-clash _ _ _ (c .before .before .before .before .before .before .before .before .before .if1 .left) _ (c .before .before .before .before .before .before .before .match .keys1) _ _ _ (c .before .note-given .ensures) (not-true _ (c .if2 .taken)) (ap₂ (λ (a b : ℕ). a * 256 + b) (c .before .before .before .before .before .wide .ensures .0) (c .before .before .before .wide2 .ensures .0))
 
 -- src/identifiers.rt:119:27
 note-types-add-note-types : (t : ℕ) → note-types-lts.Need-add-note-types (
@@ -289,7 +289,7 @@ note-types-returns-3 : (t : ℕ) → note-types-lts.Need-returns-3 (
   note-types-below t,
   note-types.Post,
 ) (note-types-at t) note-types.Post
-note-types-returns-3 t c = types-given _ _ _ (c .before .before .before .before .before .before .before .before .before .before .before .if1 .left) _ _ _ (c .before .before .before .before .before .before .before .before .before .match .keys1) _ _ _ (c .before .before .before .note-given .ensures) (not-false _ (c .before .before .if2 .left)) (cc (c .before .before .before .before .before .before .before .wide .ensures .0, c .before .before .before .before .before .wide2 .ensures .0)) (c .note-types .ensures)
+note-types-returns-3 t c = types-given _ _ _ (c .before .before .before .before .before .before .before .before .before .before .before .if1 .left) _ _ _ (c .before .before .before .before .before .before .before .before .before .match .keys1) _ _ _ (c .before .before .before .note-given .ensures) (not-false _ (c .before .before .if2 .left)) (ap₂ (λ (a b : ℕ). a * 256 + b) (c .before .before .before .before .before .before .before .wide .ensures .0) (c .before .before .before .before .before .wide2 .ensures .0)) (c .note-types .ensures)
 
 -- src/identifiers.rt:104:1
 note-types-returns-4 : (t : ℕ) → note-types-lts.Need-returns-4 (

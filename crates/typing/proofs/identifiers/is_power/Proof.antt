@@ -1,3 +1,6 @@
+use mathlib.Core.Path.{ap₂}
+use Prim.Native.Nat.{ℕ, _+_, _*_}
+use lib.Dec.{eqb}
 use native.Mathlib.Omega.{arith}
 use Rattle.typing.proofs.Noting.{power-not, power-is}
 use borrow.Author.Needs.{needs}
@@ -69,7 +72,7 @@ add-result c = search needs
 
 -- src/identifiers.rt:55:1
 returns-4 : tie.Need-returns-4
-returns-4 c = power-is _ _ _ (c .before .before .before .before .before .before .before .before .before .before .pre .2) (λ i. c .before .before .before .before .before .before .before .before .before .shared-slice-known .given i .fits) _ (omega arith) (c .before .before .before .before .before .before .if2 .left) (c .before .before .before .before .if3 .left) (cc (c .before .before .wide .ensures .0, c .wide2 .ensures .0))
+returns-4 c = power-is _ _ _ (c .before .before .before .before .before .before .before .before .before .before .pre .2) (λ i. c .before .before .before .before .before .before .before .before .before .shared-slice-known .given i .fits) _ (omega arith) (c .before .before .before .before .before .before .if2 .left) (c .before .before .before .before .if3 .left) (ap₂ (λ (a b : ℕ). eqb (a * 256 + b) (c .before .before .before .before .before .before .before .before .before .before .args .n)) (c .before .before .wide .ensures .0) (c .wide2 .ensures .0))
 
 pub is-power-spec : {M : Type 1} → statement M
 is-power-spec =

@@ -1,10 +1,8 @@
-use mathlib.Core.Path.{_≡_, refl, sym, subst, _∙_}
-use Prim.Native.Nat.{_+_, _≤_, _-_}
-use lib.ListN.{length, getD, set, drop}
+use mathlib.Core.Path.{refl}
 use native.Mathlib.Omega.{arith}
 use Rattle.frame.specs.Tags.{classOf}
 use Rattle.typing.specs.Patterns.{ruleAt}
-use Rattle.typing.proofs.JudgeTurns.{pair-pattern, first-pattern, last-pattern, result-pattern, pairs-by, match-by, fill-by, judge-unpaired, first-pre, judge-first-off, last-pre, judge-last-off, fill-pre, judge-over, copy-pre, judge-typed}
+use Rattle.typing.proofs.JudgeTurns.{Paired, Fitted, Lasted, Done, pair-pattern, first-pattern, last-pattern, result-pattern, paired-by, fitted-by, lasted-by, done-by, judge-unpaired, first-pre, judge-first-off, last-pre, judge-last-off, fill-pre, judge-over, copy-pre, judge-typed}
 use borrow.Author.Needs.{needs}
 use Rattle.typing.proofs.patterns.judge_types.Statement.{statement}
 use Rattle.typing.proofs.patterns.judge_types.Tie as tie
@@ -55,7 +53,11 @@ same-length c = search needs
 
 -- src/patterns.rt:223:9
 returns : tie.Need-returns
-returns c = judge-unpaired (ruleAt (classOf (c .before .before .before .before .before .before .before .before .before .before .args .tag))) (c .before .before .before .before .before .before .before .before .before .before .args .types .now) (c .before .before .before .before .before .before .before .before .before .before .args .from) (c .before .before .before .before .before .before .before .before .before .before .args .n) _ _ _ _ (record { from = refl; to = refl }) (c .before .before .match-pairs .result) (pairs-by (pair-pattern (classOf (c .before .before .before .before .before .before .before .before .before .before .args .tag)) (c .before .before .before .before .before .before .before .before .rule-of .result) (c .before .before .before .before .before .before .before .before .rule-of .ensures .0) _ (c .before .before .before .before .before .before .wide .ensures .0)) (c .before .before .match-pairs .ensures)) (c .enum-told .given .1) _
+returns c = judge-unpaired (record { from = refl; to = refl }) (pair-pattern (classOf (c .before .before .before .before .before .before .before .before .before .before .args .tag)) (c .before .before .before .before .before .before .before .before .rule-of .result) (c .before .before .before .before .before .before .before .before .rule-of .ensures .0) _ (c .before .before .before .before .before .before .wide .ensures .0)) (c .before .before .match-pairs .ensures) (c .enum-told .given .1) _
+
+-- what is known once each two in a row are alike
+paired : (c : tie.After-pairs) → Paired (ruleAt (classOf (c .before .before .before .before .before .before .before .before .before .before .args .tag))) (c .before .before .before .before .before .before .before .before .before .before .args .types .now) (c .before .before .before .before .before .before .before .before .before .before .args .from) (c .before .before .before .before .before .before .before .before .before .before .args .n) (c .before .before .match-pairs .last .1 .1 .1 .1 .1 .0) (c .before .before .match-pairs .last .1 .1 .1 .1 .1 .1 .0) (c .pairs .given .0 .0)
+paired c = paired-by (record { from = refl; to = refl }) (pair-pattern (classOf (c .before .before .before .before .before .before .before .before .before .before .args .tag)) (c .before .before .before .before .before .before .before .before .rule-of .result) (c .before .before .before .before .before .before .before .before .rule-of .ensures .0) _ (c .before .before .before .before .before .before .wide .ensures .0)) (c .before .before .match-pairs .ensures) (c .pairs .given .1)
 
 -- src/patterns.rt:226:9
 slice-aggregate-match-pattern : tie.Need-slice-aggregate-match-pattern
@@ -75,7 +77,7 @@ wide-requires-2 c κs = search needs
 
 -- src/patterns.rt:225:9
 match-pattern-requires : tie.Need-match-pattern-requires
-match-pattern-requires c κs = first-pre (ruleAt (classOf (c .before .before .before .before .before .before .before .before .before .before .before .before .before .before .before .before .args .tag))) (c .before .before .before .before .before .before .before .before .before .before .before .before .before .before .before .before .args .types .now) (c .before .before .before .before .before .before .before .before .before .before .before .before .before .before .before .before .args .from) (c .before .before .before .before .before .before .before .before .before .before .before .before .before .before .before .before .args .n) _ _ _ _ (record { from = refl; to = refl }) (c .before .before .before .before .before .before .before .before .match-pairs .result) (pairs-by (pair-pattern (classOf (c .before .before .before .before .before .before .before .before .before .before .before .before .before .before .before .before .args .tag)) (c .before .before .before .before .before .before .before .before .before .before .before .before .before .before .rule-of .result) (c .before .before .before .before .before .before .before .before .before .before .before .before .before .before .rule-of .ensures .0) _ (c .before .before .before .before .before .before .before .before .before .before .before .before .wide .ensures .0)) (c .before .before .before .before .before .before .before .before .match-pairs .ensures)) _ (c .before .before .before .before .before .before .pairs .given .1) (c .before .before .before .before .before .before .before .before .before .before .before .before .before .before .before .before .pre)
+match-pattern-requires c κs = first-pre (paired (c .before .before .before .before .before .before)) (c .before .before .before .before .before .before .before .before .before .before .before .before .before .before .before .before .pre)
 
 -- src/patterns.rt:235:19
 enum-known-first : tie.Need-enum-known-first
@@ -91,7 +93,11 @@ same-length-2 c = search needs
 
 -- src/patterns.rt:236:9
 returns-2 : tie.Need-returns-2
-returns-2 c = judge-first-off (ruleAt (classOf (c .before .before .before .before .before .before .before .before .before .before .before .before .before .before .before .before .before .before .before .args .tag))) (c .before .before .before .before .before .before .before .before .before .before .before .before .before .before .before .before .before .before .before .args .types .now) (c .before .before .before .before .before .before .before .before .before .before .before .before .before .before .before .before .before .before .before .args .from) (c .before .before .before .before .before .before .before .before .before .before .before .before .before .before .before .before .before .before .before .args .n) _ _ _ _ (record { from = refl; to = refl }) (c .before .before .before .before .before .before .before .before .before .before .before .match-pairs .result) (pairs-by (pair-pattern (classOf (c .before .before .before .before .before .before .before .before .before .before .before .before .before .before .before .before .before .before .before .args .tag)) (c .before .before .before .before .before .before .before .before .before .before .before .before .before .before .before .before .before .rule-of .result) (c .before .before .before .before .before .before .before .before .before .before .before .before .before .before .before .before .before .rule-of .ensures .0) _ (c .before .before .before .before .before .before .before .before .before .before .before .before .before .before .before .wide .ensures .0)) (c .before .before .before .before .before .before .before .before .before .before .before .match-pairs .ensures)) _ (c .before .before .before .before .before .before .before .before .before .pairs .given .1) _ _ (c .before .before .match-pattern .result) (match-by (first-pattern (classOf (c .before .before .before .before .before .before .before .before .before .before .before .before .before .before .before .before .before .before .before .args .tag)) (c .before .before .before .before .before .before .before .before .before .before .before .before .before .before .before .before .before .rule-of .result) (c .before .before .before .before .before .before .before .before .before .before .before .before .before .before .before .before .before .rule-of .ensures .0) _ (c .before .before .before .before .before .before .wide2 .ensures .0)) (c .before .before .match-pattern .ensures)) (c .enum-told2 .given .1) _
+returns-2 c = judge-first-off (paired (c .before .before .before .before .before .before .before .before .before)) (first-pattern (classOf (c .before .before .before .before .before .before .before .before .before .before .before .before .before .before .before .before .before .before .before .args .tag)) (c .before .before .before .before .before .before .before .before .before .before .before .before .before .before .before .before .before .rule-of .result) (c .before .before .before .before .before .before .before .before .before .before .before .before .before .before .before .before .before .rule-of .ensures .0) _ (c .before .before .before .before .before .before .wide2 .ensures .0)) (c .before .before .match-pattern .ensures) (c .enum-told2 .given .1) _
+
+-- and once the first operands have the rule's form
+fitted : (c : tie.After-first) → Fitted (ruleAt (classOf (c .before .before .before .before .before .before .before .before .before .before .before .before .before .before .before .before .before .before .before .args .tag))) (c .before .before .before .before .before .before .before .before .before .before .before .before .before .before .before .before .before .before .before .args .types .now) (c .before .before .before .before .before .before .before .before .before .before .before .before .before .before .before .before .before .before .before .args .from) (c .before .before .before .before .before .before .before .before .before .before .before .before .before .before .before .before .before .before .before .args .n) (c .before .before .match-pattern .last .1 .1 .1 .1 .1 .0) (c .before .before .match-pattern .last .1 .1 .1 .1 .1 .1 .0) (c .before .before .before .before .before .before .before .before .before .pairs .given .0 .0) (c .first .given .0 .0)
+fitted c = fitted-by (paired (c .before .before .before .before .before .before .before .before .before)) (first-pattern (classOf (c .before .before .before .before .before .before .before .before .before .before .before .before .before .before .before .before .before .before .before .args .tag)) (c .before .before .before .before .before .before .before .before .before .before .before .before .before .before .before .before .before .rule-of .result) (c .before .before .before .before .before .before .before .before .before .before .before .before .before .before .before .before .before .rule-of .ensures .0) _ (c .before .before .before .before .before .before .wide2 .ensures .0)) (c .before .before .match-pattern .ensures) (c .first .given .1)
 
 -- src/patterns.rt:239:9
 slice-aggregate-match-pattern-2 : tie.Need-slice-aggregate-match-pattern-2
@@ -111,7 +117,7 @@ wide-requires-3 c κs = search needs
 
 -- src/patterns.rt:238:9
 match-pattern-requires-2 : tie.Need-match-pattern-requires-2
-match-pattern-requires-2 c κs = last-pre (ruleAt (classOf (c .before .before .before .before .before .before .before .before .before .before .before .before .before .before .before .before .before .before .before .before .before .before .before .before .before .args .tag))) (c .before .before .before .before .before .before .before .before .before .before .before .before .before .before .before .before .before .before .before .before .before .before .before .before .before .args .types .now) (c .before .before .before .before .before .before .before .before .before .before .before .before .before .before .before .before .before .before .before .before .before .before .before .before .before .args .from) (c .before .before .before .before .before .before .before .before .before .before .before .before .before .before .before .before .before .before .before .before .before .before .before .before .before .args .n) _ _ _ _ (record { from = refl; to = refl }) (c .before .before .before .before .before .before .before .before .before .before .before .before .before .before .before .before .before .match-pairs .result) (pairs-by (pair-pattern (classOf (c .before .before .before .before .before .before .before .before .before .before .before .before .before .before .before .before .before .before .before .before .before .before .before .before .before .args .tag)) (c .before .before .before .before .before .before .before .before .before .before .before .before .before .before .before .before .before .before .before .before .before .before .before .rule-of .result) (c .before .before .before .before .before .before .before .before .before .before .before .before .before .before .before .before .before .before .before .before .before .before .before .rule-of .ensures .0) _ (c .before .before .before .before .before .before .before .before .before .before .before .before .before .before .before .before .before .before .before .before .before .wide .ensures .0)) (c .before .before .before .before .before .before .before .before .before .before .before .before .before .before .before .before .before .match-pairs .ensures)) _ (c .before .before .before .before .before .before .before .before .before .before .before .before .before .before .before .pairs .given .1) _ _ (c .before .before .before .before .before .before .before .before .match-pattern .result) (match-by (first-pattern (classOf (c .before .before .before .before .before .before .before .before .before .before .before .before .before .before .before .before .before .before .before .before .before .before .before .before .before .args .tag)) (c .before .before .before .before .before .before .before .before .before .before .before .before .before .before .before .before .before .before .before .before .before .before .before .rule-of .result) (c .before .before .before .before .before .before .before .before .before .before .before .before .before .before .before .before .before .before .before .before .before .before .before .rule-of .ensures .0) _ (c .before .before .before .before .before .before .before .before .before .before .before .before .wide2 .ensures .0)) (c .before .before .before .before .before .before .before .before .match-pattern .ensures)) _ (c .before .before .before .before .before .before .first .given .1) (c .before .before .before .before .before .before .before .before .before .before .before .before .before .before .before .before .before .before .before .before .before .before .before .before .before .pre)
+match-pattern-requires-2 c κs = last-pre (fitted (c .before .before .before .before .before .before)) (c .before .before .before .before .before .before .before .before .before .before .before .before .before .before .before .before .before .before .before .before .before .before .before .before .before .pre)
 
 -- src/patterns.rt:248:19
 enum-known-second : tie.Need-enum-known-second
@@ -127,7 +133,11 @@ same-length-3 c = search needs
 
 -- src/patterns.rt:249:9
 returns-3 : tie.Need-returns-3
-returns-3 c = judge-last-off (ruleAt (classOf (c .before .before .before .before .before .before .before .before .before .before .before .before .before .before .before .before .before .before .before .before .before .before .before .before .before .before .before .before .args .tag))) (c .before .before .before .before .before .before .before .before .before .before .before .before .before .before .before .before .before .before .before .before .before .before .before .before .before .before .before .before .args .types .now) (c .before .before .before .before .before .before .before .before .before .before .before .before .before .before .before .before .before .before .before .before .before .before .before .before .before .before .before .before .args .from) (c .before .before .before .before .before .before .before .before .before .before .before .before .before .before .before .before .before .before .before .before .before .before .before .before .before .before .before .before .args .n) _ _ _ _ (record { from = refl; to = refl }) (c .before .before .before .before .before .before .before .before .before .before .before .before .before .before .before .before .before .before .before .before .match-pairs .result) (pairs-by (pair-pattern (classOf (c .before .before .before .before .before .before .before .before .before .before .before .before .before .before .before .before .before .before .before .before .before .before .before .before .before .before .before .before .args .tag)) (c .before .before .before .before .before .before .before .before .before .before .before .before .before .before .before .before .before .before .before .before .before .before .before .before .before .before .rule-of .result) (c .before .before .before .before .before .before .before .before .before .before .before .before .before .before .before .before .before .before .before .before .before .before .before .before .before .before .rule-of .ensures .0) _ (c .before .before .before .before .before .before .before .before .before .before .before .before .before .before .before .before .before .before .before .before .before .before .before .before .wide .ensures .0)) (c .before .before .before .before .before .before .before .before .before .before .before .before .before .before .before .before .before .before .before .before .match-pairs .ensures)) _ (c .before .before .before .before .before .before .before .before .before .before .before .before .before .before .before .before .before .before .pairs .given .1) _ _ (c .before .before .before .before .before .before .before .before .before .before .before .match-pattern .result) (match-by (first-pattern (classOf (c .before .before .before .before .before .before .before .before .before .before .before .before .before .before .before .before .before .before .before .before .before .before .before .before .before .before .before .before .args .tag)) (c .before .before .before .before .before .before .before .before .before .before .before .before .before .before .before .before .before .before .before .before .before .before .before .before .before .before .rule-of .result) (c .before .before .before .before .before .before .before .before .before .before .before .before .before .before .before .before .before .before .before .before .before .before .before .before .before .before .rule-of .ensures .0) _ (c .before .before .before .before .before .before .before .before .before .before .before .before .before .before .before .wide2 .ensures .0)) (c .before .before .before .before .before .before .before .before .before .before .before .match-pattern .ensures)) _ (c .before .before .before .before .before .before .before .before .before .first .given .1) _ _ (c .before .before .match-pattern2 .result) (match-by (last-pattern (classOf (c .before .before .before .before .before .before .before .before .before .before .before .before .before .before .before .before .before .before .before .before .before .before .before .before .before .before .before .before .args .tag)) (c .before .before .before .before .before .before .before .before .before .before .before .before .before .before .before .before .before .before .before .before .before .before .before .before .before .before .rule-of .result) (c .before .before .before .before .before .before .before .before .before .before .before .before .before .before .before .before .before .before .before .before .before .before .before .before .before .before .rule-of .ensures .0) _ (c .before .before .before .before .before .before .wide3 .ensures .0)) (c .before .before .match-pattern2 .ensures)) (c .enum-told3 .given .1) _
+returns-3 c = judge-last-off (fitted (c .before .before .before .before .before .before .before .before .before)) (last-pattern (classOf (c .before .before .before .before .before .before .before .before .before .before .before .before .before .before .before .before .before .before .before .before .before .before .before .before .before .before .before .before .args .tag)) (c .before .before .before .before .before .before .before .before .before .before .before .before .before .before .before .before .before .before .before .before .before .before .before .before .before .before .rule-of .result) (c .before .before .before .before .before .before .before .before .before .before .before .before .before .before .before .before .before .before .before .before .before .before .before .before .before .before .rule-of .ensures .0) _ (c .before .before .before .before .before .before .wide3 .ensures .0)) (c .before .before .match-pattern2 .ensures) (c .enum-told3 .given .1) _
+
+-- and once the last ones have
+lasted : (c : tie.After-second) → Lasted (ruleAt (classOf (c .before .before .before .before .before .before .before .before .before .before .before .before .before .before .before .before .before .before .before .before .before .before .before .before .before .before .before .before .args .tag))) (c .before .before .before .before .before .before .before .before .before .before .before .before .before .before .before .before .before .before .before .before .before .before .before .before .before .before .before .before .args .types .now) (c .before .before .before .before .before .before .before .before .before .before .before .before .before .before .before .before .before .before .before .before .before .before .before .before .before .before .before .before .args .from) (c .before .before .before .before .before .before .before .before .before .before .before .before .before .before .before .before .before .before .before .before .before .before .before .before .before .before .before .before .args .n) (c .before .before .match-pattern2 .last .1 .1 .1 .1 .1 .0) (c .before .before .match-pattern2 .last .1 .1 .1 .1 .1 .1 .0) (c .second .given .0 .0)
+lasted c = lasted-by (fitted (c .before .before .before .before .before .before .before .before .before)) (last-pattern (classOf (c .before .before .before .before .before .before .before .before .before .before .before .before .before .before .before .before .before .before .before .before .before .before .before .before .before .before .before .before .args .tag)) (c .before .before .before .before .before .before .before .before .before .before .before .before .before .before .before .before .before .before .before .before .before .before .before .before .before .before .rule-of .result) (c .before .before .before .before .before .before .before .before .before .before .before .before .before .before .before .before .before .before .before .before .before .before .before .before .before .before .rule-of .ensures .0) _ (c .before .before .before .before .before .before .wide3 .ensures .0)) (c .before .before .match-pattern2 .ensures) (c .second .given .1)
 
 -- src/patterns.rt:252:9
 slice-aggregate-fill-pattern : tie.Need-slice-aggregate-fill-pattern
@@ -151,7 +161,7 @@ add-fill-pattern c = omega (arith, c .before .before .before .before .before .be
 
 -- src/patterns.rt:251:9
 fill-pattern-requires : tie.Need-fill-pattern-requires
-fill-pattern-requires c κs = fill-pre (ruleAt (classOf (c .before .before .before .before .before .before .before .before .before .before .before .before .before .before .before .before .before .before .before .before .before .before .before .before .before .before .before .before .before .before .before .before .before .before .args .tag))) (c .before .before .before .before .before .before .before .before .before .before .before .before .before .before .before .before .before .before .before .before .before .before .before .before .before .before .before .before .before .before .before .before .before .before .args .types .now) (c .before .before .before .before .before .before .before .before .before .before .before .before .before .before .before .before .before .before .before .before .before .before .before .before .before .before .before .before .before .before .before .before .before .before .args .from) (c .before .before .before .before .before .before .before .before .before .before .before .before .before .before .before .before .before .before .before .before .before .before .before .before .before .before .before .before .before .before .before .before .before .before .args .n) _ _ _ _ (record { from = refl; to = refl }) (c .before .before .before .before .before .before .before .before .before .before .before .before .before .before .before .before .before .before .before .before .before .before .before .before .before .before .match-pairs .result) (pairs-by (pair-pattern (classOf (c .before .before .before .before .before .before .before .before .before .before .before .before .before .before .before .before .before .before .before .before .before .before .before .before .before .before .before .before .before .before .before .before .before .before .args .tag)) (c .before .before .before .before .before .before .before .before .before .before .before .before .before .before .before .before .before .before .before .before .before .before .before .before .before .before .before .before .before .before .before .before .rule-of .result) (c .before .before .before .before .before .before .before .before .before .before .before .before .before .before .before .before .before .before .before .before .before .before .before .before .before .before .before .before .before .before .before .before .rule-of .ensures .0) _ (c .before .before .before .before .before .before .before .before .before .before .before .before .before .before .before .before .before .before .before .before .before .before .before .before .before .before .before .before .before .before .wide .ensures .0)) (c .before .before .before .before .before .before .before .before .before .before .before .before .before .before .before .before .before .before .before .before .before .before .before .before .before .before .match-pairs .ensures)) _ (c .before .before .before .before .before .before .before .before .before .before .before .before .before .before .before .before .before .before .before .before .before .before .before .before .pairs .given .1) _ _ (c .before .before .before .before .before .before .before .before .before .before .before .before .before .before .before .before .before .match-pattern .result) (match-by (first-pattern (classOf (c .before .before .before .before .before .before .before .before .before .before .before .before .before .before .before .before .before .before .before .before .before .before .before .before .before .before .before .before .before .before .before .before .before .before .args .tag)) (c .before .before .before .before .before .before .before .before .before .before .before .before .before .before .before .before .before .before .before .before .before .before .before .before .before .before .before .before .before .before .before .before .rule-of .result) (c .before .before .before .before .before .before .before .before .before .before .before .before .before .before .before .before .before .before .before .before .before .before .before .before .before .before .before .before .before .before .before .before .rule-of .ensures .0) _ (c .before .before .before .before .before .before .before .before .before .before .before .before .before .before .before .before .before .before .before .before .before .wide2 .ensures .0)) (c .before .before .before .before .before .before .before .before .before .before .before .before .before .before .before .before .before .match-pattern .ensures)) _ (c .before .before .before .before .before .before .before .before .before .before .before .before .before .before .before .first .given .1) _ _ (c .before .before .before .before .before .before .before .before .match-pattern2 .result) (match-by (last-pattern (classOf (c .before .before .before .before .before .before .before .before .before .before .before .before .before .before .before .before .before .before .before .before .before .before .before .before .before .before .before .before .before .before .before .before .before .before .args .tag)) (c .before .before .before .before .before .before .before .before .before .before .before .before .before .before .before .before .before .before .before .before .before .before .before .before .before .before .before .before .before .before .before .before .rule-of .result) (c .before .before .before .before .before .before .before .before .before .before .before .before .before .before .before .before .before .before .before .before .before .before .before .before .before .before .before .before .before .before .before .before .rule-of .ensures .0) _ (c .before .before .before .before .before .before .before .before .before .before .before .before .wide3 .ensures .0)) (c .before .before .before .before .before .before .before .before .match-pattern2 .ensures)) _ (c .before .before .before .before .before .before .second .given .1) (c .before .before .before .before .before .before .before .before .before .before .before .before .before .before .before .before .before .before .before .before .before .before .before .before .before .before .before .before .before .before .before .before .before .before .pre)
+fill-pattern-requires c κs = fill-pre (lasted (c .before .before .before .before .before .before)) (c .before .before .before .before .before .before .before .before .before .before .before .before .before .before .before .before .before .before .before .before .before .before .before .before .before .before .before .before .before .before .before .before .before .before .pre)
 
 -- src/patterns.rt:261:20
 enum-known-filled : tie.Need-enum-known-filled
@@ -167,19 +177,23 @@ same-length-4 c = search needs
 
 -- src/patterns.rt:262:9
 returns-4 : tie.Need-returns-4
-returns-4 c = judge-over (ruleAt (classOf (c .before .before .before .before .before .before .before .before .before .before .before .before .before .before .before .before .before .before .before .before .before .before .before .before .before .before .before .before .before .before .before .before .before .before .before .before .before .before .before .args .tag))) (c .before .before .before .before .before .before .before .before .before .before .before .before .before .before .before .before .before .before .before .before .before .before .before .before .before .before .before .before .before .before .before .before .before .before .before .before .before .before .before .args .types .now) (c .before .before .before .before .before .before .before .before .before .before .before .before .before .before .before .before .before .before .before .before .before .before .before .before .before .before .before .before .before .before .before .before .before .before .before .before .before .before .before .args .from) (c .before .before .before .before .before .before .before .before .before .before .before .before .before .before .before .before .before .before .before .before .before .before .before .before .before .before .before .before .before .before .before .before .before .before .before .before .before .before .before .args .n) _ _ _ _ (record { from = refl; to = refl }) (c .before .before .before .before .before .before .before .before .before .before .before .before .before .before .before .before .before .before .before .before .before .before .before .before .before .before .before .before .before .before .before .match-pairs .result) (pairs-by (pair-pattern (classOf (c .before .before .before .before .before .before .before .before .before .before .before .before .before .before .before .before .before .before .before .before .before .before .before .before .before .before .before .before .before .before .before .before .before .before .before .before .before .before .before .args .tag)) (c .before .before .before .before .before .before .before .before .before .before .before .before .before .before .before .before .before .before .before .before .before .before .before .before .before .before .before .before .before .before .before .before .before .before .before .before .before .rule-of .result) (c .before .before .before .before .before .before .before .before .before .before .before .before .before .before .before .before .before .before .before .before .before .before .before .before .before .before .before .before .before .before .before .before .before .before .before .before .before .rule-of .ensures .0) _ (c .before .before .before .before .before .before .before .before .before .before .before .before .before .before .before .before .before .before .before .before .before .before .before .before .before .before .before .before .before .before .before .before .before .before .before .wide .ensures .0)) (c .before .before .before .before .before .before .before .before .before .before .before .before .before .before .before .before .before .before .before .before .before .before .before .before .before .before .before .before .before .before .before .match-pairs .ensures)) _ (c .before .before .before .before .before .before .before .before .before .before .before .before .before .before .before .before .before .before .before .before .before .before .before .before .before .before .before .before .before .pairs .given .1) _ _ (c .before .before .before .before .before .before .before .before .before .before .before .before .before .before .before .before .before .before .before .before .before .before .match-pattern .result) (match-by (first-pattern (classOf (c .before .before .before .before .before .before .before .before .before .before .before .before .before .before .before .before .before .before .before .before .before .before .before .before .before .before .before .before .before .before .before .before .before .before .before .before .before .before .before .args .tag)) (c .before .before .before .before .before .before .before .before .before .before .before .before .before .before .before .before .before .before .before .before .before .before .before .before .before .before .before .before .before .before .before .before .before .before .before .before .before .rule-of .result) (c .before .before .before .before .before .before .before .before .before .before .before .before .before .before .before .before .before .before .before .before .before .before .before .before .before .before .before .before .before .before .before .before .before .before .before .before .before .rule-of .ensures .0) _ (c .before .before .before .before .before .before .before .before .before .before .before .before .before .before .before .before .before .before .before .before .before .before .before .before .before .before .wide2 .ensures .0)) (c .before .before .before .before .before .before .before .before .before .before .before .before .before .before .before .before .before .before .before .before .before .before .match-pattern .ensures)) _ (c .before .before .before .before .before .before .before .before .before .before .before .before .before .before .before .before .before .before .before .before .first .given .1) _ _ (c .before .before .before .before .before .before .before .before .before .before .before .before .before .match-pattern2 .result) (match-by (last-pattern (classOf (c .before .before .before .before .before .before .before .before .before .before .before .before .before .before .before .before .before .before .before .before .before .before .before .before .before .before .before .before .before .before .before .before .before .before .before .before .before .before .before .args .tag)) (c .before .before .before .before .before .before .before .before .before .before .before .before .before .before .before .before .before .before .before .before .before .before .before .before .before .before .before .before .before .before .before .before .before .before .before .before .before .rule-of .result) (c .before .before .before .before .before .before .before .before .before .before .before .before .before .before .before .before .before .before .before .before .before .before .before .before .before .before .before .before .before .before .before .before .before .before .before .before .before .rule-of .ensures .0) _ (c .before .before .before .before .before .before .before .before .before .before .before .before .before .before .before .before .before .wide3 .ensures .0)) (c .before .before .before .before .before .before .before .before .before .before .before .before .before .match-pattern2 .ensures)) _ (c .before .before .before .before .before .before .before .before .before .before .before .second .given .1) _ (c .before .before .before .before .fill-pattern .result) (fill-by (result-pattern (classOf (c .before .before .before .before .before .before .before .before .before .before .before .before .before .before .before .before .before .before .before .before .before .before .before .before .before .before .before .before .before .before .before .before .before .before .before .before .before .before .before .args .tag)) (c .before .before .before .before .before .before .before .before .before .before .before .before .before .before .before .before .before .before .before .before .before .before .before .before .before .before .before .before .before .before .before .before .before .before .before .before .before .rule-of .result) (c .before .before .before .before .before .before .before .before .before .before .before .before .before .before .before .before .before .before .before .before .before .before .before .before .before .before .before .before .before .before .before .before .before .before .before .before .before .rule-of .ensures .0) _ (c .before .before .before .before .before .before .before .before .wide4 .ensures .0)) (c .before .before .before .before .fill-pattern .ensures)) (c .enum-told4 .given .1) _
+returns-4 c = judge-over (lasted (c .before .before .before .before .before .before .before .before .before .before .before)) (result-pattern (classOf (c .before .before .before .before .before .before .before .before .before .before .before .before .before .before .before .before .before .before .before .before .before .before .before .before .before .before .before .before .before .before .before .before .before .before .before .before .before .before .before .args .tag)) (c .before .before .before .before .before .before .before .before .before .before .before .before .before .before .before .before .before .before .before .before .before .before .before .before .before .before .before .before .before .before .before .before .before .before .before .before .before .rule-of .result) (c .before .before .before .before .before .before .before .before .before .before .before .before .before .before .before .before .before .before .before .before .before .before .before .before .before .before .before .before .before .before .before .before .before .before .before .before .before .rule-of .ensures .0) _ (c .before .before .before .before .before .before .before .before .wide4 .ensures .0)) (c .before .before .before .before .fill-pattern .ensures) (c .enum-told4 .given .1) _
+
+-- and once the result is written out
+done : (c : tie.After-filled) → Done (ruleAt (classOf (c .before .before .before .before .before .before .before .before .before .before .before .before .before .before .before .before .before .before .before .before .before .before .before .before .before .before .before .before .before .before .before .before .before .before .before .before .before .before .before .args .tag))) (c .before .before .before .before .before .before .before .before .before .before .before .before .before .before .before .before .before .before .before .before .before .before .before .before .before .before .before .before .before .before .before .before .before .before .before .before .before .before .before .args .types .now) (c .before .before .before .before .before .before .before .before .before .before .before .before .before .before .before .before .before .before .before .before .before .before .before .before .before .before .before .before .before .before .before .before .before .before .before .before .before .before .before .args .from) (c .before .before .before .before .before .before .before .before .before .before .before .before .before .before .before .before .before .before .before .before .before .before .before .before .before .before .before .before .before .before .before .before .before .before .before .before .before .before .before .args .n) (c .before .before .before .before .fill-pattern .last .1 .1 .0) (c .filled .given .0 .0)
+done c = done-by (lasted (c .before .before .before .before .before .before .before .before .before .before .before)) (result-pattern (classOf (c .before .before .before .before .before .before .before .before .before .before .before .before .before .before .before .before .before .before .before .before .before .before .before .before .before .before .before .before .before .before .before .before .before .before .before .before .before .before .before .args .tag)) (c .before .before .before .before .before .before .before .before .before .before .before .before .before .before .before .before .before .before .before .before .before .before .before .before .before .before .before .before .before .before .before .before .before .before .before .before .before .rule-of .result) (c .before .before .before .before .before .before .before .before .before .before .before .before .before .before .before .before .before .before .before .before .before .before .before .before .before .before .before .before .before .before .before .before .before .before .before .before .before .rule-of .ensures .0) _ (c .before .before .before .before .before .before .before .before .wide4 .ensures .0)) (c .before .before .before .before .fill-pattern .ensures) (c .filled .given .1)
 
 -- src/patterns.rt:264:5
 copy-within-requires : tie.Need-copy-within-requires
-copy-within-requires c κs = copy-pre (ruleAt (classOf (c .before .before .before .before .before .before .before .before .before .before .before .before .before .before .before .before .before .before .before .before .before .before .before .before .before .before .before .before .before .before .before .before .before .before .before .before .before .before .before .before .before .args .tag))) (c .before .before .before .before .before .before .before .before .before .before .before .before .before .before .before .before .before .before .before .before .before .before .before .before .before .before .before .before .before .before .before .before .before .before .before .before .before .before .before .before .before .args .types .now) (c .before .before .before .before .before .before .before .before .before .before .before .before .before .before .before .before .before .before .before .before .before .before .before .before .before .before .before .before .before .before .before .before .before .before .before .before .before .before .before .before .before .args .from) (c .before .before .before .before .before .before .before .before .before .before .before .before .before .before .before .before .before .before .before .before .before .before .before .before .before .before .before .before .before .before .before .before .before .before .before .before .before .before .before .before .before .args .n) _ _ _ _ (record { from = refl; to = refl }) (c .before .before .before .before .before .before .before .before .before .before .before .before .before .before .before .before .before .before .before .before .before .before .before .before .before .before .before .before .before .before .before .before .before .match-pairs .result) (pairs-by (pair-pattern (classOf (c .before .before .before .before .before .before .before .before .before .before .before .before .before .before .before .before .before .before .before .before .before .before .before .before .before .before .before .before .before .before .before .before .before .before .before .before .before .before .before .before .before .args .tag)) (c .before .before .before .before .before .before .before .before .before .before .before .before .before .before .before .before .before .before .before .before .before .before .before .before .before .before .before .before .before .before .before .before .before .before .before .before .before .before .before .rule-of .result) (c .before .before .before .before .before .before .before .before .before .before .before .before .before .before .before .before .before .before .before .before .before .before .before .before .before .before .before .before .before .before .before .before .before .before .before .before .before .before .before .rule-of .ensures .0) _ (c .before .before .before .before .before .before .before .before .before .before .before .before .before .before .before .before .before .before .before .before .before .before .before .before .before .before .before .before .before .before .before .before .before .before .before .before .before .wide .ensures .0)) (c .before .before .before .before .before .before .before .before .before .before .before .before .before .before .before .before .before .before .before .before .before .before .before .before .before .before .before .before .before .before .before .before .before .match-pairs .ensures)) _ (c .before .before .before .before .before .before .before .before .before .before .before .before .before .before .before .before .before .before .before .before .before .before .before .before .before .before .before .before .before .before .before .pairs .given .1) _ _ (c .before .before .before .before .before .before .before .before .before .before .before .before .before .before .before .before .before .before .before .before .before .before .before .before .match-pattern .result) (match-by (first-pattern (classOf (c .before .before .before .before .before .before .before .before .before .before .before .before .before .before .before .before .before .before .before .before .before .before .before .before .before .before .before .before .before .before .before .before .before .before .before .before .before .before .before .before .before .args .tag)) (c .before .before .before .before .before .before .before .before .before .before .before .before .before .before .before .before .before .before .before .before .before .before .before .before .before .before .before .before .before .before .before .before .before .before .before .before .before .before .before .rule-of .result) (c .before .before .before .before .before .before .before .before .before .before .before .before .before .before .before .before .before .before .before .before .before .before .before .before .before .before .before .before .before .before .before .before .before .before .before .before .before .before .before .rule-of .ensures .0) _ (c .before .before .before .before .before .before .before .before .before .before .before .before .before .before .before .before .before .before .before .before .before .before .before .before .before .before .before .before .wide2 .ensures .0)) (c .before .before .before .before .before .before .before .before .before .before .before .before .before .before .before .before .before .before .before .before .before .before .before .before .match-pattern .ensures)) _ (c .before .before .before .before .before .before .before .before .before .before .before .before .before .before .before .before .before .before .before .before .before .before .first .given .1) _ _ (c .before .before .before .before .before .before .before .before .before .before .before .before .before .before .before .match-pattern2 .result) (match-by (last-pattern (classOf (c .before .before .before .before .before .before .before .before .before .before .before .before .before .before .before .before .before .before .before .before .before .before .before .before .before .before .before .before .before .before .before .before .before .before .before .before .before .before .before .before .before .args .tag)) (c .before .before .before .before .before .before .before .before .before .before .before .before .before .before .before .before .before .before .before .before .before .before .before .before .before .before .before .before .before .before .before .before .before .before .before .before .before .before .before .rule-of .result) (c .before .before .before .before .before .before .before .before .before .before .before .before .before .before .before .before .before .before .before .before .before .before .before .before .before .before .before .before .before .before .before .before .before .before .before .before .before .before .before .rule-of .ensures .0) _ (c .before .before .before .before .before .before .before .before .before .before .before .before .before .before .before .before .before .before .before .wide3 .ensures .0)) (c .before .before .before .before .before .before .before .before .before .before .before .before .before .before .before .match-pattern2 .ensures)) _ (c .before .before .before .before .before .before .before .before .before .before .before .before .before .second .given .1) _ (c .before .before .before .before .before .before .fill-pattern .result) (fill-by (result-pattern (classOf (c .before .before .before .before .before .before .before .before .before .before .before .before .before .before .before .before .before .before .before .before .before .before .before .before .before .before .before .before .before .before .before .before .before .before .before .before .before .before .before .before .before .args .tag)) (c .before .before .before .before .before .before .before .before .before .before .before .before .before .before .before .before .before .before .before .before .before .before .before .before .before .before .before .before .before .before .before .before .before .before .before .before .before .before .before .rule-of .result) (c .before .before .before .before .before .before .before .before .before .before .before .before .before .before .before .before .before .before .before .before .before .before .before .before .before .before .before .before .before .before .before .before .before .before .before .before .before .before .before .rule-of .ensures .0) _ (c .before .before .before .before .before .before .before .before .before .before .wide4 .ensures .0)) (c .before .before .before .before .before .before .fill-pattern .ensures)) _ (c .before .before .filled .given .1) (c .before .before .before .before .before .before .before .before .before .before .before .before .before .before .before .before .before .before .before .before .before .before .before .before .before .before .before .before .before .before .before .before .before .before .before .before .before .before .before .before .before .pre)
+copy-within-requires c κs = copy-pre (done (c .before .before)) (c .before .before .before .before .before .before .before .before .before .before .before .before .before .before .before .before .before .before .before .before .before .before .before .before .before .before .before .before .before .before .before .before .before .before .before .before .before .before .before .before .before .pre)
 
 -- src/patterns.rt:265:23
 sub-t18 : tie.Need-sub-t18
-sub-t18 c = copy-pre (ruleAt (classOf (c .before .before .before .before .before .before .before .before .before .before .before .before .before .before .before .before .before .before .before .before .before .before .before .before .before .before .before .before .before .before .before .before .before .before .before .before .before .before .before .before .before .before .before .before .args .tag))) (c .before .before .before .before .before .before .before .before .before .before .before .before .before .before .before .before .before .before .before .before .before .before .before .before .before .before .before .before .before .before .before .before .before .before .before .before .before .before .before .before .before .before .before .before .args .types .now) (c .before .before .before .before .before .before .before .before .before .before .before .before .before .before .before .before .before .before .before .before .before .before .before .before .before .before .before .before .before .before .before .before .before .before .before .before .before .before .before .before .before .before .before .before .args .from) (c .before .before .before .before .before .before .before .before .before .before .before .before .before .before .before .before .before .before .before .before .before .before .before .before .before .before .before .before .before .before .before .before .before .before .before .before .before .before .before .before .before .before .before .before .args .n) _ _ _ _ (record { from = refl; to = refl }) (c .before .before .before .before .before .before .before .before .before .before .before .before .before .before .before .before .before .before .before .before .before .before .before .before .before .before .before .before .before .before .before .before .before .before .before .before .match-pairs .result) (pairs-by (pair-pattern (classOf (c .before .before .before .before .before .before .before .before .before .before .before .before .before .before .before .before .before .before .before .before .before .before .before .before .before .before .before .before .before .before .before .before .before .before .before .before .before .before .before .before .before .before .before .before .args .tag)) (c .before .before .before .before .before .before .before .before .before .before .before .before .before .before .before .before .before .before .before .before .before .before .before .before .before .before .before .before .before .before .before .before .before .before .before .before .before .before .before .before .before .before .rule-of .result) (c .before .before .before .before .before .before .before .before .before .before .before .before .before .before .before .before .before .before .before .before .before .before .before .before .before .before .before .before .before .before .before .before .before .before .before .before .before .before .before .before .before .before .rule-of .ensures .0) _ (c .before .before .before .before .before .before .before .before .before .before .before .before .before .before .before .before .before .before .before .before .before .before .before .before .before .before .before .before .before .before .before .before .before .before .before .before .before .before .before .before .wide .ensures .0)) (c .before .before .before .before .before .before .before .before .before .before .before .before .before .before .before .before .before .before .before .before .before .before .before .before .before .before .before .before .before .before .before .before .before .before .before .before .match-pairs .ensures)) _ (c .before .before .before .before .before .before .before .before .before .before .before .before .before .before .before .before .before .before .before .before .before .before .before .before .before .before .before .before .before .before .before .before .before .before .pairs .given .1) _ _ (c .before .before .before .before .before .before .before .before .before .before .before .before .before .before .before .before .before .before .before .before .before .before .before .before .before .before .before .match-pattern .result) (match-by (first-pattern (classOf (c .before .before .before .before .before .before .before .before .before .before .before .before .before .before .before .before .before .before .before .before .before .before .before .before .before .before .before .before .before .before .before .before .before .before .before .before .before .before .before .before .before .before .before .before .args .tag)) (c .before .before .before .before .before .before .before .before .before .before .before .before .before .before .before .before .before .before .before .before .before .before .before .before .before .before .before .before .before .before .before .before .before .before .before .before .before .before .before .before .before .before .rule-of .result) (c .before .before .before .before .before .before .before .before .before .before .before .before .before .before .before .before .before .before .before .before .before .before .before .before .before .before .before .before .before .before .before .before .before .before .before .before .before .before .before .before .before .before .rule-of .ensures .0) _ (c .before .before .before .before .before .before .before .before .before .before .before .before .before .before .before .before .before .before .before .before .before .before .before .before .before .before .before .before .before .before .before .wide2 .ensures .0)) (c .before .before .before .before .before .before .before .before .before .before .before .before .before .before .before .before .before .before .before .before .before .before .before .before .before .before .before .match-pattern .ensures)) _ (c .before .before .before .before .before .before .before .before .before .before .before .before .before .before .before .before .before .before .before .before .before .before .before .before .before .first .given .1) _ _ (c .before .before .before .before .before .before .before .before .before .before .before .before .before .before .before .before .before .before .match-pattern2 .result) (match-by (last-pattern (classOf (c .before .before .before .before .before .before .before .before .before .before .before .before .before .before .before .before .before .before .before .before .before .before .before .before .before .before .before .before .before .before .before .before .before .before .before .before .before .before .before .before .before .before .before .before .args .tag)) (c .before .before .before .before .before .before .before .before .before .before .before .before .before .before .before .before .before .before .before .before .before .before .before .before .before .before .before .before .before .before .before .before .before .before .before .before .before .before .before .before .before .before .rule-of .result) (c .before .before .before .before .before .before .before .before .before .before .before .before .before .before .before .before .before .before .before .before .before .before .before .before .before .before .before .before .before .before .before .before .before .before .before .before .before .before .before .before .before .before .rule-of .ensures .0) _ (c .before .before .before .before .before .before .before .before .before .before .before .before .before .before .before .before .before .before .before .before .before .before .wide3 .ensures .0)) (c .before .before .before .before .before .before .before .before .before .before .before .before .before .before .before .before .before .before .match-pattern2 .ensures)) _ (c .before .before .before .before .before .before .before .before .before .before .before .before .before .before .before .before .second .given .1) _ (c .before .before .before .before .before .before .before .before .before .fill-pattern .result) (fill-by (result-pattern (classOf (c .before .before .before .before .before .before .before .before .before .before .before .before .before .before .before .before .before .before .before .before .before .before .before .before .before .before .before .before .before .before .before .before .before .before .before .before .before .before .before .before .before .before .before .before .args .tag)) (c .before .before .before .before .before .before .before .before .before .before .before .before .before .before .before .before .before .before .before .before .before .before .before .before .before .before .before .before .before .before .before .before .before .before .before .before .before .before .before .before .before .before .rule-of .result) (c .before .before .before .before .before .before .before .before .before .before .before .before .before .before .before .before .before .before .before .before .before .before .before .before .before .before .before .before .before .before .before .before .before .before .before .before .before .before .before .before .before .before .rule-of .ensures .0) _ (c .before .before .before .before .before .before .before .before .before .before .before .before .before .wide4 .ensures .0)) (c .before .before .before .before .before .before .before .before .before .fill-pattern .ensures)) _ (c .before .before .before .before .before .filled .given .1) (c .before .before .before .before .before .before .before .before .before .before .before .before .before .before .before .before .before .before .before .before .before .before .before .before .before .before .before .before .before .before .before .before .before .before .before .before .before .before .before .before .before .before .before .before .pre) .0
+sub-t18 c = copy-pre (done (c .before .before .before .before .before)) (c .before .before .before .before .before .before .before .before .before .before .before .before .before .before .before .before .before .before .before .before .before .before .before .before .before .before .before .before .before .before .before .before .before .before .before .before .before .before .before .before .before .before .before .before .pre) .0
 
 -- src/patterns.rt:265:15
 add-t32 : tie.Need-add-t32
-add-t32 c = let p = copy-pre (ruleAt (classOf (c .before .before .before .before .before .before .before .before .before .before .before .before .before .before .before .before .before .before .before .before .before .before .before .before .before .before .before .before .before .before .before .before .before .before .before .before .before .before .before .before .before .before .before .before .args .tag))) (c .before .before .before .before .before .before .before .before .before .before .before .before .before .before .before .before .before .before .before .before .before .before .before .before .before .before .before .before .before .before .before .before .before .before .before .before .before .before .before .before .before .before .before .before .args .types .now) (c .before .before .before .before .before .before .before .before .before .before .before .before .before .before .before .before .before .before .before .before .before .before .before .before .before .before .before .before .before .before .before .before .before .before .before .before .before .before .before .before .before .before .before .before .args .from) (c .before .before .before .before .before .before .before .before .before .before .before .before .before .before .before .before .before .before .before .before .before .before .before .before .before .before .before .before .before .before .before .before .before .before .before .before .before .before .before .before .before .before .before .before .args .n) _ _ _ _ (record { from = refl; to = refl }) (c .before .before .before .before .before .before .before .before .before .before .before .before .before .before .before .before .before .before .before .before .before .before .before .before .before .before .before .before .before .before .before .before .before .before .before .before .match-pairs .result) (pairs-by (pair-pattern (classOf (c .before .before .before .before .before .before .before .before .before .before .before .before .before .before .before .before .before .before .before .before .before .before .before .before .before .before .before .before .before .before .before .before .before .before .before .before .before .before .before .before .before .before .before .before .args .tag)) (c .before .before .before .before .before .before .before .before .before .before .before .before .before .before .before .before .before .before .before .before .before .before .before .before .before .before .before .before .before .before .before .before .before .before .before .before .before .before .before .before .before .before .rule-of .result) (c .before .before .before .before .before .before .before .before .before .before .before .before .before .before .before .before .before .before .before .before .before .before .before .before .before .before .before .before .before .before .before .before .before .before .before .before .before .before .before .before .before .before .rule-of .ensures .0) _ (c .before .before .before .before .before .before .before .before .before .before .before .before .before .before .before .before .before .before .before .before .before .before .before .before .before .before .before .before .before .before .before .before .before .before .before .before .before .before .before .before .wide .ensures .0)) (c .before .before .before .before .before .before .before .before .before .before .before .before .before .before .before .before .before .before .before .before .before .before .before .before .before .before .before .before .before .before .before .before .before .before .before .before .match-pairs .ensures)) _ (c .before .before .before .before .before .before .before .before .before .before .before .before .before .before .before .before .before .before .before .before .before .before .before .before .before .before .before .before .before .before .before .before .before .before .pairs .given .1) _ _ (c .before .before .before .before .before .before .before .before .before .before .before .before .before .before .before .before .before .before .before .before .before .before .before .before .before .before .before .match-pattern .result) (match-by (first-pattern (classOf (c .before .before .before .before .before .before .before .before .before .before .before .before .before .before .before .before .before .before .before .before .before .before .before .before .before .before .before .before .before .before .before .before .before .before .before .before .before .before .before .before .before .before .before .before .args .tag)) (c .before .before .before .before .before .before .before .before .before .before .before .before .before .before .before .before .before .before .before .before .before .before .before .before .before .before .before .before .before .before .before .before .before .before .before .before .before .before .before .before .before .before .rule-of .result) (c .before .before .before .before .before .before .before .before .before .before .before .before .before .before .before .before .before .before .before .before .before .before .before .before .before .before .before .before .before .before .before .before .before .before .before .before .before .before .before .before .before .before .rule-of .ensures .0) _ (c .before .before .before .before .before .before .before .before .before .before .before .before .before .before .before .before .before .before .before .before .before .before .before .before .before .before .before .before .before .before .before .wide2 .ensures .0)) (c .before .before .before .before .before .before .before .before .before .before .before .before .before .before .before .before .before .before .before .before .before .before .before .before .before .before .before .match-pattern .ensures)) _ (c .before .before .before .before .before .before .before .before .before .before .before .before .before .before .before .before .before .before .before .before .before .before .before .before .before .first .given .1) _ _ (c .before .before .before .before .before .before .before .before .before .before .before .before .before .before .before .before .before .before .match-pattern2 .result) (match-by (last-pattern (classOf (c .before .before .before .before .before .before .before .before .before .before .before .before .before .before .before .before .before .before .before .before .before .before .before .before .before .before .before .before .before .before .before .before .before .before .before .before .before .before .before .before .before .before .before .before .args .tag)) (c .before .before .before .before .before .before .before .before .before .before .before .before .before .before .before .before .before .before .before .before .before .before .before .before .before .before .before .before .before .before .before .before .before .before .before .before .before .before .before .before .before .before .rule-of .result) (c .before .before .before .before .before .before .before .before .before .before .before .before .before .before .before .before .before .before .before .before .before .before .before .before .before .before .before .before .before .before .before .before .before .before .before .before .before .before .before .before .before .before .rule-of .ensures .0) _ (c .before .before .before .before .before .before .before .before .before .before .before .before .before .before .before .before .before .before .before .before .before .before .wide3 .ensures .0)) (c .before .before .before .before .before .before .before .before .before .before .before .before .before .before .before .before .before .before .match-pattern2 .ensures)) _ (c .before .before .before .before .before .before .before .before .before .before .before .before .before .before .before .before .second .given .1) _ (c .before .before .before .before .before .before .before .before .before .fill-pattern .result) (fill-by (result-pattern (classOf (c .before .before .before .before .before .before .before .before .before .before .before .before .before .before .before .before .before .before .before .before .before .before .before .before .before .before .before .before .before .before .before .before .before .before .before .before .before .before .before .before .before .before .before .before .args .tag)) (c .before .before .before .before .before .before .before .before .before .before .before .before .before .before .before .before .before .before .before .before .before .before .before .before .before .before .before .before .before .before .before .before .before .before .before .before .before .before .before .before .before .before .rule-of .result) (c .before .before .before .before .before .before .before .before .before .before .before .before .before .before .before .before .before .before .before .before .before .before .before .before .before .before .before .before .before .before .before .before .before .before .before .before .before .before .before .before .before .before .rule-of .ensures .0) _ (c .before .before .before .before .before .before .before .before .before .before .before .before .before .wide4 .ensures .0)) (c .before .before .before .before .before .before .before .before .before .fill-pattern .ensures)) _ (c .before .before .before .before .before .filled .given .1) (c .before .before .before .before .before .before .before .before .before .before .before .before .before .before .before .before .before .before .before .before .before .before .before .before .before .before .before .before .before .before .before .before .before .before .before .before .before .before .before .before .before .before .before .before .pre) in omega (arith, c .before .before .before .before .before .before .before .before .before .before .before .before .before .before .before .before .before .before .before .before .before .before .before .before .before .before .before .before .before .before .before .before .before .before .before .before .before .before .before .before .before .before .before .before .good, c .before .before .before .before .before .before .before .before .before .before .before .before .before .before .before .before .before .before .before .before .before .before .before .before .before .before .before .before .before .before .before .before .before .before .before .before .before .before .before .before .before .before .before .before .pre .row .span .long, c .before .before .before .before .before .before .before .before .before .before .before .before .before .before .before .before .before .before .before .before .before .before .before .before .before .before .before .before .before .before .before .before .before .before .before .before .before .before .before .before .before .before .before .before .pre .room, p .1, p .2)
+add-t32 c = let p = copy-pre (done (c .before .before .before .before .before)) (c .before .before .before .before .before .before .before .before .before .before .before .before .before .before .before .before .before .before .before .before .before .before .before .before .before .before .before .before .before .before .before .before .before .before .before .before .before .before .before .before .before .before .before .before .pre) in omega (arith, c .before .before .before .before .before .before .before .before .before .before .before .before .before .before .before .before .before .before .before .before .before .before .before .before .before .before .before .before .before .before .before .before .before .before .before .before .before .before .before .before .before .before .before .before .good, c .before .before .before .before .before .before .before .before .before .before .before .before .before .before .before .before .before .before .before .before .before .before .before .before .before .before .before .before .before .before .before .before .before .before .before .before .before .before .before .before .before .before .before .before .pre .row .span .long, c .before .before .before .before .before .before .before .before .before .before .before .before .before .before .before .before .before .before .before .before .before .before .before .before .before .before .before .before .before .before .before .before .before .before .before .before .before .before .before .before .before .before .before .before .pre .room, p .1, p .2)
 
 -- src/patterns.rt:205:1
 same-length-5 : tie.Need-same-length-5
@@ -187,7 +201,7 @@ same-length-5 c = search needs
 
 -- src/patterns.rt:205:1
 returns-5 : tie.Need-returns-5
-returns-5 c = judge-typed (ruleAt (classOf (c .before .before .before .before .before .before .before .before .before .before .before .before .before .before .before .before .before .before .before .before .before .before .before .before .before .before .before .before .before .before .before .before .before .before .before .before .before .before .before .before .before .before .before .before .args .tag))) (c .before .before .before .before .before .before .before .before .before .before .before .before .before .before .before .before .before .before .before .before .before .before .before .before .before .before .before .before .before .before .before .before .before .before .before .before .before .before .before .before .before .before .before .before .args .types .now) (c .before .before .before .before .before .before .before .before .before .before .before .before .before .before .before .before .before .before .before .before .before .before .before .before .before .before .before .before .before .before .before .before .before .before .before .before .before .before .before .before .before .before .before .before .args .from) (c .before .before .before .before .before .before .before .before .before .before .before .before .before .before .before .before .before .before .before .before .before .before .before .before .before .before .before .before .before .before .before .before .before .before .before .before .before .before .before .before .before .before .before .before .args .n) _ _ _ _ (record { from = refl; to = refl }) (c .before .before .before .before .before .before .before .before .before .before .before .before .before .before .before .before .before .before .before .before .before .before .before .before .before .before .before .before .before .before .before .before .before .before .before .before .match-pairs .result) (pairs-by (pair-pattern (classOf (c .before .before .before .before .before .before .before .before .before .before .before .before .before .before .before .before .before .before .before .before .before .before .before .before .before .before .before .before .before .before .before .before .before .before .before .before .before .before .before .before .before .before .before .before .args .tag)) (c .before .before .before .before .before .before .before .before .before .before .before .before .before .before .before .before .before .before .before .before .before .before .before .before .before .before .before .before .before .before .before .before .before .before .before .before .before .before .before .before .before .before .rule-of .result) (c .before .before .before .before .before .before .before .before .before .before .before .before .before .before .before .before .before .before .before .before .before .before .before .before .before .before .before .before .before .before .before .before .before .before .before .before .before .before .before .before .before .before .rule-of .ensures .0) _ (c .before .before .before .before .before .before .before .before .before .before .before .before .before .before .before .before .before .before .before .before .before .before .before .before .before .before .before .before .before .before .before .before .before .before .before .before .before .before .before .before .wide .ensures .0)) (c .before .before .before .before .before .before .before .before .before .before .before .before .before .before .before .before .before .before .before .before .before .before .before .before .before .before .before .before .before .before .before .before .before .before .before .before .match-pairs .ensures)) _ (c .before .before .before .before .before .before .before .before .before .before .before .before .before .before .before .before .before .before .before .before .before .before .before .before .before .before .before .before .before .before .before .before .before .before .pairs .given .1) _ _ (c .before .before .before .before .before .before .before .before .before .before .before .before .before .before .before .before .before .before .before .before .before .before .before .before .before .before .before .match-pattern .result) (match-by (first-pattern (classOf (c .before .before .before .before .before .before .before .before .before .before .before .before .before .before .before .before .before .before .before .before .before .before .before .before .before .before .before .before .before .before .before .before .before .before .before .before .before .before .before .before .before .before .before .before .args .tag)) (c .before .before .before .before .before .before .before .before .before .before .before .before .before .before .before .before .before .before .before .before .before .before .before .before .before .before .before .before .before .before .before .before .before .before .before .before .before .before .before .before .before .before .rule-of .result) (c .before .before .before .before .before .before .before .before .before .before .before .before .before .before .before .before .before .before .before .before .before .before .before .before .before .before .before .before .before .before .before .before .before .before .before .before .before .before .before .before .before .before .rule-of .ensures .0) _ (c .before .before .before .before .before .before .before .before .before .before .before .before .before .before .before .before .before .before .before .before .before .before .before .before .before .before .before .before .before .before .before .wide2 .ensures .0)) (c .before .before .before .before .before .before .before .before .before .before .before .before .before .before .before .before .before .before .before .before .before .before .before .before .before .before .before .match-pattern .ensures)) _ (c .before .before .before .before .before .before .before .before .before .before .before .before .before .before .before .before .before .before .before .before .before .before .before .before .before .first .given .1) _ _ (c .before .before .before .before .before .before .before .before .before .before .before .before .before .before .before .before .before .before .match-pattern2 .result) (match-by (last-pattern (classOf (c .before .before .before .before .before .before .before .before .before .before .before .before .before .before .before .before .before .before .before .before .before .before .before .before .before .before .before .before .before .before .before .before .before .before .before .before .before .before .before .before .before .before .before .before .args .tag)) (c .before .before .before .before .before .before .before .before .before .before .before .before .before .before .before .before .before .before .before .before .before .before .before .before .before .before .before .before .before .before .before .before .before .before .before .before .before .before .before .before .before .before .rule-of .result) (c .before .before .before .before .before .before .before .before .before .before .before .before .before .before .before .before .before .before .before .before .before .before .before .before .before .before .before .before .before .before .before .before .before .before .before .before .before .before .before .before .before .before .rule-of .ensures .0) _ (c .before .before .before .before .before .before .before .before .before .before .before .before .before .before .before .before .before .before .before .before .before .before .wide3 .ensures .0)) (c .before .before .before .before .before .before .before .before .before .before .before .before .before .before .before .before .before .before .match-pattern2 .ensures)) _ (c .before .before .before .before .before .before .before .before .before .before .before .before .before .before .before .before .second .given .1) _ (c .before .before .before .before .before .before .before .before .before .fill-pattern .result) (fill-by (result-pattern (classOf (c .before .before .before .before .before .before .before .before .before .before .before .before .before .before .before .before .before .before .before .before .before .before .before .before .before .before .before .before .before .before .before .before .before .before .before .before .before .before .before .before .before .before .before .before .args .tag)) (c .before .before .before .before .before .before .before .before .before .before .before .before .before .before .before .before .before .before .before .before .before .before .before .before .before .before .before .before .before .before .before .before .before .before .before .before .before .before .before .before .before .before .rule-of .result) (c .before .before .before .before .before .before .before .before .before .before .before .before .before .before .before .before .before .before .before .before .before .before .before .before .before .before .before .before .before .before .before .before .before .before .before .before .before .before .before .before .before .before .rule-of .ensures .0) _ (c .before .before .before .before .before .before .before .before .before .before .before .before .before .wide4 .ensures .0)) (c .before .before .before .before .before .before .before .before .before .fill-pattern .ensures)) _ (c .before .before .before .before .before .filled .given .1) _ (c .before .before .copy-within .ensures)
+returns-5 c = judge-typed (done (c .before .before .before .before .before)) _ (c .before .before .copy-within .ensures)
 
 pub judge-types-spec : {M : Type 1} → statement M
 judge-types-spec =
