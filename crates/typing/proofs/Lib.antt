@@ -28,5 +28,6 @@ pub mod OwnTurns
 pub mod OpenTurns
 pub mod StackBelow
 pub mod StackTurns
+pub mod StepTurns
 pub mod TreeTurns
 pub mod BufferLaws
