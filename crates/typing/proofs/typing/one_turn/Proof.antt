@@ -1,3 +1,5 @@
+use Rattle.typing.proofs.StepTurns.{step-judge, step-close, step-space, step-pre, step-bad, step-open}
+use native.Mathlib.Omega.{arith}
 use borrow.Author.Needs.{needs}
 use Rattle.typing.proofs.typing.one_turn.Statement.{statement}
 use Rattle.typing.proofs.typing.one_turn.Tie as tie
@@ -9,7 +11,7 @@ use Rattle.typing.proofs.typing.wide16.Reads as wide16-reads
 
 -- src/typing.rt:164:9
 close-top-requires : tie.Need-close-top-requires
-close-top-requires c κs = ?
+close-top-requires c κs = step-judge (c .before .before .before .before .before .args .node) (c .before .before .before .before .before .args .s .now) (c .before .before .before .before .before .args .leaves .now) (c .before .before .before .before .before .args .types .now) (c .before .before .before .before .before .args .state) (c .before .before .before .before .before .pre)
 
 -- src/typing.rt:164:9
 same-length : tie.Need-same-length
@@ -17,15 +19,15 @@ same-length c = search needs
 
 -- src/typing.rt:164:9
 returns : tie.Need-returns
-returns c = ?
+returns c = step-close (c .before .before .before .before .before .before .before .before .args .node) (c .before .before .before .before .before .before .before .before .args .s .now) (c .before .before .before .before .before .before .before .before .args .leaves .now) (c .before .before .before .before .before .before .before .before .args .types .now) (c .before .before .before .before .before .before .before .before .args .state) (c .before .before .before .before .before .before .before .before .pre) (c .before .before .before .before .if1 .taken) _ (λ i. c .slice-known2 .given i .fits) _ (c .before .before .close-top .ensures)
 
 -- src/typing.rt:168:23
 mul-wide16 : tie.Need-mul-wide16
-mul-wide16 c = ?
+mul-wide16 c = omega (arith, step-space (c .before .before .before .before .args .node) (c .before .before .before .before .args .s .now) (c .before .before .before .before .args .leaves .now) (c .before .before .before .before .args .types .now) (c .before .before .before .before .args .state) (λ i. c .before .before .before .shared-slice-known .given i .fits) (c .before .before .before .before .pre) (c .if1 .left) .1)
 
 -- src/typing.rt:168:23
 element-copy-out-wide16 : tie.Need-element-copy-out-wide16
-element-copy-out-wide16 c = ?
+element-copy-out-wide16 c = step-space (c .before .before .before .before .args .node) (c .before .before .before .before .args .s .now) (c .before .before .before .before .args .leaves .now) (c .before .before .before .before .args .types .now) (c .before .before .before .before .args .state) (λ i. c .before .before .before .shared-slice-known .given i .fits) (c .before .before .before .before .pre) (c .if1 .left) .1
 
 -- src/typing.rt:168:9
 wide16-requires : tie.Need-wide16-requires
@@ -33,7 +35,7 @@ wide16-requires c κs = search needs
 
 -- src/typing.rt:169:9
 open-node-requires : tie.Need-open-node-requires
-open-node-requires c κs = ?
+open-node-requires c κs = step-pre (c .before .before .before .before .before .before .before .args .node) (c .before .before .before .before .before .before .before .args .s .now) (c .before .before .before .before .before .before .before .args .leaves .now) (c .before .before .before .before .before .before .before .args .types .now) (c .before .before .before .before .before .before .before .args .state) (λ i. c .before .before .before .before .before .before .shared-slice-known .given i .fits) (c .before .before .before .before .before .before .before .pre) (c .before .before .before .if1 .left) _ (c .before .wide16 .ensures)
 
 -- src/typing.rt:171:37
 enum-told : tie.Need-enum-told
@@ -49,11 +51,11 @@ sub-t26 c = search needs
 
 -- src/typing.rt:180:24
 add-t26 : tie.Need-add-t26
-add-t26 c = ?
+add-t26 c = omega (arith, step-space (c .before .before .before .before .before .before .before .before .before .before .before .before .before .before .args .node) (c .before .before .before .before .before .before .before .before .before .before .before .before .before .before .args .s .now) (c .before .before .before .before .before .before .before .before .before .before .before .before .before .before .args .leaves .now) (c .before .before .before .before .before .before .before .before .before .before .before .before .before .before .args .types .now) (c .before .before .before .before .before .before .before .before .before .before .before .before .before .before .args .state) (λ i. c .before .before .before .before .before .before .before .before .before .before .before .before .before .shared-slice-known .given i .fits) (c .before .before .before .before .before .before .before .before .before .before .before .before .before .before .pre) (c .before .before .before .before .before .before .before .before .before .before .if1 .left) .1)
 
 -- src/typing.rt:182:22
 add-t27 : tie.Need-add-t27
-add-t27 c = ?
+add-t27 c = omega (arith, step-space (c .before .before .before .before .before .before .before .before .before .before .before .before .before .before .before .args .node) (c .before .before .before .before .before .before .before .before .before .before .before .before .before .before .before .args .s .now) (c .before .before .before .before .before .before .before .before .before .before .before .before .before .before .before .args .leaves .now) (c .before .before .before .before .before .before .before .before .before .before .before .before .before .before .before .args .types .now) (c .before .before .before .before .before .before .before .before .before .before .before .before .before .before .before .args .state) (λ i. c .before .before .before .before .before .before .before .before .before .before .before .before .before .before .shared-slice-known .given i .fits) (c .before .before .before .before .before .before .before .before .before .before .before .before .before .before .before .pre) (c .before .before .before .before .before .before .before .before .before .before .before .if1 .left) .0)
 
 -- src/typing.rt:153:1
 same-length-2 : tie.Need-same-length-2
@@ -61,7 +63,7 @@ same-length-2 c = search needs
 
 -- src/typing.rt:153:1
 returns-2 : tie.Need-returns-2
-returns-2 c = ?
+returns-2 c = step-bad (c .before .before .before .before .before .before .before .before .before .before .before .before .args .node) (c .before .before .before .before .before .before .before .before .before .before .before .before .args .s .now) (c .before .before .before .before .before .before .before .before .before .before .before .before .args .leaves .now) (c .before .before .before .before .before .before .before .before .before .before .before .before .args .types .now) (c .before .before .before .before .before .before .before .before .before .before .before .before .args .state) (λ i. c .before .before .before .before .before .before .before .before .before .before .before .shared-slice-known .given i .fits) (c .before .before .before .before .before .before .before .before .before .before .before .before .pre) (c .before .before .before .before .before .before .before .before .if1 .left) _ (c .before .before .before .before .before .before .wide16 .ensures) _ (c .before .before .before .before .open-node .result) (c .before .before .before .before .open-node .ensures) (c .enum-told .given .1)
 
 -- src/typing.rt:153:1
 same-length-3 : tie.Need-same-length-3
@@ -69,7 +71,7 @@ same-length-3 c = search needs
 
 -- src/typing.rt:153:1
 returns-3 : tie.Need-returns-3
-returns-3 c = ?
+returns-3 c = step-open (c .before .before .before .before .before .before .before .before .before .before .before .before .before .before .before .args .node) (c .before .before .before .before .before .before .before .before .before .before .before .before .before .before .before .args .s .now) (c .before .before .before .before .before .before .before .before .before .before .before .before .before .before .before .args .leaves .now) (c .before .before .before .before .before .before .before .before .before .before .before .before .before .before .before .args .types .now) (c .before .before .before .before .before .before .before .before .before .before .before .before .before .before .before .args .state) (λ i. c .before .before .before .before .before .before .before .before .before .before .before .before .before .before .shared-slice-known .given i .fits) (c .before .before .before .before .before .before .before .before .before .before .before .before .before .before .before .pre) (c .before .before .before .before .before .before .before .before .before .before .before .if1 .left) _ (c .before .before .before .before .before .before .before .before .before .wide16 .ensures) _ (c .before .before .before .before .before .before .before .open-node .result) (c .before .before .before .before .before .before .before .open-node .ensures) _ _ _ (c .before .before .before .o .given .1)
 
 pub one-turn-spec : {M : Type 1} → statement M
 one-turn-spec =
