@@ -29,5 +29,6 @@ pub mod OpenTurns
 pub mod StackBelow
 pub mod StackTurns
 pub mod StepTurns
+pub mod Again
 pub mod TreeTurns
 pub mod BufferLaws
