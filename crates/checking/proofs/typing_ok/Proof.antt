@@ -15,7 +15,7 @@ slice-aggregate-type-tree c = search needs
 
 -- src/lib.rt:28:9
 type-tree-requires : tie.Need-type-tree-requires
-type-tree-requires c κs = type-pre _ _ _ _ _ _ (λ i. c .before .before .before .before .shared-slice-known .given i .fits) (c .before .before .before .before .before .pre) refl refl refl refl
+type-tree-requires c κs = type-pre _ _ _ (λ i. c .before .before .before .before .shared-slice-known .given i .fits) (c .before .before .before .before .before .pre) refl
 
 -- src/lib.rt:39:19
 enum-known-a : tie.Need-enum-known-a

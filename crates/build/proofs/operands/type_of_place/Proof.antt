@@ -20,7 +20,7 @@ slice-aggregate-type-tree c = search needs
 
 -- src/operands.rt:42:9
 type-tree-requires : tie.Need-type-tree-requires
-type-tree-requires c κs = type-of-pre _ _ _ _ _ _ (c .before .before .before .before .before .before .before .pre) _ (c .before .before .before .before .start-at .ensures .0) _ _ _ _ refl refl refl refl
+type-tree-requires c κs = type-of-pre _ _ _ _ _ _ (c .before .before .before .before .before .before .before .pre) _ (c .before .before .before .before .start-at .ensures .0) _ refl
 
 -- src/operands.rt:53:19
 enum-known-a : tie.Need-enum-known-a

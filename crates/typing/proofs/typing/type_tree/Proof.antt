@@ -1,3 +1,5 @@
+use Rattle.typing.proofs.TreeTurns.{type-place, tree-open, tree-bad, tree-turns, tree-ends}
+use native.Mathlib.Omega.{arith}
 use borrow.Author.Needs.{needs}
 use Rattle.typing.proofs.typing.type_tree.Statement.{statement}
 use Rattle.typing.proofs.typing.type_tree.Tie as tie
@@ -13,7 +15,7 @@ mul-wide16 c = search needs
 
 -- src/typing.rt:246:23
 element-copy-out-wide16 : tie.Need-element-copy-out-wide16
-element-copy-out-wide16 c = ?
+element-copy-out-wide16 c = type-place (c .before .before .args .s .now) (c .before .before .args .at) (c .before .before .args .place) (c .before .before .args .leaves .now) (c .before .before .pre)
 
 -- src/typing.rt:246:9
 wide16-requires : tie.Need-wide16-requires
@@ -21,7 +23,7 @@ wide16-requires c κs = search needs
 
 -- src/typing.rt:247:9
 open-node-requires : tie.Need-open-node-requires
-open-node-requires c κs = ?
+open-node-requires c κs = tree-open (c .before .before .before .before .before .args .s .now) (c .before .before .before .before .before .args .at) (c .before .before .before .before .before .args .place) (c .before .before .before .before .before .args .leaves .now) (c .before .before .before .before .before .pre) _ (c .before .wide16 .ensures)
 
 -- src/typing.rt:248:20
 enum-known-o : tie.Need-enum-known-o
@@ -37,7 +39,7 @@ same-length c = search needs
 
 -- src/typing.rt:249:9
 returns : tie.Need-returns
-returns c = ?
+returns c = tree-bad (c .before .before .before .before .before .before .before .before .before .before .args .s .now) (c .before .before .before .before .before .before .before .before .before .before .args .at) (c .before .before .before .before .before .before .before .before .before .before .args .place) (c .before .before .before .before .before .before .before .before .before .before .args .leaves .now) (c .before .before .before .before .before .before .before .before .before .before .args .types .now) _ (c .before .before .before .before .before .before .wide16 .ensures) _ (c .before .before .before .before .open-node .result) (c .before .before .before .before .open-node .ensures) (c .enum-told .given .1)
 
 -- src/typing.rt:253:16
 add-t12 : tie.Need-add-t12
@@ -45,7 +47,7 @@ add-t12 c = search needs
 
 -- src/typing.rt:257:5
 lent-turns-requires : tie.Need-lent-turns-requires
-lent-turns-requires c κs = ?
+lent-turns-requires c κs = tree-turns (c .before .before .before .before .before .before .before .before .before .before .before .before .args .s .now) (c .before .before .before .before .before .before .before .before .before .before .before .before .args .at) (c .before .before .before .before .before .before .before .before .before .before .before .before .args .place) (c .before .before .before .before .before .before .before .before .before .before .before .before .args .leaves .now) (c .before .before .before .before .before .before .before .before .before .before .before .before .args .types .now) _ (c .before .before .before .before .before .before .before .before .wide16 .ensures) _ (c .before .before .before .before .before .before .open-node .result) (c .before .before .before .before .before .before .open-node .ensures) (c .before .before .before .before .before .before .before .before .before .before .before .before .pre .frame) _ _ _ (c .before .before .o .given .1) (c .before .before .before .before .before .before .before .before .before .before .before .before .pre)
 
 -- src/typing.rt:242:1
 same-length-2 : tie.Need-same-length-2
@@ -53,7 +55,7 @@ same-length-2 c = search needs
 
 -- src/typing.rt:242:1
 returns-2 : tie.Need-returns-2
-returns-2 c = ?
+returns-2 c = tree-ends (c .before .before .before .before .before .before .before .before .before .before .before .before .before .before .before .args .s .now) (c .before .before .before .before .before .before .before .before .before .before .before .before .before .before .before .args .at) (c .before .before .before .before .before .before .before .before .before .before .before .before .before .before .before .args .place) (c .before .before .before .before .before .before .before .before .before .before .before .before .before .before .before .args .leaves .now) (c .before .before .before .before .before .before .before .before .before .before .before .before .before .before .before .args .types .now) _ (c .before .before .before .before .before .before .before .before .before .before .before .wide16 .ensures) _ (c .before .before .before .before .before .before .before .before .before .open-node .result) (c .before .before .before .before .before .before .before .before .before .open-node .ensures) (c .before .before .before .before .before .before .before .before .before .before .before .before .before .before .before .pre .frame) _ _ _ (c .before .before .before .before .before .o .given .1) _ _ (omega arith) (c .before .before .lent-turns .ensures)
 
 pub type-tree-spec : {M : Type 1} → statement M
 type-tree-spec =
