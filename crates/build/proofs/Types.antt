@@ -19,7 +19,7 @@ use Rattle.frame.proofs.Splices.{find-some, find-lt}
 use Rattle.frame.proofs.View.{stands-at}
 use Rattle.typing.specs.Typing.{typeOf, typedTree}
 use Rattle.typing.specs.Buffers.{Copied}
-use Rattle.typing.specs.TypingPosts.{Lent, TypePre, TypePost, Typing}
+use Rattle.typing.specs.TypingPosts.{TypePre, TypePost, Typing}
 use Rattle.typing.specs.declared.patterns.Typed.{Typed}
 use Rattle.typing.specs.declared.patterns.Typed.the-variants as T
 use Rattle.typing.proofs.BufferLaws.{copied-span, span-kept, span-by, span-get}
@@ -56,9 +56,8 @@ module _ (s st leaves : List ℕ) (k : ℕ) where
   pub type-of-few : (types : List ℕ) (to : ℕ) → TypeOfPre s st leaves k types to → k < 2048
   type-of-few types to p = omega (arith, p .below, framed-few s (p .t) st (p .n) (p .held .framed))
 
-  pub type-of-pre : (types : List ℕ) (to : ℕ) → TypeOfPre s st leaves k types to → (at : ℕ) → at ≡ getD st k 0 → (tags lefts froms work : List ℕ)
-      → length tags ≡ 2048 → length lefts ≡ 2048 → length froms ≡ 2048 → length work ≡ 131136 → TypePre s at k leaves tags lefts froms work
-  type-of-pre types to p at ea tags lefts froms work a b c d =
+  pub type-of-pre : (types : List ℕ) (to : ℕ) → TypeOfPre s st leaves k types to → (at : ℕ) → at ≡ getD st k 0 → (work : List ℕ) → length work ≡ 131136 → TypePre s at k leaves work
+  type-of-pre types to p at ea work d =
       let v = find-some (p .t) [] k (p .below) in
       let x = stands (p .n) (p .t) (p .held) (v .0) (v .1) (v .2) in
       let y = few (p .n) (p .t) (p .held) (v .0) (v .1) (v .2) in
@@ -69,7 +68,6 @@ module _ (s st leaves : List ℕ) (k : ℕ) where
         Γ = v .0;
         stands = x .1 .1;
         leafs = held-leaves s st leaves (p .n) (p .t) (p .held) k (v .0) (v .1) (v .2);
-        lent = record { of-tags = a; of-lefts = b; of-froms = c };
         frame = p .held .framed .short;
         places = y .0;
         buffer = rw d (y .1);

@@ -34,21 +34,9 @@ fn type_of_place(
     requires { ⌜ TypeOfPre (now s) (now starts) (now leaves) k (now types) to ⌝ }
     ensures { λ r. ⌜ TypeOfPost (now (s .entry)) (now (starts .entry)) (now (leaves .entry)) k (now (types .entry)) (now (types .exit)) to ⌝ }
 {
-    let mut tags = [0usize; 2048];
-    let mut lefts = [0usize; 2048];
-    let mut froms = [0usize; 2048];
     let mut work = [0u8; 131136];
     let at = start_at(starts, k);
-    let a = type_tree(
-        s,
-        at,
-        k,
-        leaves,
-        &mut tags,
-        &mut lefts,
-        &mut froms,
-        &mut work,
-    );
+    let a = type_tree(s, at, k, leaves, &mut work);
     match a {
         Typed::Is(m) => copy_in(&work, 0, m, types, to),
         Typed::Bad => {}

@@ -23,7 +23,7 @@ use Rattle.typing.specs.Identifiers.{namesAgree}
 use Rattle.typing.specs.Leaves.{LeavesAt}
 use Rattle.typing.specs.Check.{Checked, accepted, refused, checkTree, checkParsed, check}
 use Rattle.typing.proofs.Decides.{check-accepted}
-use Rattle.typing.specs.TypingPosts.{Lent, TypePre, TypePost, Typing}
+use Rattle.typing.specs.TypingPosts.{TypePre, TypePost, Typing}
 use Rattle.typing.specs.declared.patterns.Typed.{Typed}
 use Rattle.typing.specs.declared.patterns.Typed.the-variants as T
 use Rattle.checking.specs.Posts.{checkAnswer, TypedPre, TypedPost, ReadPre, TreePost}
@@ -33,9 +33,8 @@ use Rattle.checking.specs.declared.CheckAnswer.the-variants as A
 few-nodes : (s : List ℕ) → Bytes s → length s ≤ frameLimit → (t : Tree) → IsAt s predicate 0 t (length s) → nodes t ≤ 2048
 few-nodes s bs l t h = omega (arith, nodes-enc t, at-span s bs predicate 0 t (length s) h .long)
 
-pub type-pre : (s leaves tags lefts froms types : List ℕ) → Bytes s → TypedPre s leaves → length tags ≡ 2048 → length lefts ≡ 2048 → length froms ≡ 2048 → length types ≡ 131136
-    → TypePre s 0 0 leaves tags lefts froms types
-type-pre s leaves tags lefts froms types bs p a b c d =
+pub type-pre : (s leaves types : List ℕ) → Bytes s → TypedPre s leaves → length types ≡ 131136 → TypePre s 0 0 leaves types
+type-pre s leaves types bs p d =
     let n = few-nodes s bs (p .fits) (p .whole) (p .stands) in
     record {
       sort = predicate;
@@ -44,7 +43,6 @@ type-pre s leaves tags lefts froms types bs p a b c d =
       Γ = [];
       stands = p .stands;
       leafs = p .leafs;
-      lent = record { of-tags = a; of-lefts = b; of-froms = c };
       frame = p .fits;
       places = omega arith;
       buffer = omega arith;

@@ -22,20 +22,8 @@ fn typing_ok(s: &[u8], leaves: &[u16; 2048]) -> bool
     requires { ⌜ TypedPre (now s) (now leaves) ⌝ }
     ensures { λ r. ⌜ TypedPost (now (s .entry)) (now (leaves .entry)) r ⌝ }
 {
-    let mut tags = [0usize; 2048];
-    let mut lefts = [0usize; 2048];
-    let mut froms = [0usize; 2048];
     let mut types = [0u8; 131136];
-    let a = type_tree(
-        s,
-        0,
-        0,
-        leaves,
-        &mut tags,
-        &mut lefts,
-        &mut froms,
-        &mut types,
-    );
+    let a = type_tree(s, 0, 0, leaves, &mut types);
     match a {
         Typed::Is(_n) => true,
         Typed::Bad => false,

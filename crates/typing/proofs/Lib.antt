@@ -28,5 +28,7 @@ pub mod OwnTurns
 pub mod OpenTurns
 pub mod StackBelow
 pub mod StackTurns
+pub mod StepTurns
+pub mod Again
 pub mod TreeTurns
 pub mod BufferLaws

@@ -36,6 +36,7 @@ use Rattle.typing.specs.TypingPosts.{TreeAt, KidsAt, ownPlace, OwnAt, Ow
 use Rattle.typing.specs.declared.patterns.Typed.{Typed}
 use Rattle.typing.specs.declared.patterns.Typed.the-variants as T
 use Rattle.typing.specs.declared.typing.Opened.{Opened}
+use Rattle.typing.specs.declared.stack.OpenNode.{OpenNode}
 use Rattle.typing.specs.declared.typing.Opened.the-variants as O
 use Rattle.typing.proofs.RuleTables.{carried-own, bound-own}
 use Rattle.typing.proofs.OwnTurns.{type-wf}
@@ -382,7 +383,7 @@ module _ (s : List ℕ) (bs : Bytes s) (at leaf : ℕ) (t₀ l₀ f₀ : List �
     seen : (e : Sort) (t : Tree) (q : ℕ) → TreeAt s e at t q → View s at e t q tag n tp p k
     seen e t q w = view s at e t q w h (at-sort e t q w) tag n tp p k a₁ a₂ hi
 
-    pub open-own : OpenPre s at leaf top o end → OwnPre (classOf tag) s (ownPlace (classOf tag) tp leaf) o end
+    pub open-own : OpenPre s at leaf o end → OwnPre (classOf tag) s (ownPlace (classOf tag) tp leaf) o end
     open-own x =
         let v = seen (x .sort) (x .tree) (x .to) (x .stands) in
         record { n = n; us = v .us; Γ = x .Γ; own = own-at s bs at (x .sort) (x .tree) (x .to) tag n tp p k v (x .Γ) leaf (x .leafs); room = x .room }
@@ -399,9 +400,9 @@ module _ (s : List ℕ) (bs : Bytes s) (at leaf : ℕ) (t₀ l₀ f₀ : List �
                 ap (λ (x : Tree). typedTree x Γ) (v .is) ∙ too-long tag n (v .us) (v .ks) Γ (a .0) (a .1) (a .2));
           }
 
-      pub open-to : (m : ℕ) → r ≡ T.Is m → (t₁ l₁ f₁ : List ℕ) → t₁ ≡ set t₀ top tag → l₁ ≡ set l₀ top k → f₁ ≡ set f₀ top end
-          → OpenPost s at leaf t₀ l₀ f₀ top o end t₁ l₁ f₁ types (O.To p m)
-      open-to m z t₁ l₁ f₁ zt zl zf =
+      pub open-to : (m : ℕ) → r ≡ T.Is m → (nd : OpenNode) → (t₁ l₁ f₁ : List ℕ) → t₁ ≡ set t₀ top tag → l₁ ≡ set l₀ top k → f₁ ≡ set f₀ top end
+          → OpenPost s at leaf t₀ l₀ f₀ top o end t₁ l₁ f₁ types (O.To p m nd)
+      open-to m z nd t₁ l₁ f₁ zt zl zf =
           record {
             answer = λ e t q Γ w lf. (let v = seen e t q w in
                 let a = subst (λ (x : Typed). Owning x (classOf tag) n (v .us) Γ o end types) z (owning e t q Γ w lf) in

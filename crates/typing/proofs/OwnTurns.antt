@@ -136,5 +136,5 @@ module _ (tag : ℕ) (st : State) (o : List ℕ) (from : ℕ) (p : List ℕ) (t 
     pub close-last : st .top ≡ 0 → ClosePost tag st o from p (U.Done (T.Is m))
     close-last h = closed-to true (eq-eqb (st .top) 0 h)
 
-    pub close-on : (st .top ≡ 0 → ⊥) → ClosePost tag st o from p (U.On (stateOf st m))
+    pub close-on : (st .top ≡ 0 → ⊥) → ClosePost tag st o from p (U.Up (stateOf st m))
     close-on h = closed-to false (ne-eqb (st .top) 0 h)

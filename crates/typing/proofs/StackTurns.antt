@@ -27,6 +27,7 @@ use Rattle.typing.specs.PatternPosts.{RowAt, Kept, JudgePre}
 use Rattle.typing.specs.Machine.{Answer, is, bad, Open, opened, inner, given, closeUp, deliver, Operands}
 use Rattle.typing.specs.TypingPosts.{TreeAt, KidsAt, LeafAt, OpenPre, NodeOpen, Opening, OpenPost, stateOf, closedTo, Closing, ClosePost, Held, Stack, Lent, Running, TurnPre, Turning, TurnPost}
 use Rattle.typing.specs.declared.patterns.Typed.the-variants as T
+use Rattle.typing.specs.declared.stack.OpenNode.{OpenNode}
 use Rattle.typing.specs.declared.typing.State.{State}
 use Rattle.typing.specs.declared.typing.Turned.{Turned}
 use Rattle.typing.specs.declared.typing.Turned.the-variants as U
@@ -73,7 +74,7 @@ module _ (t l f s leaves types : List ℕ) (st : State) where
     closed base stop o (p ∷ ps) run u xs ex true sh a z =
         let from = getD f (st .top) 0 in
         let m = from + length xs in
-        let c : closedTo (eqb (st .top) 0) st m ≡ U.On (stateOf st m) = ap (λ (b : Bool). closedTo b st m) (ne-eqb (st .top) 0 (omega (arith, run .top))) in
+        let c : closedTo (eqb (st .top) 0) st m ≡ U.Up (stateOf st m) = ap (λ (b : Bool). closedTo b st m) (ne-eqb (st .top) 0 (omega (arith, run .top))) in
         let h = run .stack in
         let k = h .1 in
         let q : h .0 ≡ st .at = kids-none t l f s leaves types base stop (k .sorts) (st .at) (h .0) (k .kids .0) (subst (λ (ks : Forest). readMany (k .sorts) (readNode (k .kids .0) s) (st .at) ≡ okF ks (h .0)) z (k .kids .1)) in
@@ -255,7 +256,7 @@ module _ (t l f s leaves types : List ℕ) (bs : Bytes s) (st : State) (left : g
   pub turn-space : TurnPre t l f s leaves types st → (st .top + 1 < 2048) × (st .place < 2048)
   turn-space x = open-room (x .base) (x .stop) (x .o) (x .ps) (x .running)
 
-  pub open-pre : TurnPre t l f s leaves types st → (leaf : ℕ) → leaf ≡ getD leaves (st .place) 0 → OpenPre s (st .at) leaf (st .top + 1) types (st .end)
+  pub open-pre : TurnPre t l f s leaves types st → (leaf : ℕ) → leaf ≡ getD leaves (st .place) 0 → OpenPre s (st .at) leaf types (st .end)
   open-pre x leaf el =
       let r = x .running in
       let n = next-kid (x .base) (x .stop) (x .o) (x .ps) r in
@@ -267,7 +268,6 @@ module _ (t l f s leaves types : List ℕ) (bs : Bytes s) (st : State) (left : g
         Γ = inner (x .o);
         stands = a .1 .tree;
         leafs = subst (LeafAt (n .0) (inner (x .o)) s) (sym el) (leaf-of s leaves (n .0) (inner (x .o)) (st .place) (a .2));
-        space = open-room (x .base) (x .stop) (x .o) (x .ps) r .0;
         room = turn-room t l f s leaves types st (x .base) (x .stop) (x .o) (x .ps) r .1;
       }
 
@@ -292,16 +292,16 @@ module _ (t l f s leaves types : List ℕ) (bs : Bytes s) (st : State) (left : g
           (subst (λ (x : Opened). Opening x s (st .at) (n .0) (a .mid) (inner o) t (set l (st .top) (getD l (st .top) 0 - 1)) f (st .top + 1) types (st .end) t₁ l₁ f₁ types₁) er (opening base stop o ps run (a .sort) (a .mid) (a .tree))));
     }
 
-    module _ (p m : ℕ) (er : r ≡ O.To p m) where
+    module _ (p m : ℕ) (nd₁ : OpenNode) (er : r ≡ O.To p m nd₁) where
       abbrev next : State
       next = record { at = p; place = st .place + 1; end = m; top = st .top + 1 }
 
       -- with the node that was opened
-      with-node : (base stop : ℕ) (o : Open) (ps : List Open) (run : Running t l f s leaves types st base stop o ps) (k : Tree) (ks : Forest) → o .todo ≡ cons k ks → LeavesAt k (inner o) (st .place) s leaves
+      with-node : (u₁ c₁ : OpenNode) (base stop : ℕ) (o : Open) (ps : List Open) (run : Running t l f s leaves types st base stop o ps) (k : Tree) (ks : Forest) → o .todo ≡ cons k ks → LeavesAt k (inner o) (st .place) s leaves
           → (mid : ℕ) → Stack t₁ l₁ f₁ s leaves types₁ base stop 1 (without o ks) ps (st .end) mid (st .place + nodes k)
           → NodeOpen s (st .at) k mid (inner o) t (set l (st .top) (getD l (st .top) 0 - 1)) f (st .top + 1) types (st .end) t₁ l₁ f₁ types₁ p m
-          → Turning (U.On next) t₁ l₁ f₁ s leaves types₁ st base stop (closeUp o ps)
-      with-node base stop o ps run k ks z lv mid below nd =
+          → Turning (U.Down u₁ c₁ next) t₁ l₁ f₁ s leaves types₁ st base stop (closeUp o ps)
+      with-node u₁ c₁ base stop o ps run k ks z lv mid below nd =
           let g = nd .tag in
           let n = nd .payload in
           let us = nd .carried in
@@ -355,8 +355,8 @@ module _ (t l f s leaves types : List ℕ) (bs : Bytes s) (st : State) (left : g
           subst (λ (x : Opened). Opening x s (st .at) (next-kid base stop o ps run .0) mid (inner o) t (set l (st .top) (getD l (st .top) 0 - 1)) f (st .top + 1) types (st .end) t₁ l₁ f₁ types₁) er
           (opening base stop o ps run e mid w)
 
-      pub turn-open : TurnPost t l f s leaves types st t₁ l₁ f₁ types₁ (U.On next)
-      turn-open = record {
+      pub turn-open : (u₁ c₁ : OpenNode) → TurnPost t l f s leaves types st t₁ l₁ f₁ types₁ (U.Down u₁ c₁ next)
+      turn-open u₁ c₁ = record {
         answer = λ base stop o ps run. (
             let k = next-kid base stop o ps run in
             let a = kid-at base stop o ps run in
@@ -367,7 +367,7 @@ module _ (t l f s leaves types : List ℕ) (bs : Bytes s) (st : State) (left : g
             (nd .tags ∙ ap (λ (i : ℕ). set t i (nd .tag)) e)
             (nd .lefts ∙ ap₂ (λ (i j : ℕ). set (set l i (getD l i 0 - 1)) j (count (nd .kids))) (run .top) e)
             (nd .froms ∙ ap (λ (i : ℕ). set f i (st .end)) e) (nd .kept) in
-            with-node base stop o ps run (k .0) (k .1) (k .2) (a .2) (b .0) (b .3) (made base stop o ps run (b .1) (b .0) (b .2)));
+            with-node u₁ c₁ base stop o ps run (k .0) (k .1) (k .2) (a .2) (b .0) (b .3) (made base stop o ps run (b .1) (b .0) (b .2)));
       }
 
 -- ---- what was found at numbers and tables that are others by equations

@@ -13,6 +13,7 @@ pub mod Patterns
 pub mod RuleNumbers
 pub mod PatternPosts
 pub mod Machine
+pub mod OpenNodes
 pub mod TypingPosts
 pub mod Buffers
 pub mod Cases

@@ -1,5 +1,6 @@
--- What the code of typing answers: the contracts of src/typing.rt. The stack of open nodes is three tables, by depth: tags, operands
--- to come, and where in the buffer the types of the operands start that have come.
+-- What the code of typing answers: the contracts of src/typing.rt. The open nodes are three tables here, by depth: tags, operands to
+-- come, and where in the buffer the types of the operands start that have come. The code has the node at hand, which has the greatest
+-- depth, by value, and those below it in a slice of records.
 use mathlib.Core.Path.{_≡_}
 use mathlib.Core.Bool.{Bool, true, false}
 use mathlib.Core.List.{List, [], _∷_, _++_}
@@ -23,6 +24,8 @@ use Rattle.typing.specs.PatternPosts.{RowAt, Kept}
 use Rattle.typing.specs.Machine.{Answer, is, bad, Open, inner, closeUp, Operands}
 use Rattle.typing.specs.declared.patterns.Typed.{Typed}
 use Rattle.typing.specs.declared.patterns.Typed.the-variants as T
+use Rattle.typing.specs.OpenNodes.{noNode}
+use Rattle.typing.specs.declared.stack.OpenNode.{OpenNode}
 use Rattle.typing.specs.declared.typing.State.{State}
 use Rattle.typing.specs.declared.typing.Turned.{Turned}
 use Rattle.typing.specs.declared.typing.Turned.the-variants as U
@@ -77,14 +80,13 @@ pub record OwnPost (c : Class) (s : List ℕ) (p : ℕ) (types : List ℕ) (end 
 abbrev pub LeafAt : Tree → Ctx → List ℕ → ℕ → Type 0
 LeafAt (node (head g n us) ks) Γ s leaf = let t = encTy (typeAt Γ n) in pick {X = Type 0} (eqb g boundTag) (Spans s leaf (leaf + length t) t) (Unit {0})
 
-pub record OpenPre (s : List ℕ) (at leaf top : ℕ) (types : List ℕ) (end : ℕ) : Type 0 where
+pub record OpenPre (s : List ℕ) (at leaf : ℕ) (types : List ℕ) (end : ℕ) : Type 0 where
   pub sort : Sort
   pub tree : Tree
   pub to : ℕ
   pub Γ : Ctx
   pub stands : TreeAt s sort at tree to
   pub leafs : LeafAt tree Γ s leaf
-  pub space : top < 2048
   pub room : end + typeLimit ≤ length types
 
 -- the node is put on the stack with no operand, and its first operand stands at p
@@ -108,11 +110,27 @@ pub record NodeOpen (s : List ℕ) (at : ℕ) (tree : Tree) (to : ℕ) (Γ : Ctx
   pub within : p ≤ length s
 
 abbrev pub Opening : Opened → List ℕ → ℕ → Tree → ℕ → Ctx → List ℕ → List ℕ → List ℕ → ℕ → List ℕ → ℕ → List ℕ → List ℕ → List ℕ → List ℕ → Type 0
-Opening (O.To p m) s at t q Γ t₀ l₀ f₀ top o end t₁ l₁ f₁ types = NodeOpen s at t q Γ t₀ l₀ f₀ top o end t₁ l₁ f₁ types p m
+Opening (O.To p m nd) s at t q Γ t₀ l₀ f₀ top o end t₁ l₁ f₁ types = NodeOpen s at t q Γ t₀ l₀ f₀ top o end t₁ l₁ f₁ types p m
 Opening O.Bad s at t q Γ t₀ l₀ f₀ top o end t₁ l₁ f₁ types = typedTree t Γ ≡ false
 
 pub record OpenPost (s : List ℕ) (at leaf : ℕ) (t₀ l₀ f₀ : List ℕ) (top : ℕ) (o : List ℕ) (end : ℕ) (t₁ l₁ f₁ types : List ℕ) (r : Opened) : Type 0 where
   pub answer : (e : Sort) (t : Tree) (q : ℕ) (Γ : Ctx) → TreeAt s e at t q → LeafAt t Γ s leaf → Opening r s at t q Γ t₀ l₀ f₀ top o end t₁ l₁ f₁ types
+
+-- the three tables with the record of the node at its depth
+abbrev pub tagsWith : Opened → List ℕ → ℕ → List ℕ
+tagsWith (O.To p m nd) t top = set t top (nd .tag)
+tagsWith O.Bad t top = t
+
+abbrev pub leftsWith : Opened → List ℕ → ℕ → List ℕ
+leftsWith (O.To p m nd) l top = set l top (nd .left)
+leftsWith O.Bad l top = l
+
+abbrev pub fromsWith : Opened → List ℕ → ℕ → List ℕ
+fromsWith (O.To p m nd) f top = set f top (nd .from)
+fromsWith O.Bad f top = f
+
+pub record NodePost (s : List ℕ) (at leaf : ℕ) (o : List ℕ) (end : ℕ) (types : List ℕ) (r : Opened) : Type 0 where
+  pub opens : (t l f : List ℕ) (top : ℕ) → OpenPost s at leaf t l f top o end (tagsWith r t top) (leftsWith r l top) (fromsWith r f top) types r
 
 -- ---- the node at the top is closed
 abbrev pub stateOf : State → ℕ → State
@@ -120,7 +138,7 @@ stateOf st m = record { at = st .at; place = st .place; end = m; top = st .top -
 
 abbrev pub closedTo : Bool → State → ℕ → Turned
 closedTo true st m = U.Done (T.Is m)
-closedTo false st m = U.On (stateOf st m)
+closedTo false st m = U.Up (stateOf st m)
 
 abbrev pub Closing : Judged → State → List ℕ → ℕ → List ℕ → Turned → Type 0
 Closing (typed xs) st o from p r = (r ≡ closedTo (eqb (st .top) 0) st (from + length xs)) × Spans p from (from + length xs) xs × Kept o p from
@@ -186,23 +204,73 @@ Ending (T.Is m) a types = (t : Ty) × (a ≡ is t) × Spans types 0 m (encTy t)
 Ending T.Bad a types = a ≡ bad
 
 abbrev pub Turning : Turned → List ℕ → List ℕ → List ℕ → List ℕ → List ℕ → List ℕ → State → ℕ → ℕ → Answer → Type 0
-Turning (U.On st) tags lefts froms s leaves types st₀ base stop a =
+Turning (U.Down u c st) tags lefts froms s leaves types st₀ base stop a =
+    (o : Open) × (ps : List Open) × Running tags lefts froms s leaves types st base stop o ps × (closeUp o ps ≡ a) × (stepsLeft s st < stepsLeft s st₀)
+Turning (U.Up st) tags lefts froms s leaves types st₀ base stop a =
     (o : Open) × (ps : List Open) × Running tags lefts froms s leaves types st base stop o ps × (closeUp o ps ≡ a) × (stepsLeft s st < stepsLeft s st₀)
 Turning (U.Done t) tags lefts froms s leaves types st₀ base stop a = Ending t a types
 
 pub record TurnPost (t₀ l₀ f₀ s leaves types₀ : List ℕ) (st : State) (t₁ l₁ f₁ types₁ : List ℕ) (r : Turned) : Type 0 where
   pub answer : (base stop : ℕ) (o : Open) (ps : List Open) → Running t₀ l₀ f₀ s leaves types₀ st base stop o ps → Turning r t₁ l₁ f₁ s leaves types₁ st base stop (closeUp o ps)
 
+-- ---- a turn with the node at hand by value
+-- the tables have its record at this depth
+pub record Top (nd : OpenNode) (top : ℕ) (tags lefts froms : List ℕ) : Type 0 where
+  pub of-tag : getD tags top 0 ≡ nd .tag
+  pub of-left : getD lefts top 0 ≡ nd .left
+  pub of-from : getD froms top 0 ≡ nd .from
+
+pub record StepPre (nd : OpenNode) (s leaves types : List ℕ) (st : State) : Type 0 where
+  pub tags : List ℕ
+  pub lefts : List ℕ
+  pub froms : List ℕ
+  pub at-top : Top nd (st .top) tags lefts froms
+  pub turn : TurnPre tags lefts froms s leaves types st
+
+-- the three tables after the turn
+abbrev pub tagsAfter : Turned → List ℕ → ℕ → List ℕ
+tagsAfter (U.Down u c st) t top = set t (top + 1) (c .tag)
+tagsAfter (U.Up st) t top = t
+tagsAfter (U.Done r) t top = t
+
+abbrev pub leftsAfter : Turned → List ℕ → ℕ → List ℕ
+leftsAfter (U.Down u c st) l top = set (set l top (u .left)) (top + 1) (c .left)
+leftsAfter (U.Up st) l top = l
+leftsAfter (U.Done r) l top = l
+
+abbrev pub fromsAfter : Turned → List ℕ → ℕ → List ℕ
+fromsAfter (U.Down u c st) f top = set f (top + 1) (c .from)
+fromsAfter (U.Up st) f top = f
+fromsAfter (U.Done r) f top = f
+
+-- what goes on the stack is the node at hand but for the operands to come, and the depth moves by one
+abbrev pub Moving : Turned → OpenNode → State → Type 0
+Moving (U.Down u c st) nd st₀ = (u .tag ≡ nd .tag) × (u .from ≡ nd .from) × (st .top ≡ st₀ .top + 1)
+Moving (U.Up st) nd st₀ = st .top + 1 ≡ st₀ .top
+Moving (U.Done r) nd st₀ = Unit {0}
+
+pub record StepPost (nd : OpenNode) (s leaves types₀ : List ℕ) (st : State) (types₁ : List ℕ) (r : Turned) : Type 0 where
+  pub moves : Moving r nd st
+  pub turned : (t l f : List ℕ) → Top nd (st .top) t l f
+      → TurnPost t l f s leaves types₀ st (tagsAfter r t (st .top)) (leftsAfter r l (st .top)) (fromsAfter r f (st .top)) types₁ r
+
+-- ---- all turns, from the root
+pub record TurnsPre (nd : OpenNode) (s leaves types : List ℕ) (st : State) : Type 0 where
+  pub root : st .top ≡ 0
+  pub step : StepPre nd s leaves types st
+
+pub record TurnsPost (nd : OpenNode) (s leaves types₀ : List ℕ) (st : State) (types₁ : List ℕ) (r : Typed) : Type 0 where
+  pub ends : (t l f : List ℕ) (base stop : ℕ) (o : Open) (ps : List Open) → Top nd (st .top) t l f → Running t l f s leaves types₀ st base stop o ps → Ending r (closeUp o ps) types₁
+
 -- ---- a tree
 -- the tree t stands at `at` with its root at this place, and the table has the types of its bound identifiers
-pub record TypePre (s : List ℕ) (at place : ℕ) (leaves tags lefts froms types : List ℕ) : Type 0 where
+pub record TypePre (s : List ℕ) (at place : ℕ) (leaves types : List ℕ) : Type 0 where
   pub sort : Sort
   pub tree : Tree
   pub to : ℕ
   pub Γ : Ctx
   pub stands : TreeAt s sort at tree to
   pub leafs : LeavesAt tree Γ place s leaves
-  pub lent : Lent tags lefts froms
   pub frame : length s ≤ frameLimit
   pub places : place + nodes tree ≤ 2048
   pub buffer : typeLimit * nodes tree + typeLimit ≤ length types

@@ -1,8 +1,11 @@
-// Number 10: the nodes are met in prefix order, and those whose operands are still to come are kept on a stack. The types of the
+// Number 10: the nodes are met in prefix order, and those whose operands are still to come are kept on a stack (stack.rt). The types of the
 // operands that have come stand in a buffer, one after the other; a node's own operands' types start where its record says.
 use crate::patterns::Typed;
 use crate::patterns::judge_types;
 use crate::patterns::rule_of;
+use crate::stack::OpenNode;
+use crate::stack::pop;
+use crate::stack::push;
 use crate::type_bytes::copy_in;
 use crate::type_bytes::type_end;
 use frame::reading::HeadAnswer;
@@ -15,7 +18,7 @@ ghost use Prim.Native.Nat.{ℕ, _+_, _-_, _*_, _≤_, _<_};
 ghost use lib.ListN.{length, getD, set};
 ghost use Rattle.frame.specs.Tags.{classOf};
 ghost use Rattle.typing.specs.PatternPosts.{JudgePre};
-ghost use Rattle.typing.specs.TypingPosts.{PutPre, PutPost, ownPlace, OwnPre, OwnPost, OpenPre, OpenPost, ClosePost, TurnPre, TurnPost, TypePre, TypePost};
+ghost use Rattle.typing.specs.TypingPosts.{PutPre, PutPost, ownPlace, OwnPre, OwnPost, OpenPre, NodePost, ClosePost, StepPre, StepPost, TurnsPre, TurnsPost, TypePre, TypePost};
 
 // "A type has at most 64 bytes, derived ones too."
 const TYPE_LIMIT: usize = 64;
@@ -23,8 +26,7 @@ const TYPE_LIMIT: usize = 64;
 // The rules from 1 to this are those of nodes that carry their type, and this is that of a bound identifier.
 const BOUND_RULE: usize = 6;
 
-// Where the next node stands and its place, the end of the types, and the top of the stack of open nodes: three tables, which only
-// push, peek and take_operand touch.
+// Where the next node stands and its place, the end of the types, and how many nodes are open below the one at hand.
 pub struct State {
     pub at: usize,
     pub place: usize,
@@ -32,21 +34,17 @@ pub struct State {
     pub top: usize,
 }
 
-// An open node: its tag, how many operands are to come, where the types of those that have come start.
-pub struct OpenNode {
-    pub tag: usize,
-    pub left: usize,
-    pub from: usize,
-}
-
+// What a turn does: the node at hand goes on the stack and its operand is at hand; or it is closed, and the one below it is at hand
+// again; or it was the root.
 pub enum Turned {
-    On(State),
+    Down(OpenNode, OpenNode, State),
+    Up(State),
     Done(Typed),
 }
 
-// A node has been opened: where its first operand stands, and where the types end. Or its type passes the limit.
+// A node has been opened: where its first operand stands, where the types end, and its record. Or its type passes the limit.
 pub enum Opened {
-    To(usize, usize),
+    To(usize, usize, OpenNode),
     Bad,
 }
 
@@ -54,44 +52,6 @@ fn wide16(x: u16) -> usize
     ensures { λ r. ⌜ r ≡ x ⌝ }
 {
     x as usize
-}
-
-// An open node is put on the stack.
-fn push(
-    tags: &mut [usize; 2048],
-    lefts: &mut [usize; 2048],
-    froms: &mut [usize; 2048],
-    top: usize,
-    tag: usize,
-    left: usize,
-    from: usize,
-)
-    requires { ⌜ top < 2048 ⌝ }
-    ensures { λ r. ⌜ (now (tags .exit) ≡ set (now (tags .entry)) top tag) × (now (lefts .exit) ≡ set (now (lefts .entry)) top left) × (now (froms .exit) ≡ set (now (froms .entry)) top from) ⌝ }
-{
-    tags[top] = tag;
-    lefts[top] = left;
-    froms[top] = from;
-}
-
-// The open node at the top of the stack.
-fn peek(tags: &[usize; 2048], lefts: &[usize; 2048], froms: &[usize; 2048], top: usize) -> OpenNode
-    requires { ⌜ top < 2048 ⌝ }
-    ensures { λ r. ⌜ (r .tag ≡ getD (now (tags .entry)) top 0) × (r .left ≡ getD (now (lefts .entry)) top 0) × (r .from ≡ getD (now (froms .entry)) top 0) ⌝ }
-{
-    OpenNode {
-        tag: tags[top],
-        left: lefts[top],
-        from: froms[top],
-    }
-}
-
-// One operand of the node at the top is no longer to come.
-fn take_operand(lefts: &mut [usize; 2048], top: usize)
-    requires { ⌜ (top < 2048) × (0 < getD (now lefts) top 0) ⌝ }
-    ensures { λ r. ⌜ now (lefts .exit) ≡ set (now (lefts .entry)) top (getD (now (lefts .entry)) top 0 - 1) ⌝ }
-{
-    lefts[top] = lefts[top] - 1;
 }
 
 // The type that stands at p of the frame, into the buffer at `end`; a longer one than the limit is no type of a node.
@@ -132,20 +92,10 @@ fn own_type(
     Typed::Is(end)
 }
 
-// The node at `at`, of this place, is opened with the record at `top`.
-fn open_node(
-    s: &[u8],
-    at: usize,
-    leaf: usize,
-    tags: &mut [usize; 2048],
-    lefts: &mut [usize; 2048],
-    froms: &mut [usize; 2048],
-    top: usize,
-    types: &mut [u8],
-    end: usize,
-) -> Opened
-    requires { ⌜ OpenPre (now s) at leaf top (now types) end ⌝ }
-    ensures { λ r. ⌜ OpenPost (now (s .entry)) at leaf (now (tags .entry)) (now (lefts .entry)) (now (froms .entry)) top (now (types .entry)) end (now (tags .exit)) (now (lefts .exit)) (now (froms .exit)) (now (types .exit)) r ⌝ }
+// The node at `at`, whose bound type stands at `leaf`, is opened.
+fn open_node(s: &[u8], at: usize, leaf: usize, types: &mut [u8], end: usize) -> Opened
+    requires { ⌜ OpenPre (now s) at leaf (now types) end ⌝ }
+    ensures { λ r. ⌜ NodePost (now (s .entry)) at leaf (now (types .entry)) end (now (types .exit)) r ⌝ }
 {
     let h = read_head(s, at, is_sort(form_of(number(s, at, 2)), true));
     match h {
@@ -162,10 +112,15 @@ fn open_node(
             let own = own_type(tag, s, carried, leaf, types, end);
             match own {
                 Typed::Bad => Opened::Bad,
-                Typed::Is(m) => {
-                    push(tags, lefts, froms, top, tag, count, end);
-                    Opened::To(children, m)
-                }
+                Typed::Is(m) => Opened::To(
+                    children,
+                    m,
+                    OpenNode {
+                        tag: tag,
+                        left: count,
+                        from: end,
+                    },
+                ),
             }
         }
     }
@@ -184,7 +139,7 @@ fn close_top(tag: usize, from: usize, types: &mut [u8], state: State) -> Turned
             if top == 0 {
                 return Turned::Done(Typed::Is(m));
             }
-            Turned::On(State {
+            Turned::Up(State {
                 at: state.at,
                 place: state.place,
                 end: m,
@@ -194,69 +149,67 @@ fn close_top(tag: usize, from: usize, types: &mut [u8], state: State) -> Turned
     }
 }
 
-// One turn: the node at the top has all its operands, or its next operand is opened.
+// One turn: the node at hand has all its operands, or its next operand is opened.
 fn one_turn(
     s: &[u8],
     leaves: &[u16; 2048],
-    tags: &mut [usize; 2048],
-    lefts: &mut [usize; 2048],
-    froms: &mut [usize; 2048],
     types: &mut [u8],
+    node: OpenNode,
     state: State,
 ) -> Turned
-    requires { ⌜ TurnPre (now tags) (now lefts) (now froms) (now s) (now leaves) (now types) state ⌝ }
-    ensures { λ r. ⌜ TurnPost (now (tags .entry)) (now (lefts .entry)) (now (froms .entry)) (now (s .entry)) (now (leaves .entry)) (now (types .entry)) state (now (tags .exit)) (now (lefts .exit)) (now (froms .exit)) (now (types .exit)) r ⌝ }
+    requires { ⌜ StepPre node (now s) (now leaves) (now types) state ⌝ }
+    ensures { λ r. ⌜ StepPost node (now (s .entry)) (now (leaves .entry)) (now (types .entry)) state (now (types .exit)) r ⌝ }
 {
-    let top = state.top;
-    let open = peek(tags, lefts, froms, top);
-    if open.left == 0 {
-        return close_top(open.tag, open.from, types, state);
+    if node.left == 0 {
+        return close_top(node.tag, node.from, types, state);
     }
-    take_operand(lefts, top);
     let at = state.at;
     let place = state.place;
     let leaf = wide16(leaves[place]);
-    let o = open_node(s, at, leaf, tags, lefts, froms, top + 1, types, state.end);
+    let o = open_node(s, at, leaf, types, state.end);
     match o {
         Opened::Bad => Turned::Done(Typed::Bad),
-        Opened::To(p, m) => Turned::On(State {
-            at: p,
-            place: place + 1,
-            end: m,
-            top: top + 1,
-        }),
+        Opened::To(p, m, child) => {
+            let under = OpenNode {
+                tag: node.tag,
+                left: node.left - 1,
+                from: node.from,
+            };
+            let next = State {
+                at: p,
+                place: place + 1,
+                end: m,
+                top: state.top + 1,
+            };
+            Turned::Down(under, child, next)
+        }
     }
 }
 
-// The type of the tree at `at`, whose root has this place: its bytes stand at the start of `types`. Bad is number 10.
-pub fn type_tree(
+// All turns, from the root that was opened. Proved by hand, as is whatever has the stack.
+fn turns(
     s: &[u8],
-    at: usize,
-    place: usize,
     leaves: &[u16; 2048],
-    tags: &mut [usize; 2048],
-    lefts: &mut [usize; 2048],
-    froms: &mut [usize; 2048],
+    stack: &mut [OpenNode],
     types: &mut [u8],
+    first: OpenNode,
+    start: State,
 ) -> Typed
-    requires { ⌜ TypePre (now s) at place (now leaves) (now tags) (now lefts) (now froms) (now types) ⌝ }
-    ensures { λ r. ⌜ TypePost (now (s .entry)) at place (now (leaves .entry)) (now (types .exit)) r ⌝ }
+    requires { ⌜ TurnsPre first (now s) (now leaves) (now types) start × (length (now stack) ≡ 2048) ⌝ }
+    ensures { λ r. ⌜ TurnsPost first (now (s .entry)) (now (leaves .entry)) (now (types .entry)) start (now (types .exit)) r ⌝ }
 {
-    let leaf = wide16(leaves[place]);
-    let o = open_node(s, at, leaf, tags, lefts, froms, 0, types, 0);
-    let Opened::To(p, m) = o else {
-        return Typed::Bad;
-    };
-    let mut state = State {
-        at: p,
-        place: place + 1,
-        end: m,
-        top: 0,
-    };
+    let mut node = first;
+    let mut state = start;
     loop {
-        let t = one_turn(s, leaves, tags, lefts, froms, types, state);
+        let t = one_turn(s, leaves, types, node, state);
         match t {
-            Turned::On(next) => {
+            Turned::Down(under, child, next) => {
+                push(stack, state.top, under);
+                node = child;
+                state = next;
+            }
+            Turned::Up(next) => {
+                node = pop(stack, next.top);
                 state = next;
             }
             Turned::Done(r) => {
@@ -264,4 +217,42 @@ pub fn type_tree(
             }
         }
     }
+}
+
+// The same with the stack lent: 2,048 records, as many as a frame has nodes at most.
+fn lent_turns(
+    s: &[u8],
+    leaves: &[u16; 2048],
+    types: &mut [u8],
+    first: OpenNode,
+    start: State,
+) -> Typed
+    requires { ⌜ TurnsPre first (now s) (now leaves) (now types) start ⌝ }
+    ensures { λ r. ⌜ TurnsPost first (now (s .entry)) (now (leaves .entry)) (now (types .entry)) start (now (types .exit)) r ⌝ }
+{
+    let mut stack = [OpenNode {
+        tag: 0,
+        left: 0,
+        from: 0,
+    }; 2048];
+    turns(s, leaves, &mut stack, types, first, start)
+}
+
+// The type of the tree at `at`, whose root has this place: its bytes stand at the start of `types`. Bad is number 10.
+pub fn type_tree(s: &[u8], at: usize, place: usize, leaves: &[u16; 2048], types: &mut [u8]) -> Typed
+    requires { ⌜ TypePre (now s) at place (now leaves) (now types) ⌝ }
+    ensures { λ r. ⌜ TypePost (now (s .entry)) at place (now (leaves .entry)) (now (types .exit)) r ⌝ }
+{
+    let leaf = wide16(leaves[place]);
+    let o = open_node(s, at, leaf, types, 0);
+    let Opened::To(p, m, root) = o else {
+        return Typed::Bad;
+    };
+    let state = State {
+        at: p,
+        place: place + 1,
+        end: m,
+        top: 0,
+    };
+    lent_turns(s, leaves, types, root, state)
 }

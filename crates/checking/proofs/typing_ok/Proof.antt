@@ -1,5 +1,3 @@
-use Prim.Native.Nat.{ℕ}
-use lib.ListN.{replicate, length-replicate}
 use native.Mathlib.Omega.{arith}
 use mathlib.Core.Path.{_≡_, refl, sym, ap, _∙_}
 use mathlib.Core.Bool.{true, false}
@@ -13,19 +11,19 @@ use Rattle.typing.proofs.typing.type_tree.Reads as type-tree-reads
 
 -- src/lib.rt:36:9
 slice-aggregate-type-tree : tie.Need-slice-aggregate-type-tree
-slice-aggregate-type-tree c = sym (length-replicate {A = ℕ} 131136 0)
+slice-aggregate-type-tree c = search needs
 
 -- src/lib.rt:28:9
 type-tree-requires : tie.Need-type-tree-requires
-type-tree-requires c κs = type-pre _ _ (replicate 2048 0) (replicate 2048 0) (replicate 2048 0) (replicate 131136 0) (λ i. c .before .before .before .before .shared-slice-known .given i .fits) (c .before .before .before .before .before .pre) (length-replicate {A = ℕ} 2048 0) (length-replicate {A = ℕ} 2048 0) (length-replicate {A = ℕ} 2048 0) (length-replicate {A = ℕ} 131136 0)
+type-tree-requires c κs = type-pre _ _ _ (λ i. c .before .before .before .before .shared-slice-known .given i .fits) (c .before .before .before .before .before .pre) refl
 
 -- src/lib.rt:39:19
 enum-known-a : tie.Need-enum-known-a
-enum-known-a c = c .match .keys1
+enum-known-a c = search needs
 
 -- src/lib.rt:40:23
 enum-told : tie.Need-enum-told
-enum-told c = c .match .keys2
+enum-told c = search needs
 
 -- src/lib.rt:20:1
 returns : tie.Need-returns

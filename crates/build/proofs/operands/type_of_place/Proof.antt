@@ -1,7 +1,5 @@
 use Rattle.build.proofs.Types.{type-of-few, type-of-pre, copy-room, type-copied, type-refused}
 use mathlib.Core.Path.{refl, sym}
-use Prim.Native.Nat.{ℕ}
-use lib.ListN.{replicate, length-replicate}
 use native.Mathlib.Omega.{arith}
 use borrow.Author.Needs.{needs}
 use Rattle.build.proofs.operands.type_of_place.Statement.{statement}
@@ -18,15 +16,15 @@ start-at-requires c κs = type-of-few _ _ _ _ _ _ (c .before .before .pre)
 
 -- src/operands.rt:50:9
 slice-aggregate-type-tree : tie.Need-slice-aggregate-type-tree
-slice-aggregate-type-tree c = sym (length-replicate {A = ℕ} 131136 0)
+slice-aggregate-type-tree c = search needs
 
 -- src/operands.rt:42:9
 type-tree-requires : tie.Need-type-tree-requires
-type-tree-requires c κs = type-of-pre _ _ _ _ _ _ (c .before .before .before .before .before .before .before .pre) _ (c .before .before .before .before .start-at .ensures .0) (replicate 2048 0) (replicate 2048 0) (replicate 2048 0) (replicate 131136 0) (length-replicate {A = ℕ} 2048 0) (length-replicate {A = ℕ} 2048 0) (length-replicate {A = ℕ} 2048 0) (length-replicate {A = ℕ} 131136 0)
+type-tree-requires c κs = type-of-pre _ _ _ _ _ _ (c .before .before .before .before .before .before .before .pre) _ (c .before .before .before .before .start-at .ensures .0) _ refl
 
 -- src/operands.rt:53:19
 enum-known-a : tie.Need-enum-known-a
-enum-known-a c = c .match .keys1
+enum-known-a c = search needs
 
 -- src/operands.rt:53:33
 slice-aggregate-copy-in : tie.Need-slice-aggregate-copy-in
@@ -37,7 +35,7 @@ copy-in-requires : tie.Need-copy-in-requires
 copy-in-requires c κs = copy-room _ _ _ _ _ _ (c .before .before .before .before .before .before .before .before .before .before .before .before .before .before .pre) _ (c .before .before .before .before .before .before .before .before .before .before .before .start-at .ensures .0) _ (omega arith) _ (c .before .before .before .before .before .before .type-tree .ensures) _ (c .before .before .before .a .given .1)
 
 enum-told : tie.Need-enum-told
-enum-told c = c .match .keys2
+enum-told c = search needs
 
 -- src/operands.rt:26:1
 same-length : tie.Need-same-length
