@@ -15,7 +15,7 @@ slice-aggregate-type-tree c = search needs
 
 -- src/lib.rt:28:9
 type-tree-requires : tie.Need-type-tree-requires
-type-tree-requires c κs = type-pre _ _ _ (λ i. c .before .before .before .before .shared-slice-known .given i .fits) (c .before .before .before .before .before .pre) refl
+type-tree-requires c κs = type-pre _ _ _ (λ i. c .before .shared-slice-known .given i .fits) (c .before .before .pre) refl
 
 -- src/lib.rt:39:19
 enum-known-a : tie.Need-enum-known-a
@@ -27,11 +27,11 @@ enum-told c = search needs
 
 -- src/lib.rt:20:1
 returns : tie.Need-returns
-returns c = typed-by _ _ _ _ (λ i. c .before .before .before .before .before .before .before .before .before .shared-slice-known .given i .fits) (c .before .before .before .before .before .before .before .before .before .before .pre) (omega arith) (c .before .before .before .before .type-tree .ensures) true (ap isTyped (sym (c .before .a .given .1)))
+returns c = typed-by _ _ _ _ (λ i. c .before .before .before .before .before .before .shared-slice-known .given i .fits) (c .before .before .before .before .before .before .before .pre) (omega arith) (c .before .before .before .before .type-tree .ensures) true (ap isTyped (sym (c .before .a .given .1)))
 
 -- src/lib.rt:20:1
 returns-2 : tie.Need-returns-2
-returns-2 c = typed-by _ _ _ _ (λ i. c .before .before .before .before .before .before .before .before .shared-slice-known .given i .fits) (c .before .before .before .before .before .before .before .before .before .pre) (omega arith) (c .before .before .before .type-tree .ensures) false (ap isTyped (sym (c .enum-told .given .1)))
+returns-2 c = typed-by _ _ _ _ (λ i. c .before .before .before .before .before .shared-slice-known .given i .fits) (c .before .before .before .before .before .before .pre) (omega arith) (c .before .before .before .type-tree .ensures) false (ap isTyped (sym (c .enum-told .given .1)))
 
 pub typing-ok-spec : {M : Type 1} → statement M
 typing-ok-spec =

@@ -20,7 +20,7 @@ slice-aggregate-type-tree c = search needs
 
 -- src/operands.rt:42:9
 type-tree-requires : tie.Need-type-tree-requires
-type-tree-requires c κs = type-of-pre _ _ _ _ _ _ (c .before .before .before .before .before .before .before .pre) _ (c .before .before .before .before .start-at .ensures .0) _ refl
+type-tree-requires c κs = type-of-pre _ _ _ _ _ _ (c .before .before .before .before .pre) _ (c .before .start-at .ensures .0) _ refl
 
 -- src/operands.rt:53:19
 enum-known-a : tie.Need-enum-known-a
@@ -32,7 +32,7 @@ slice-aggregate-copy-in c = search needs
 
 -- src/operands.rt:53:25
 copy-in-requires : tie.Need-copy-in-requires
-copy-in-requires c κs = copy-room _ _ _ _ _ _ (c .before .before .before .before .before .before .before .before .before .before .before .before .before .before .pre) _ (c .before .before .before .before .before .before .before .before .before .before .before .start-at .ensures .0) _ (omega arith) _ (c .before .before .before .before .before .before .type-tree .ensures) _ (c .before .before .before .a .given .1)
+copy-in-requires c κs = copy-room _ _ _ _ _ _ (c .before .before .before .before .before .before .before .before .before .before .before .pre) _ (c .before .before .before .before .before .before .before .before .start-at .ensures .0) _ (omega arith) _ (c .before .before .before .before .before .before .type-tree .ensures) _ (c .before .before .before .a .given .1)
 
 enum-told : tie.Need-enum-told
 enum-told c = search needs
@@ -43,11 +43,11 @@ same-length c = search needs
 
 -- src/operands.rt:26:1
 returns : tie.Need-returns
-returns c = type-copied _ _ _ _ _ _ (c .before .before .before .before .before .before .before .before .before .before .before .before .before .before .before .before .before .pre) _ (c .before .before .before .before .before .before .before .before .before .before .before .before .before .before .start-at .ensures .0) _ (omega arith) _ (c .before .before .before .before .before .before .before .before .before .type-tree .ensures) _ (c .before .before .before .before .before .before .a .given .1) _ (c .before .before .copy-in .ensures)
+returns c = type-copied _ _ _ _ _ _ (c .before .before .before .before .before .before .before .before .before .before .before .before .before .before .pre) _ (c .before .before .before .before .before .before .before .before .before .before .before .start-at .ensures .0) _ (omega arith) _ (c .before .before .before .before .before .before .before .before .before .type-tree .ensures) _ (c .before .before .before .before .before .before .a .given .1) _ (c .before .before .copy-in .ensures)
 
 -- src/operands.rt:26:1
 returns-2 : tie.Need-returns-2
-returns-2 c = type-refused _ _ _ _ _ _ (c .before .before .before .before .before .before .before .before .before .before .before .pre) _ (c .before .before .before .before .before .before .before .before .start-at .ensures .0) _ (omega arith) _ (c .before .before .before .type-tree .ensures) (c .enum-told .given .1)
+returns-2 c = type-refused _ _ _ _ _ _ (c .before .before .before .before .before .before .before .before .pre) _ (c .before .before .before .before .before .start-at .ensures .0) _ (omega arith) _ (c .before .before .before .type-tree .ensures) (c .enum-told .given .1)
 
 pub type-of-place-spec : {M : Type 1} → statement M
 type-of-place-spec =
