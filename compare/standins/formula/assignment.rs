@@ -1,24 +1,13 @@
 //! Stand-in: lets factory.rs compile. No frame holds an assignment.
 use std::sync::Arc;
 
-use crate::ast::Span;
-
 use super::decl::BoundIdentDecl;
 use super::expression::Expression;
-use super::factory::FormulaFactory;
-use super::predicate::Predicate;
+use super::predicate::{Data, Predicate};
 
 pub struct Assignment(pub(super) Arc<AssignData>);
 
-pub(super) struct AssignData {
-    pub(super) kind: AssignmentKind,
-    pub(super) typed: bool,
-    pub(super) span: Option<Span>,
-    pub(super) hash: u64,
-    pub(super) free_idents: Box<[String]>,
-    pub(super) dangling: Box<[u32]>,
-    pub(super) factory: FormulaFactory,
-}
+pub(super) type AssignData = Data<AssignmentKind>;
 
 pub enum AssignmentKind {
     BecomesEqualTo { idents: Vec<Expression>, values: Vec<Expression> },

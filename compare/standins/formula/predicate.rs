@@ -13,9 +13,10 @@ use super::types::Type;
 #[derive(Debug, Clone)]
 pub struct Predicate(pub(super) Arc<PredData>);
 
+/// What the source's files keep of a predicate, and of an assignment.
 #[derive(Debug)]
-pub(super) struct PredData {
-    pub(super) kind: PredicateKind,
+pub(super) struct Data<Kind> {
+    pub(super) kind: Kind,
     pub(super) typed: bool,
     pub(super) span: Option<Span>,
     pub(super) hash: u64,
@@ -23,6 +24,8 @@ pub(super) struct PredData {
     pub(super) dangling: Box<[u32]>,
     pub(super) factory: FormulaFactory,
 }
+
+pub(super) type PredData = Data<PredicateKind>;
 
 /// Declarations compare by name and type here; the names go by position in the list, so it is the types that tell.
 #[derive(Debug, PartialEq)]

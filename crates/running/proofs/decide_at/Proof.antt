@@ -1,4 +1,4 @@
-use Rattle.running.proofs.Turns.{at-expression, at-decided}
+use Rattle.running.proofs.SearchTurns.{at-expression, at-decided}
 use Rattle.rewriter.proofs.Shapes.{here-placed}
 use borrow.Author.Needs.{needs}
 use Rattle.running.proofs.decide_at.Statement.{statement}

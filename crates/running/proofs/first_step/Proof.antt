@@ -1,4 +1,4 @@
-use Rattle.running.proofs.Turns.{read-length, stands-at, as-framed, as-held, first-refused, first-searched}
+use Rattle.running.proofs.SearchTurns.{read-length, stands-at, as-framed, as-held, first-refused, first-searched}
 use native.Mathlib.Omega.{arith}
 use mathlib.Core.Path.{_≡_, refl, sym, _∙_}
 use borrow.Author.Needs.{needs}

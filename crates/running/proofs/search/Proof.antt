@@ -1,5 +1,5 @@
-use Rattle.running.proofs.Turns.{pre-now}
-use Rattle.running.proofs.Turns.{Searching, search-starts, search-at, search-splice, search-writes, search-next, search-rests}
+use Rattle.running.proofs.SearchTurns.{pre-now}
+use Rattle.running.proofs.SearchTurns.{Searching, search-starts, search-at, search-splice, search-writes, search-next, search-rests}
 use borrow.Author.Tests.{not-true, not-false}
 use native.Mathlib.Omega.{arith}
 use Prim.Native.Nat.{_-_}
