@@ -14,7 +14,8 @@ use Rattle.frame.specs.Post.{typesAnswer, headAnswer}
 use Rattle.frame.specs.declared.reading.TypeAnswer.{TypeAnswer}
 use Rattle.frame.specs.declared.reading.HeadAnswer.{HeadAnswer}
 use Rattle.frame.specs.declared.reading.HeadAnswer.the-variants.{Is, Refused}
-use Rattle.frame.proofs.TagTables.{layoutAt, code-form, listed-at, unlisted-at, kinds-at}
+use Rattle.frame.proofs.TagTables.{code-form}
+use Rattle.frame.proofs.FormTables.{layoutAt, listed-at, unlisted-at, kinds-at}
 use Rattle.frame.proofs.TypeTurns.{ends-not}
 use Rattle.frame.specs.declared.reading.TypeAnswer.the-variants as Ty
 

@@ -10,6 +10,7 @@ pub mod TextLines
 pub mod Extents
 pub mod EveryTag
 pub mod TagTables
+pub mod FormTables
 pub mod TypeTurns
 pub mod HeadTurns
 pub mod NodeTurns

@@ -22,7 +22,8 @@ use Rattle.frame.proofs.Inversion.{noF-not, no-not, many-count, head-in
 use Rattle.frame.proofs.ReadTrees.{head-read, node-enc}
 use Rattle.frame.proofs.Extents.{node-end, nodes-enc, starts-length}
 use Rattle.frame.specs.declared.reading.HeadAnswer.the-variants as H
-use Rattle.frame.proofs.TagTables as T
+use Rattle.frame.proofs.TagTables.{code-form, code-small}
+use Rattle.frame.proofs.FormTables.{kinds-at, kinds-rest}
 
 -- ---- a run of stores, one after the other
 pub sets-append : (l : List ℕ) (i : ℕ) (xs ys : List ℕ) → sets l i (xs ++ ys) ≡ sets (sets l i xs) (i + length xs) ys
@@ -63,9 +64,9 @@ pub head-kinds : (s : List ℕ) (at : ℕ) (e : Sort) (h : Head) (tp p : ℕ) (e
 head-kinds s at e h tp p es eq =
     let v = head-inv s at e h tp p es eq in
     let k = formCode (classOf (tagAt s at)) in
-    let fm = T.code-form (tagAt s at) k refl in
+    let fm = code-form (tagAt s at) k refl in
     let r : inRange (formAtCode k .layout) (behind s at) ≡ true = ap (λ fm. inRange (fm .layout) (behind s at)) fm ∙ v .range in
-    let all = T.kinds-at k (behind s at) (T.code-small (classOf (tagAt s at))) r .all in
+    let all = kinds-at k (behind s at) (code-small (classOf (tagAt s at))) r .all in
     let es' : sortsOf (formAtCode k .layout) (behind s at) ≡ es = ap (λ fm. sortsOf (fm .layout) (behind s at)) fm ∙ sym (v .sorts) in
     rw es' at all
 
@@ -152,7 +153,7 @@ module _ (s : List ℕ) (n : ℕ) (a b : Bool) (at k : ℕ) (t₀ : List ℕ) wh
     step f =
         let z : n ≡ suc (n - 1) = omega arith in
         ap (λ (i : ℕ). readMany (kindsFor i a b) (readNode f s) at) z
-        ∙ ap (λ (es : List Sort). thenF (readNode f s (sortFor a) at) (λ q. readMany es (readNode f s) q)) (T.kinds-rest (n - 1) b)
+        ∙ ap (λ (es : List Sort). thenF (readNode f s (sortFor a) at) (λ q. readMany es (readNode f s) q)) (kinds-rest (n - 1) b)
 
     pub kids-refused : (c : ℕ) → r₁ ≡ Refused c → KidsPost s (kindsFor n a b) at k t₀ t₁ (Refused c)
     kids-refused c ec = record { answer = λ f l. ap (kidsAnswer k) (sym (is-no f l)); table = λ f l ts q eq. noF-not (sym (is-no f l) ∙ eq) }

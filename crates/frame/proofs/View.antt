@@ -28,7 +28,7 @@ use Rattle.frame.proofs.ReadTrees.{head-read, node-enc, node-wf, many-e
 use Rattle.frame.proofs.ReadBack.{enc-long, node-back, many-back}
 use Rattle.frame.proofs.Frames.{parse-inv}
 use Rattle.frame.proofs.NodeTurns.{head-no, HeadSaid, head-yes, head-kinds}
-use Rattle.frame.proofs.TagTables.{kinds-rest}
+use Rattle.frame.proofs.FormTables.{kinds-rest}
 
 -- ---- a tree that stands somewhere
 module _ (s : List ℕ) (bs : Bytes s) (e : Sort) (at : ℕ) (t : Tree) (q : ℕ) (a : IsAt s e at t q) where

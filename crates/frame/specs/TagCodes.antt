@@ -1,10 +1,11 @@
 -- Forms by number, as the code has them: tags that ask for the same have one number, and 0 is that of the unlisted.
 -- `frame/proofs/TagTables.antt` shows that the code's tables say what `formAt` and `table` of Tags.antt say, for every tag.
-use Prim.Native.Nat.{ℕ, zero, suc}
+use Prim.Native.Nat.{ℕ, zero, suc, _+_, _*_, _/_, _%_, _^_}
 use mathlib.Core.Bool.{Bool, true, false}
 use mathlib.Core.List.{List, [], _∷_}
-use lib.ListN.{length}
-use Rattle.frame.specs.Tags.{Sort, predicate, expression, Layout, these, payload, counted, binding, Form, repeat, Class, literalPred, equality, order, membership, inclusion, binaryPred, associativePred, negation, quantifiedPred, finite, partition, identifier, bound, literal, setExtension, maplet, relationSet, setMinus, cartesian, directProduct, parallelProduct, domainRestriction, rangeRestriction, upTo, arithmetic, functionImage, relationalImage, setOperation, backwardComposition, forwardComposition, override, sum, integerSet, boolSet, truthValue, integerRelation, emptySet, projection1, projection2, identity, boolExpr, cardinal, powerset, generalised, domain, range, extremum, converse, unaryMinus, quantifiedSet, comprehension, unlisted}
+use lib.ListN.{length, getD}
+use lib.Dec.{leb}
+use Rattle.frame.specs.Tags.{pick, Sort, predicate, expression, Layout, these, payload, counted, binding, Form, repeat, Class, literalPred, equality, order, membership, inclusion, binaryPred, associativePred, negation, quantifiedPred, finite, partition, identifier, bound, literal, setExtension, maplet, relationSet, setMinus, cartesian, directProduct, parallelProduct, domainRestriction, rangeRestriction, upTo, arithmetic, functionImage, relationalImage, setOperation, backwardComposition, forwardComposition, override, sum, integerSet, boolSet, truthValue, integerRelation, emptySet, projection1, projection2, identity, boolExpr, cardinal, powerset, generalised, domain, range, extremum, converse, unaryMinus, quantifiedSet, comprehension, unlisted}
 
 abbrev form : Sort → Layout → ℕ → Form
 form s l c = record { listed = true; sort = s; layout = l; carried = c }
@@ -175,3 +176,20 @@ fixedOf (these es) = length es
 fixedOf (payload w) = 0
 fixedOf (counted lo hi e) = 0
 fixedOf (binding lo hi es) = length es
+
+-- ---- tags by row, as the code has them: a table is a list of words, and an entry is a few bits of a word
+-- blocks of fifty tags, four to a word: where the rows of a block begin, and 256 times how many it has
+abbrev pub blockWords : List ℕ
+blockWords = 5362343978862080 ∷ 232507341657807891 ∷ 20829466109021501 ∷ 1108169590361232714 ∷ 2710182298736 ∷ []
+
+abbrev pub blockEntry : ℕ → ℕ
+blockEntry b = getD blockWords (b / 4) 0 / 2 ^ (16 * (b % 4)) % 65536
+
+-- the row of a tag; 0 is that of the unlisted
+unfoldable pub rowOf : ℕ → ℕ
+rowOf t = pick (leb 20 (t / 50)) 0 (pick (leb (blockEntry (t / 50) / 256) (t % 50)) 0 (blockEntry (t / 50) % 256 + t % 50))
+
+-- the forms of the rows, twelve to a word
+abbrev pub formWords : List ℕ
+formWords =
+    74382030926217664 ∷ 483482752740558914 ∷ 483483211609322925 ∷ 15108850362791341 ∷ 216826530446770275 ∷ 370749043029353478 ∷ 360778 ∷ 5629499534213153 ∷ 13619756937220 ∷ 9289348105515404 ∷ 7 ∷ []

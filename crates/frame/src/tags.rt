@@ -1,48 +1,32 @@
 // The table of tags: what follows a tag, and what sort of tree it begins (document 01, "The frame record").
 // Tags that ask for the same have one form; a form is a number below 20, and 0 is the form of every tag that is not listed.
-// A constant array is laid out anew where it is read, so the tables are kept short.
+// A constant array is laid out anew where it is read, so a table is a word, or a few words chosen by a match: its entries stand in
+// the word one after the other, the first in the lowest bits.
 ghost use mathlib.Core.Path.{_≡_};
 ghost use Prim.Native.Nat.{_≤_, _<_};
-ghost use lib.ListN.{length};
+ghost use lib.ListN.{length, getD};
 ghost use Rattle.frame.specs.Tags.{sameSort, width, inRange, payloadOf, typesOf, sortsOf, classOf};
-ghost use Rattle.frame.specs.TagCodes.{formCode, formAtCode, sortFor, firstSort, laterSort, layoutKind, lowOf, highOf, fixedOf};
+ghost use Rattle.frame.specs.TagCodes.{formCode, formAtCode, sortFor, firstSort, laterSort, layoutKind, lowOf, highOf, fixedOf, blockWords, formWords, rowOf};
 
-// Tags come in blocks of fifty: where the forms of each block begin in FORMS, and last where they end.
-const BLOCKS: [u8; 20] =
-    *b"\x00\x06\x06\x13\x13\x2f\x32\x3a\x3d\x4a\x4a\x4a\x4a\x5f\x5f\x61\x70\x74\x77\x79";
+// By form, two bits: how many bytes the number takes that follows the tag; 3 stands for 8.
+const WIDTHS: usize = 0x5760015000;
 
-// The forms of a block's tags, from its first to its last that is listed.
-const FORMS: [u8; 121] =
-    *b"\x00\x0e\x00\x0f\x10\x11\x00\x02\x02\x02\x02\x02\x02\x02\x02\x02\x02\x02\x02\x00\x0d\x0d\x0d\x0d\x0d\x0d\x0d\x0d\x0d\x0d\x0d\x0d\x0d\x0d\x0d\x0d\x0d\x0d\x0d\x0d\x0d\x0d\x0d\x0d\x0d\x0d\x0d\x00\x03\x03\x00\x12\x12\x12\x12\x12\x12\x12\x00\x06\x06\x00\x09\x09\x09\x09\x09\x09\x0a\x09\x09\x0a\x0a\x0a\x00\x0b\x00\x00\x00\x00\x00\x00\x00\x00\x01\x01\x00\x00\x00\x00\x00\x00\x00\x00\x05\x00\x04\x00\x0c\x0c\x0c\x0c\x0c\x0c\x0c\x00\x00\x00\x0c\x0c\x0c\x0c\x00\x13\x13\x13\x00\x08\x08\x00\x07";
+// By form, two bits: 0 children of fixed sorts, 1 a payload, 2 counted children, 3 counted binders.
+const LAYOUTS: usize = 0xe95003a000;
 
-// By form: how many bytes the number takes that follows the tag.
-const WIDTHS: [u8; 20] =
-    *b"\x00\x00\x00\x00\x00\x00\x01\x01\x01\x00\x00\x00\x00\x00\x02\x01\x08\x01\x01\x01";
+// By form, two bits: the least count, where there is one.
+const LOWS: usize = 0x6400016000;
 
-// By form: 0 children of fixed sorts, 1 a payload, 2 counted children, 3 counted binders.
-const LAYOUTS: [u8; 20] =
-    *b"\x00\x00\x00\x00\x00\x00\x02\x02\x03\x00\x00\x00\x00\x00\x01\x01\x01\x02\x02\x03";
+// By form, one bit: how many types of its own the node carries.
+const CARRIED: usize = 0x4400;
 
-// By form: the range of the count, where there is one.
-const LOWS: [u8; 20] =
-    *b"\x00\x00\x00\x00\x00\x00\x02\x01\x01\x00\x00\x00\x00\x00\x00\x00\x00\x01\x02\x01";
+// By form, two bits: how many children, where a count does not say it; then, one bit each, whether the first of them, and the
+// later ones, are expressions.
+const CHILDREN: usize = 0x80094105a0;
 
-const HIGHS: [u8; 20] =
-    *b"\x00\x00\x00\x00\x00\x00\xff\xff\x20\x00\x00\x00\x00\x00\x00\x00\x00\xff\xff\x20";
+const FIRSTS: usize = 0x630a4;
 
-// By form: how many types of its own the node carries.
-const CARRIED: [u8; 20] =
-    *b"\x00\x00\x00\x00\x00\x00\x00\x00\x00\x00\x01\x00\x00\x00\x01\x00\x00\x00\x00\x00";
-
-// By form: how many children, where a count does not say it; and whether the first of them, and the later ones, are expressions.
-const CHILDREN: [u8; 20] =
-    *b"\x00\x00\x02\x02\x01\x01\x00\x00\x01\x00\x00\x01\x01\x02\x00\x00\x00\x00\x00\x02";
-
-const FIRSTS: [u8; 20] =
-    *b"\x00\x00\x01\x00\x00\x01\x00\x01\x00\x00\x00\x00\x01\x01\x00\x00\x00\x01\x01\x00";
-
-const LATERS: [u8; 20] =
-    *b"\x00\x00\x01\x00\x00\x01\x00\x01\x00\x00\x00\x00\x01\x01\x00\x00\x00\x01\x01\x01";
+const LATERS: usize = 0xe30a4;
 
 // The forms from here on are those of expressions.
 const FIRST_EXPRESSION: usize = 9;
@@ -53,20 +37,64 @@ pub fn wide(b: u8) -> usize
     b as usize
 }
 
+// Tags come in blocks of fifty, four of them to a word, 16 bits each: where the rows of a block begin, and in the high byte how
+// many it has.
+fn block_word(i: usize) -> usize
+    requires { ⌜ i < 5 ⌝ }
+    ensures { λ r. ⌜ r ≡ getD blockWords i 0 ⌝ }
+{
+    match i {
+        0 => 0x130d0600060600,
+        1 => 0x33a0832032f1c13,
+        2 => 0x4a004a004a0d3d,
+        3 => 0xf61025f005f154a,
+        _ => 0x27703740470,
+    }
+}
+
+// The row of a tag: its number among the tags of all blocks, from each block's first to its last that is listed. The first row
+// is that of no tag that is listed.
+pub fn row_of(tag: usize) -> usize
+    ensures { λ r. ⌜ (r ≡ rowOf tag) × (r < 121) ⌝ }
+{
+    let block = tag / 50;
+    if 20 <= block {
+        return 0;
+    }
+    let entry = (block_word(block / 4) >> (16 * (block % 4))) % 65536;
+    let offset = tag % 50;
+    if entry / 256 <= offset {
+        return 0;
+    }
+    entry % 256 + offset
+}
+
+// The forms of the rows, twelve to a word, five bits each.
+fn form_word(i: usize) -> usize
+    requires { ⌜ i < 11 ⌝ }
+    ensures { λ r. ⌜ r ≡ getD formWords i 0 ⌝ }
+{
+    match i {
+        0 => 0x1084210230781c0,
+        1 => 0x6b5ad0084210842,
+        2 => 0x6b5ad6b5ad6b5ad,
+        3 => 0x35ad6b5ad6b5ad,
+        4 => 0x3025294a5290063,
+        5 => 0x5252a4a5294a406,
+        6 => 0x5814a,
+        7 => 0x14000000000021,
+        8 => 0xc6318c63004,
+        9 => 0x21009ce606318c,
+        _ => 0x7,
+    }
+}
+
 // The form of a tag.
 pub fn form_of(tag: usize) -> usize
     ensures { λ r. ⌜ (r ≡ formCode (classOf tag)) × (r < 20) ⌝ }
 {
-    let block = tag / 50;
-    if 19 <= block {
-        return 0;
-    }
-    let at = wide(BLOCKS[block]) + tag % 50;
-    let end = wide(BLOCKS[block + 1]);
-    if end <= at {
-        return 0;
-    }
-    wide(FORMS[at])
+    let row = row_of(tag);
+    (form_word(row / 12) >> (5 * (row % 12))) % 32
 }
 
 // Whether the form is that of an expression where e, else that of a predicate.
@@ -84,42 +112,48 @@ pub fn width_of(form: usize) -> usize
     requires { ⌜ form < 20 ⌝ }
     ensures { λ r. ⌜ (r ≡ width (formAtCode form .layout)) × (r ≤ 8) ⌝ }
 {
-    wide(WIDTHS[form])
+    let code = (WIDTHS >> (2 * form)) % 4;
+    if code == 3 { 8 } else { code }
 }
 
 fn layout_of(form: usize) -> usize
     requires { ⌜ form < 20 ⌝ }
     ensures { λ r. ⌜ r ≡ layoutKind (formAtCode form .layout) ⌝ }
 {
-    wide(LAYOUTS[form])
+    (LAYOUTS >> (2 * form)) % 4
 }
 
 fn low_of(form: usize) -> usize
     requires { ⌜ form < 20 ⌝ }
     ensures { λ r. ⌜ r ≡ lowOf (formAtCode form .layout) ⌝ }
 {
-    wide(LOWS[form])
+    (LOWS >> (2 * form)) % 4
 }
 
 fn high_of(form: usize) -> usize
     requires { ⌜ form < 20 ⌝ }
     ensures { λ r. ⌜ r ≡ highOf (formAtCode form .layout) ⌝ }
 {
-    wide(HIGHS[form])
+    let layout = layout_of(form);
+    match layout {
+        2 => 255,
+        3 => 32,
+        _ => 0,
+    }
 }
 
 fn carried_of(form: usize) -> usize
     requires { ⌜ form < 20 ⌝ }
     ensures { λ r. ⌜ r ≡ formAtCode form .carried ⌝ }
 {
-    wide(CARRIED[form])
+    (CARRIED >> form) % 2
 }
 
 fn fixed_of(form: usize) -> usize
     requires { ⌜ form < 20 ⌝ }
     ensures { λ r. ⌜ r ≡ fixedOf (formAtCode form .layout) ⌝ }
 {
-    wide(CHILDREN[form])
+    (CHILDREN >> (2 * form)) % 4
 }
 
 // Whether the first child is an expression; false where there is none.
@@ -127,7 +161,7 @@ pub fn first_of(form: usize) -> bool
     requires { ⌜ form < 20 ⌝ }
     ensures { λ r. ⌜ r ≡ firstSort (sortsOf (formAtCode form .layout) 1) ⌝ }
 {
-    FIRSTS[form] == 1
+    (FIRSTS >> form) % 2 == 1
 }
 
 // Whether the children after the first are expressions; where there is none after it, as the first.
@@ -135,7 +169,7 @@ pub fn later_of(form: usize) -> bool
     requires { ⌜ form < 20 ⌝ }
     ensures { λ r. ⌜ r ≡ laterSort (sortsOf (formAtCode form .layout) 1) ⌝ }
 {
-    LATERS[form] == 1
+    (LATERS >> form) % 2 == 1
 }
 
 // Whether the number x that follows the tag is in its range.

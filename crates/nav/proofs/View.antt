@@ -25,7 +25,7 @@ use Rattle.frame.proofs.Numbers.{number-length}
 use Rattle.frame.proofs.Inversion.{noH-not}
 use Rattle.frame.proofs.ReadBack.{head-long, enc-long, head-back}
 use Rattle.frame.proofs.NodeTurns.{head-yes, head-no, head-kinds}
-use Rattle.frame.proofs.TagTables.{kinds-rest}
+use Rattle.frame.proofs.FormTables.{kinds-rest}
 use Rattle.nav.specs.Stands.{Stands, StandAll}
 
 -- ---- a tree and its head

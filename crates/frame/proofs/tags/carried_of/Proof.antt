@@ -1,19 +1,17 @@
--- `frame::tags::carried_of` meets its contract.
-use native.Mathlib.Omega.{arith}
-use mathlib.Core.Path.{_∙_}
+use Rattle.frame.proofs.FormTables.{carried-at}
 use borrow.Author.Needs.{needs}
-use Rattle.frame.proofs.TagTables.{carried-at}
 use Rattle.frame.proofs.tags.carried_of.Statement.{statement}
 use Rattle.frame.proofs.tags.carried_of.Tie as tie
+use Rattle.frame.proofs.tags.carried_of.Reads as reads
+use Rattle.frame.proofs.tags.carried_of.Lts as lts
 
-array-read-wide : tie.Need-array-read-wide
-array-read-wide c = search needs
+-- src/tags.rt:149:6
+shr-result : tie.Need-shr-result
+shr-result c = search needs
 
-wide-requires : tie.Need-wide-requires
-wide-requires c κs = search needs
-
+-- src/tags.rt:145:1
 returns : tie.Need-returns
-returns c = c .wide .ensures .0 ∙ carried-at (c .before .args .form) (omega arith)
+returns c = carried-at (c .args .form) (c .pre)
 
 pub carried-of-spec : {M : Type 1} → statement M
-carried-of-spec = tie.close (tie.spec array-read-wide wide-requires returns)
+carried-of-spec = tie.close (tie.spec shr-result returns)

@@ -2,7 +2,7 @@
 use native.Mathlib.Omega.{arith}
 use mathlib.Core.Path.{sym, _∙_}
 use borrow.Author.Needs.{needs}
-use Rattle.frame.proofs.TagTables.{layoutAt, children-counted, children-fixed}
+use Rattle.frame.proofs.FormTables.{layoutAt, children-counted, children-fixed}
 use Rattle.frame.proofs.tags.children_of.Statement.{statement}
 use Rattle.frame.proofs.tags.children_of.Tie as tie
 

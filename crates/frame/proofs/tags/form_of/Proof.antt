@@ -1,56 +1,34 @@
--- `frame::tags::form_of` meets its contract.
-use native.Mathlib.Omega.{arith}
-use mathlib.Core.Path.{sym}
+use Rattle.frame.proofs.TagTables.{row-form}
+use Prim.Native.Nat.{ℕ, _*_, _/_, _%_, _^_, _<_}
+use mathlib.Core.Path.{_≡_, sym, ap, subst, _∙_}
 use borrow.Author.Needs.{needs}
-use Rattle.frame.proofs.TagTables.{beyond, tag-none, tag-place, tag-some}
 use Rattle.frame.proofs.tags.form_of.Statement.{statement}
 use Rattle.frame.proofs.tags.form_of.Tie as tie
+use Rattle.frame.proofs.tags.form_of.Reads as reads
+use Rattle.frame.proofs.tags.form_of.Lts as lts
+use Rattle.frame.proofs.tags.form_word.Reads as form-word-reads
+use Rattle.frame.proofs.tags.row_of.Reads as row-of-reads
 
+-- src/tags.rt:96:9
+row-of-requires : tie.Need-row-of-requires
+row-of-requires c κs = search needs
+
+-- src/tags.rt:97:6
+form-word-requires : tie.Need-form-word-requires
+form-word-requires c κs = search needs
+
+-- src/tags.rt:97:30
+mul-result : tie.Need-mul-result
+mul-result c = search needs
+
+-- src/tags.rt:97:6
+shr-result : tie.Need-shr-result
+shr-result c = search needs
+
+-- src/tags.rt:93:1
 returns : tie.Need-returns
-returns c = (sym (beyond (c .before .args .tag) (omega arith)), omega arith)
-
-array-read-wide : tie.Need-array-read-wide
-array-read-wide c = search needs
-
-wide-requires : tie.Need-wide-requires
-wide-requires c κs = search needs
-
-add-at : tie.Need-add-at
-add-at c = search needs
-
-add-wide : tie.Need-add-wide
-add-wide c = search needs
-
-array-read-wide-2 : tie.Need-array-read-wide-2
-array-read-wide-2 c = search needs
-
-wide-requires-2 : tie.Need-wide-requires-2
-wide-requires-2 c κs = search needs
-
-returns-2 : tie.Need-returns-2
-returns-2 c = tag-none (c .before .before .before .before .args .tag) (omega arith) _ _ (c .before .before .wide .ensures .0) (c .before .wide2 .ensures .0) (c .if2 .taken)
-
-array-read-wide-3 : tie.Need-array-read-wide-3
-array-read-wide-3 c = tag-place (c .before .before .before .before .args .tag) (omega arith) _ _ (c .before .before .wide .ensures .0) (c .before .wide2 .ensures .0) (c .if2 .left)
-
-wide-requires-3 : tie.Need-wide-requires-3
-wide-requires-3 c κs = search needs
-
-returns-3 : tie.Need-returns-3
-returns-3 c = tag-some (c .before .before .before .before .before .args .tag) (omega arith) _ _ (c .before .before .before .wide .ensures .0) (c .before .before .wide2 .ensures .0) (c .before .if2 .left) _ (c .wide3 .ensures .0)
+returns c = row-form (c .before .before .args .tag) _ _ (c .before .row-of .ensures .0) (c .form-word .ensures)
 
 pub form-of-spec : {M : Type 1} → statement M
 form-of-spec =
-    tie.close
-    (tie.spec
-    returns
-    array-read-wide
-    wide-requires
-    add-at
-    add-wide
-    array-read-wide-2
-    wide-requires-2
-    returns-2
-    array-read-wide-3
-    wide-requires-3
-    returns-3)
+    tie.close (tie.spec row-of-requires form-word-requires mul-result shr-result returns)

@@ -1,19 +1,28 @@
--- `frame::tags::high_of` meets its contract.
+use Rattle.frame.proofs.FormTables.{highFor, high-at, high-rest}
 use native.Mathlib.Omega.{arith}
-use mathlib.Core.Path.{_∙_}
+use mathlib.Core.Path.{sym, ap, _∙_}
 use borrow.Author.Needs.{needs}
-use Rattle.frame.proofs.TagTables.{high-at}
 use Rattle.frame.proofs.tags.high_of.Statement.{statement}
 use Rattle.frame.proofs.tags.high_of.Tie as tie
+use Rattle.frame.proofs.tags.high_of.Reads as reads
+use Rattle.frame.proofs.tags.high_of.Lts as lts
+use Rattle.frame.proofs.tags.layout_of.Reads as layout-of-reads
 
-array-read-wide : tie.Need-array-read-wide
-array-read-wide c = search needs
+-- src/tags.rt:137:9
+layout-of-requires : tie.Need-layout-of-requires
+layout-of-requires c κs = search needs
 
-wide-requires : tie.Need-wide-requires
-wide-requires c κs = search needs
-
+-- src/tags.rt:133:1
 returns : tie.Need-returns
-returns c = c .wide .ensures .0 ∙ high-at (c .before .args .form) (omega arith)
+returns c = ap highFor (sym (c .match .keys1) ∙ c .before .layout-of .ensures) ∙ high-at (c .before .before .args .form) (c .before .before .pre)
+
+-- src/tags.rt:133:1
+returns-2 : tie.Need-returns-2
+returns-2 c = ap highFor (sym (c .match .keys2) ∙ c .before .layout-of .ensures) ∙ high-at (c .before .before .args .form) (c .before .before .pre)
+
+-- src/tags.rt:133:1
+returns-3 : tie.Need-returns-3
+returns-3 c = high-rest (c .before .before .args .form) (c .before .before .pre) _ (c .before .layout-of .ensures) (c .match .rest .1) (c .match .rest .0 .1)
 
 pub high-of-spec : {M : Type 1} → statement M
-high-of-spec = tie.close (tie.spec array-read-wide wide-requires returns)
+high-of-spec = tie.close (tie.spec layout-of-requires returns returns-2 returns-3)

@@ -4,7 +4,7 @@ use lib.Dec.{leb}
 use native.Mathlib.Omega.{arith}
 use mathlib.Core.Path.{sym, ap, _∙_}
 use borrow.Author.Needs.{needs}
-use Rattle.frame.proofs.TagTables.{layoutAt, range-free, range-low, range-high}
+use Rattle.frame.proofs.FormTables.{layoutAt, range-free, range-low, range-high}
 use Rattle.frame.proofs.tags.in_range.Statement.{statement}
 use Rattle.frame.proofs.tags.in_range.Tie as tie
 

@@ -1,6 +1,6 @@
 -- `frame::tags::is_sort` meets its contract.
 use native.Mathlib.Omega.{arith}
-use Rattle.frame.proofs.TagTables.{sort-expression, sort-predicate}
+use Rattle.frame.proofs.FormTables.{sort-expression, sort-predicate}
 use Rattle.frame.proofs.tags.is_sort.Statement.{statement}
 use Rattle.frame.proofs.tags.is_sort.Tie as tie
 

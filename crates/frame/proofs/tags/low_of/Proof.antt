@@ -1,19 +1,21 @@
--- `frame::tags::low_of` meets its contract.
-use native.Mathlib.Omega.{arith}
-use mathlib.Core.Path.{_∙_}
+use Rattle.frame.proofs.FormTables.{low-at}
 use borrow.Author.Needs.{needs}
-use Rattle.frame.proofs.TagTables.{low-at}
 use Rattle.frame.proofs.tags.low_of.Statement.{statement}
 use Rattle.frame.proofs.tags.low_of.Tie as tie
+use Rattle.frame.proofs.tags.low_of.Reads as reads
+use Rattle.frame.proofs.tags.low_of.Lts as lts
 
-array-read-wide : tie.Need-array-read-wide
-array-read-wide c = search needs
+-- src/tags.rt:130:15
+mul-result : tie.Need-mul-result
+mul-result c = search needs
 
-wide-requires : tie.Need-wide-requires
-wide-requires c κs = search needs
+-- src/tags.rt:130:6
+shr-result : tie.Need-shr-result
+shr-result c = search needs
 
+-- src/tags.rt:126:1
 returns : tie.Need-returns
-returns c = c .wide .ensures .0 ∙ low-at (c .before .args .form) (omega arith)
+returns c = low-at (c .args .form) (c .pre)
 
 pub low-of-spec : {M : Type 1} → statement M
-low-of-spec = tie.close (tie.spec array-read-wide wide-requires returns)
+low-of-spec = tie.close (tie.spec mul-result shr-result returns)

@@ -2,7 +2,7 @@
 use native.Mathlib.Omega.{arith}
 use mathlib.Core.Path.{sym, _∙_}
 use borrow.Author.Needs.{needs}
-use Rattle.frame.proofs.TagTables.{layoutAt, payload-own, payload-none}
+use Rattle.frame.proofs.FormTables.{layoutAt, payload-own, payload-none}
 use Rattle.frame.proofs.tags.payload_of.Statement.{statement}
 use Rattle.frame.proofs.tags.payload_of.Tie as tie
 

@@ -3,7 +3,7 @@ use native.Mathlib.Omega.{arith}
 use mathlib.Core.Path.{sym, _∙_}
 use borrow.Author.Needs.{needs}
 use Rattle.frame.specs.TagCodes.{formAtCode}
-use Rattle.frame.proofs.TagTables.{layoutAt, types-bound, types-own}
+use Rattle.frame.proofs.FormTables.{layoutAt, types-bound, types-own}
 use Rattle.frame.proofs.tags.types_of.Statement.{statement}
 use Rattle.frame.proofs.tags.types_of.Tie as tie
 
