@@ -13,6 +13,7 @@ pub mod TagTables
 pub mod FormTables
 pub mod TypeTurns
 pub mod HeadTurns
+pub mod KnownTurns
 pub mod NodeTurns
 pub mod View
 pub mod FrameTurns

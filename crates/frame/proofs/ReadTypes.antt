@@ -140,7 +140,7 @@ tys-read (suc n) s bs at ts p h e = on-first (tys-read n s bs) (readTy (suc type
     on-first ih (noT c) ex e = noTs-not e
 
 -- ---- a type's bytes are read back
-ty-long : (t : Ty) → 0 < length (encTy t)
+pub ty-long : (t : Ty) → 0 < length (encTy t)
 unfolding encTy
 ty-long bool = omega arith
 ty-long int = omega arith

@@ -5,14 +5,16 @@ use mathlib.Core.Bool.{Bool}
 use mathlib.Core.List.{List, _++_}
 use lib.ListN.{length, replicate}
 use lib.Seq.{sets}
-use Rattle.frame.specs.Types.{given}
+use Rattle.frame.specs.Types.{Ty, given}
 use Rattle.frame.specs.Trees.{head, Tree, Forest, nodes, nodesIn}
 use Rattle.frame.specs.Tags.{Sort}
 use Rattle.frame.specs.TagCodes.{firstSort, laterSort}
-use Rattle.frame.specs.Encoding.{starts, startsIn}
-use Rattle.frame.specs.Reading.{TyRes, okT, noT, byteOf, TysRes, okTs, noTs, HeadRes, okH, noH, Res, ok, no, FRes, okF, noF, readMany, readNode, Parsed, tree, bad, frameLimit}
+use Rattle.frame.specs.Encoding.{encTys, starts, startsIn}
+use Rattle.frame.specs.Reading.{TyRes, okT, noT, byteOf, TysRes, okTs, noTs, HeadRes, okH, noH, Res, ok, no, FRes, okF, noF, readHead, readMany, readNode, Parsed, tree, bad, frameLimit}
+use Rattle.frame.specs.Spans.{Spans}
+use Rattle.frame.specs.At.{IsAt}
 use Rattle.frame.specs.declared.reading.TypeAnswer.{TypeAnswer}
-use Rattle.frame.specs.declared.reading.TypeAnswer.the-variants as Ty
+use Rattle.frame.specs.declared.reading.TypeAnswer.the-variants as T
 use Rattle.frame.specs.declared.reading.HeadAnswer.{HeadAnswer}
 use Rattle.frame.specs.declared.reading.HeadAnswer.the-variants as H
 use Rattle.frame.specs.declared.reading.NodeAnswer.{NodeAnswer}
@@ -22,22 +24,39 @@ use Rattle.frame.specs.declared.reading.FrameAnswer.the-variants as F
 
 -- ---- types
 abbrev pub typeAnswer : TyRes → TypeAnswer
-typeAnswer (okT t p) = Ty.Ends p
-typeAnswer (noT c) = Ty.Refused c
+typeAnswer (okT t p) = T.Ends p
+typeAnswer (noT c) = T.Refused c
 
 -- the given set whose type byte stands at `at`
 abbrev pub givenAt : ℕ → List ℕ → ℕ → TyRes
 givenAt lim s at = byteOf lim s (at + 1) (λ h. byteOf lim s (at + 2) (λ l. okT (given (h * 256 + l)) (at + 3)))
 
 abbrev pub typesAnswer : TysRes → TypeAnswer
-typesAnswer (okTs ts p) = Ty.Ends p
-typesAnswer (noTs c) = Ty.Refused c
+typesAnswer (okTs ts p) = T.Ends p
+typesAnswer (noTs c) = T.Refused c
 
 -- ---- heads
 -- the sorts of the children by how many they are, the first and the later ones
 abbrev pub headAnswer : HeadRes → HeadAnswer
 headAnswer (okH (head g n ts) tp p es) = H.Is g n tp p (length es) (firstSort es) (laterSort es)
 headAnswer (noH c) = H.Refused c
+
+-- ---- what was read before
+-- m types stand in a row from `at` on
+abbrev pub TypesStand : List ℕ → ℕ → ℕ → Type 0
+TypesStand s at m = (us : List Ty) × (q : ℕ) × (length us ≡ m) × Spans s at q (encTys us)
+
+-- r is where they end
+pub record SkipPost (s : List ℕ) (at m r : ℕ) : Type 0 where
+  pub ends : (us : List Ty) (q : ℕ) → length us ≡ m → Spans s at q (encTys us) → r ≡ q
+
+-- a tree of some sort stands at `at`
+abbrev pub HeadStands : List ℕ → ℕ → Type 0
+HeadStands s at = (e : Sort) × (t : Tree) × (q : ℕ) × IsAt s e at t q
+
+-- r is the answer of the definition
+pub record KnownPost (s : List ℕ) (at : ℕ) (r : HeadAnswer) : Type 0 where
+  pub by : (e : Sort) (t : Tree) (q : ℕ) → IsAt s e at t q → r ≡ headAnswer (readHead s at e)
 
 -- ---- trees
 -- where the tree ends, and the place of the next node

@@ -9,7 +9,7 @@ ghost use Rattle.frame.specs.Types.{Ty};
 ghost use Rattle.frame.specs.Tags.{inRange};
 ghost use Rattle.frame.specs.TagCodes.{formAtCode, sortFor, kindsFor};
 ghost use Rattle.frame.specs.Reading.{numberAt, readTy, readTys, okTs, withTys, readHead, parse};
-ghost use Rattle.frame.specs.Post.{typeAnswer, givenAt, typesAnswer, headAnswer, Room, NodePost, KidsPost, frameAnswer, tableOf};
+ghost use Rattle.frame.specs.Post.{typeAnswer, givenAt, typesAnswer, headAnswer, TypesStand, SkipPost, HeadStands, KnownPost, Room, NodePost, KidsPost, frameAnswer, tableOf};
 use crate::refusals::BAD_COUNT;
 use crate::refusals::BAD_LENGTH;
 use crate::refusals::BAD_TAG;
@@ -186,6 +186,37 @@ pub fn read_head(s: &[u8], at: usize, e: bool) -> HeadAnswer
         TypeAnswer::Ends(q) => head_is(tag, form, x, types, q),
         TypeAnswer::Refused(c) => HeadAnswer::Refused(c),
     }
+}
+
+// Where m types in a row end that were read before: a power has one part, and a product two.
+pub fn skip_types(s: &[u8], at: usize, m: usize) -> usize
+    requires { ⌜ TypesStand (now s) at m ⌝ }
+    ensures { λ r. ⌜ SkipPost (now (s .entry)) at m r ⌝ }
+{
+    if m == 0 {
+        return at;
+    }
+    let b = s[at];
+    match b {
+        2 => skip_types(s, at + 3, m - 1),
+        3 => skip_types(s, at + 1, m),
+        4 => skip_types(s, at + 1, m + 1),
+        _ => skip_types(s, at + 1, m - 1),
+    }
+}
+
+// The head of a tree that was read before: nothing of it is checked again.
+pub fn known_head(s: &[u8], at: usize) -> HeadAnswer
+    requires { ⌜ HeadStands (now s) at ⌝ }
+    ensures { λ r. ⌜ KnownPost (now (s .entry)) at r ⌝ }
+{
+    let tag = number(s, at, 2);
+    let form = crate::tags::form_of(tag);
+    let w = crate::tags::width_of(form);
+    let x = number(s, at + 2, w);
+    let types = at + 2 + w;
+    let children = skip_types(s, types, crate::tags::types_of(form, x));
+    head_is(tag, form, x, types, children)
 }
 
 // The tree at `at`, an expression where e; the starts of its nodes go into the table from place k on.

@@ -47,7 +47,7 @@ fn same_heads(s: &[u8], a: usize, b: usize, e: bool) -> Heads
     if s[a + 1] != s[b + 1] {
         return Heads::Differ;
     }
-    let h = frame::reading::read_head(s, a, e);
+    let h = frame::reading::known_head(s, a);
     match h {
         HeadAnswer::Refused(_c) => Heads::Differ,
         HeadAnswer::Is {
@@ -126,7 +126,7 @@ pub fn end_of(s: &[u8], at: usize, e: bool) -> usize
     requires { ⌜ Standing (now s) at (sortFor e) ⌝ }
     ensures { λ r. ⌜ EndPost (now (s .entry)) at (sortFor e) r ⌝ }
 {
-    let h = frame::reading::read_head(s, at, e);
+    let h = frame::reading::known_head(s, at);
     match h {
         HeadAnswer::Refused(_c) => at,
         HeadAnswer::Is {

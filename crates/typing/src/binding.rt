@@ -99,7 +99,7 @@ fn bind_node(
     requires { ⌜ Ready (now s) at depth k (now binders) (now leaves) × ((t : Tree) × (Γ : Ctx) × (q : ℕ) × IsAt (now s) (sortFor e) at t q × Opened (now s) Γ (now binders) depth) ⌝ }
     ensures { λ r. ⌜ BoundPost (now (s .entry)) (sortFor e) at depth k (now (binders .entry)) (now (leaves .entry)) (now (binders .exit)) (now (leaves .exit)) r ⌝ }
 {
-    let h = frame::reading::read_head(s, at, e);
+    let h = frame::reading::known_head(s, at);
     match h {
         HeadAnswer::Refused(_c) => Bound::Refused,
         HeadAnswer::Is {

@@ -9,10 +9,7 @@ use crate::stack::push;
 use crate::type_bytes::copy_in;
 use crate::type_bytes::type_end;
 use frame::reading::HeadAnswer;
-use frame::reading::number;
-use frame::reading::read_head;
-use frame::tags::form_of;
-use frame::tags::is_sort;
+use frame::reading::known_head;
 ghost use mathlib.Core.Path.{_≡_};
 ghost use Prim.Native.Nat.{ℕ, _+_, _-_, _*_, _≤_, _<_};
 ghost use lib.ListN.{length, getD, set};
@@ -97,7 +94,7 @@ fn open_node(s: &[u8], at: usize, leaf: usize, types: &mut [u8], end: usize) -> 
     requires { ⌜ OpenPre (now s) at leaf (now types) end ⌝ }
     ensures { λ r. ⌜ NodePost (now (s .entry)) at leaf (now (types .entry)) end (now (types .exit)) r ⌝ }
 {
-    let h = read_head(s, at, is_sort(form_of(number(s, at, 2)), true));
+    let h = known_head(s, at);
     match h {
         HeadAnswer::Refused(_c) => Opened::Bad,
         HeadAnswer::Is {

@@ -1,0 +1,218 @@
+-- The ways out of `skip_types` and `known_head`, on plain values.
+-- Main results: stand-room, skip-end; stand-given .. stand-leaf (what is handed on), skip-given .. skip-leaf (what is handed back); known-types,
+-- known-room, known-range, known-found.
+use mathlib.Core.Path.{_≡_, sym, ap, ap₂, _∙_, subst}
+use mathlib.Core.Bool.{true}
+use mathlib.Core.List.{List, [], _∷_, _++_, append-assoc}
+use Prim.Native.Nat.{ℕ, zero, suc, _+_, _-_, _≤_, _<_}
+use native.Mathlib.Omega.{arith}
+use lib.ListN.{length, getD, length-append}
+use Rattle.frame.specs.Types.{Ty, bool, int, given, pow, prod}
+use Rattle.frame.specs.Trees.{Head, Tree}
+use Rattle.frame.specs.Tags.{Sort, Form, width, inRange, typesOf, classOf, formOf}
+use Rattle.frame.specs.TagCodes.{formAtCode, formCode}
+use Rattle.frame.specs.Encoding.{encNumber, encTy, encTys}
+use Rattle.frame.specs.Reading.{numberAt, okTs, withTys, okH, readHead, ok, readNode}
+use Rattle.frame.specs.Spans.{Bytes, Spans}
+use Rattle.frame.specs.At.{IsAt}
+use Rattle.frame.specs.Post.{headAnswer, TypesStand, SkipPost, HeadStands, KnownPost}
+use Rattle.frame.specs.declared.reading.HeadAnswer.{HeadAnswer}
+use Rattle.frame.proofs.Inversion.{no-not, tagAt, behind, HeadInv, head-inv, node-inv}
+use Rattle.frame.proofs.Spans.{span-first, span-right}
+use Rattle.frame.proofs.Numbers.{number-length}
+use Rattle.frame.proofs.ReadTypes.{ty-long, tys-read}
+use Rattle.frame.proofs.TagTables.{code-form}
+use Rattle.frame.proofs.FormTables.{layoutAt}
+use Rattle.frame.proofs.HeadTurns.{HeadIs}
+
+-- ---- types in a row
+tys-long : (us : List Ty) → length us ≤ length (encTys us)
+unfolding encTys
+tys-long [] = omega arith
+tys-long (u ∷ us) = simp length-append (omega (arith, ty-long u, tys-long us))
+
+pub stand-room : (s : List ℕ) (at m : ℕ) → TypesStand s at m → at + m ≤ length s
+stand-room s at m h = let x = h .3 .long in let y = h .3 .within in let z = h .2 in omega (arith, tys-long (h .0))
+
+-- what the first byte says of them
+data Next (s : List ℕ) (at m q : ℕ) : Type 0 where
+  leaf-next : (rest : List Ty) → getD s at 0 < 2 → length rest ≡ m - 1 → Spans s (at + 1) q (encTys rest) → Next s at m q
+  given-next : (rest : List Ty) → getD s at 0 ≡ 2 → length rest ≡ m - 1 → Spans s (at + 3) q (encTys rest) → Next s at m q
+  pow-next : (rest : List Ty) → getD s at 0 ≡ 3 → length rest ≡ m → Spans s (at + 1) q (encTys rest) → Next s at m q
+  prod-next : (rest : List Ty) → getD s at 0 ≡ 4 → length rest ≡ m + 1 → Spans s (at + 1) q (encTys rest) → Next s at m q
+
+next : (s : List ℕ) (at m : ℕ) → (m ≡ 0 → ⊥) → (us : List Ty) (q : ℕ) → length us ≡ m → Spans s at q (encTys us) → Next s at m q
+unfolding encTys encTy
+next s at m z [] q l a = absurd (z (sym l))
+next s at m z (bool ∷ us) q l a = let b = span-first a in let c = b .byte in leaf-next us (omega arith) (omega arith) (b .rest)
+next s at m z (int ∷ us) q l a = let b = span-first a in let c = b .byte in leaf-next us (omega arith) (omega arith) (b .rest)
+next s at m z (given n ∷ us) q l a =
+    let b = span-first a in
+    let e : at + 1 + 2 ≡ at + 3 = omega arith in
+    given-next us (b .byte) (omega arith) (subst (λ (i : ℕ). Spans s i q (encTys us)) (ap (λ (i : ℕ). at + 1 + i) (number-length 2 n) ∙ e) (span-right (encNumber 2 n) (encTys us) (b .rest)))
+next s at m z (pow t ∷ us) q l a = let b = span-first a in pow-next (t ∷ us) (b .byte) l (b .rest)
+next s at m z (prod t u ∷ us) q l a =
+    let b = span-first a in
+    let c : Spans s (at + 1) q (encTy t ++ (encTy u ++ encTys us)) = rw append-assoc at (b .rest) in
+    prod-next (t ∷ u ∷ us) (b .byte) (omega arith) c
+
+pub skip-end : (s : List ℕ) (at m : ℕ) → m ≡ 0 → SkipPost s at m at
+unfolding encTys
+skip-end s at m z = record { ends = λ us q l a. none us q l a }
+  where
+    none : (us : List Ty) (q : ℕ) → length us ≡ m → Spans s at q (encTys us) → at ≡ q
+    none [] q l a = omega (arith, a .long)
+    none (u ∷ us) q l a = absurd (omega arith)
+
+module _ (s : List ℕ) (at m : ℕ) (z : m ≡ 0 → ⊥) where
+  abbrev Onward : ℕ → ℕ → Type 0
+  Onward to n = (us : List Ty) (q : ℕ) → length us ≡ m → Spans s at q (encTys us) → (rest : List Ty) × (length rest ≡ n) × Spans s to q (encTys rest)
+
+  on-given : getD s at 0 ≡ 2 → Onward (at + 3) (m - 1)
+  on-given b us q l a = go (next s at m z us q l a)
+    where
+      go : Next s at m q → (rest : List Ty) × (length rest ≡ m - 1) × Spans s (at + 3) q (encTys rest)
+      go (leaf-next rest e k x) = absurd (omega arith)
+      go (given-next rest e k x) = (rest, k, x)
+      go (pow-next rest e k x) = absurd (omega arith)
+      go (prod-next rest e k x) = absurd (omega arith)
+
+  on-pow : getD s at 0 ≡ 3 → Onward (at + 1) m
+  on-pow b us q l a = go (next s at m z us q l a)
+    where
+      go : Next s at m q → (rest : List Ty) × (length rest ≡ m) × Spans s (at + 1) q (encTys rest)
+      go (leaf-next rest e k x) = absurd (omega arith)
+      go (given-next rest e k x) = absurd (omega arith)
+      go (pow-next rest e k x) = (rest, k, x)
+      go (prod-next rest e k x) = absurd (omega arith)
+
+  on-prod : getD s at 0 ≡ 4 → Onward (at + 1) (m + 1)
+  on-prod b us q l a = go (next s at m z us q l a)
+    where
+      go : Next s at m q → (rest : List Ty) × (length rest ≡ m + 1) × Spans s (at + 1) q (encTys rest)
+      go (leaf-next rest e k x) = absurd (omega arith)
+      go (given-next rest e k x) = absurd (omega arith)
+      go (pow-next rest e k x) = absurd (omega arith)
+      go (prod-next rest e k x) = (rest, k, x)
+
+  on-leaf : (getD s at 0 ≡ 2 → ⊥) → (getD s at 0 ≡ 3 → ⊥) → (getD s at 0 ≡ 4 → ⊥) → Onward (at + 1) (m - 1)
+  on-leaf b c d us q l a = go (next s at m z us q l a)
+    where
+      go : Next s at m q → (rest : List Ty) × (length rest ≡ m - 1) × Spans s (at + 1) q (encTys rest)
+      go (leaf-next rest e k x) = (rest, k, x)
+      go (given-next rest e k x) = absurd (b e)
+      go (pow-next rest e k x) = absurd (c e)
+      go (prod-next rest e k x) = absurd (d e)
+
+  -- what is handed on, and what is handed back
+  hand-on : (to n : ℕ) → Onward to n → TypesStand s at m → TypesStand s to n
+  hand-on to n f h = let x = f (h .0) (h .1) (h .2) (h .3) in (x .0, h .1, x .1, x .2)
+
+  hand-back : (to n r : ℕ) → Onward to n → SkipPost s to n r → SkipPost s at m r
+  hand-back to n r f p = record { ends = λ us q l a. (let x = f us q l a in p .ends (x .0) q (x .1) (x .2)) }
+
+  pub stand-given : getD s at 0 ≡ 2 → TypesStand s at m → TypesStand s (at + 3) (m - 1)
+  stand-given b = hand-on (at + 3) (m - 1) (on-given b)
+
+  pub stand-pow : getD s at 0 ≡ 3 → TypesStand s at m → TypesStand s (at + 1) m
+  stand-pow b = hand-on (at + 1) m (on-pow b)
+
+  pub stand-prod : getD s at 0 ≡ 4 → TypesStand s at m → TypesStand s (at + 1) (m + 1)
+  stand-prod b = hand-on (at + 1) (m + 1) (on-prod b)
+
+  pub stand-leaf : (getD s at 0 ≡ 2 → ⊥) → (getD s at 0 ≡ 3 → ⊥) → (getD s at 0 ≡ 4 → ⊥) → TypesStand s at m → TypesStand s (at + 1) (m - 1)
+  stand-leaf b c d = hand-on (at + 1) (m - 1) (on-leaf b c d)
+
+  pub skip-given : getD s at 0 ≡ 2 → (r : ℕ) → SkipPost s (at + 3) (m - 1) r → SkipPost s at m r
+  skip-given b r = hand-back (at + 3) (m - 1) r (on-given b)
+
+  pub skip-pow : getD s at 0 ≡ 3 → (r : ℕ) → SkipPost s (at + 1) m r → SkipPost s at m r
+  skip-pow b r = hand-back (at + 1) m r (on-pow b)
+
+  pub skip-prod : getD s at 0 ≡ 4 → (r : ℕ) → SkipPost s (at + 1) (m + 1) r → SkipPost s at m r
+  skip-prod b r = hand-back (at + 1) (m + 1) r (on-prod b)
+
+  pub skip-leaf : (getD s at 0 ≡ 2 → ⊥) → (getD s at 0 ≡ 3 → ⊥) → (getD s at 0 ≡ 4 → ⊥) → (r : ℕ) → SkipPost s (at + 1) (m - 1) r → SkipPost s at m r
+  skip-leaf b c d r = hand-back (at + 1) (m - 1) r (on-leaf b c d)
+
+-- ---- the head of a tree that stands somewhere
+pub record Head-at (s : List ℕ) (at : ℕ) (e : Sort) : Type 0 where
+  h : Head
+  tp : ℕ
+  p : ℕ
+  es : List Sort
+  headed : readHead s at e ≡ okH h tp p es
+  inv : HeadInv s at e h tp p es
+
+head-at : (s : List ℕ) (at : ℕ) (e : Sort) (t : Tree) (q : ℕ) → IsAt s e at t q → Head-at s at e
+unfolding readNode
+head-at s at e t q a = go (a .0) (a .1)
+  where
+    go : (f : ℕ) → readNode f s e at ≡ ok t q → Head-at s at e
+    go zero eq = no-not eq
+    go (suc f) eq = let v = node-inv f s e at t q eq in record {
+      h = v .top;
+      tp = v .types;
+      p = v .from;
+      es = v .sorts;
+      headed = v .headed;
+      inv = head-inv s at e (v .top) (v .types) (v .from) (v .sorts) (v .headed);
+    }
+
+pub known-two : (s : List ℕ) (at : ℕ) → HeadStands s at → at + 2 ≤ length s
+known-two s at k = head-at s at (k .0) (k .1) (k .2) (k .3) .inv .two-ok
+
+-- the tag, its form, the width of its number, and the number
+module _ (s : List ℕ) (at tag : ℕ) (et : tag ≡ numberAt 2 s at) (form : ℕ) (ef : form ≡ formCode (classOf tag)) (w : ℕ) (ew : w ≡ width (layoutAt form)) where
+  is-form : formAtCode form ≡ formOf (tagAt s at)
+  is-form = code-form tag form ef ∙ ap formOf et
+
+  is-width : w ≡ width (formOf (tagAt s at) .layout)
+  is-width = ew ∙ ap (λ (fm : Form). width (fm .layout)) is-form
+
+  pub known-room : HeadStands s at → at + 2 + w ≤ length s
+  known-room k =
+      let v = head-at s at (k .0) (k .1) (k .2) (k .3) .inv in
+      omega (arith, is-width, v .starts, v .room)
+
+  module _ (x : ℕ) (ex : x ≡ numberAt w s (at + 2)) where
+    is-behind : x ≡ behind s at
+    is-behind = ex ∙ ap (λ (i : ℕ). numberAt i s (at + 2)) is-width
+
+    pub known-range : HeadStands s at → inRange (layoutAt form) x ≡ true
+    known-range k =
+        ap₂ (λ (fm : Form) (i : ℕ). inRange (fm .layout) i) is-form is-behind
+        ∙ head-at s at (k .0) (k .1) (k .2) (k .3) .inv .range
+
+    module _ (m : ℕ) (em : m ≡ typesOf (layoutAt form) (formAtCode form .carried) x) where
+      is-many : m ≡ typesOf (formOf (tagAt s at) .layout) (formOf (tagAt s at) .carried) (behind s at)
+      is-many = em ∙ ap₂ (λ (fm : Form) (i : ℕ). typesOf (fm .layout) (fm .carried) i) is-form is-behind
+
+      tys-of : Bytes s → (e : Sort) (t : Tree) (q : ℕ) → IsAt s e at t q → (us : List Ty) × (p : ℕ) × (length us ≡ m) × Spans s (at + 2 + w) p (encTys us)
+      tys-of bs e t q a =
+          let k = head-at s at e t q a in
+          let v = k .inv in
+          let z : at + 2 + w ≡ k .tp = ap (λ (i : ℕ). at + 2 + i) is-width ∙ sym (v .starts) in
+          let y = tys-read _ s bs (k .tp) (v .ts) (k .p) (v .room) (v .types) in
+          (v .ts, k .p, y .many ∙ sym is-many, subst (λ (i : ℕ). Spans s i (k .p) (encTys (v .ts))) (sym z) (y .span))
+
+      pub known-types : Bytes s → HeadStands s at → TypesStand s (at + 2 + w) m
+      known-types bs k = tys-of bs (k .0) (k .1) (k .2) (k .3)
+
+      pub known-found : Bytes s → (to : ℕ) → SkipPost s (at + 2 + w) m to → (r : HeadAnswer) → HeadIs form tag x (at + 2 + w) to r → KnownPost s at r
+      unfolding head-at tys-of
+      known-found bs to sk r hr = record { by = λ e t q a. found e t q a }
+        where
+          found : (e : Sort) (t : Tree) (q : ℕ) → IsAt s e at t q → r ≡ headAnswer (readHead s at e)
+          found e t q a =
+              let k = head-at s at e t q a in
+              let v = k .inv in
+              let ty = tys-of bs e t q a in
+              let z : to ≡ k .p = sk .ends (ty .0) (ty .1) (ty .2) (ty .3) in
+              let y : at + 2 + w ≡ k .tp = ap (λ (i : ℕ). at + 2 + i) is-width ∙ sym (v .starts) in
+              hr (v .ts)
+              ∙ ap₂ (λ (fm : Form) (i : ℕ). headAnswer (withTys fm tag i (at + 2 + w) (okTs (v .ts) to))) is-form is-behind
+              ∙ ap₂ (λ (g i : ℕ). headAnswer (withTys (formOf (tagAt s at)) g (behind s at) i (okTs (v .ts) to))) et y
+              ∙ ap (λ (i : ℕ). headAnswer (withTys (formOf (tagAt s at)) (tagAt s at) (behind s at) (k .tp) (okTs (v .ts) i))) z
+              ∙ ap₂ (λ (h : Head) (es : List Sort). headAnswer (okH h (k .tp) (k .p) es)) (sym (v .is)) (sym (v .sorts))
+              ∙ ap headAnswer (sym (k .headed))
