@@ -18,7 +18,7 @@ use Rattle.frame.specs.WellFormed.{TyWf, TysWf, HeadWf, numberIn}
 use Rattle.frame.specs.Places.{Ctx, under}
 use Rattle.frame.specs.Sameness.{sameTy, sameTys}
 use Rattle.frame.specs.Spans.{Bytes, Spans}
-use Rattle.frame.specs.Post.{headAnswer}
+use Rattle.frame.specs.Post.{headAnswer, KnownPost}
 use Rattle.frame.specs.declared.reading.HeadAnswer.{HeadAnswer}
 use Rattle.frame.specs.declared.reading.HeadAnswer.the-variants as H
 use Rattle.frame.proofs.Spans.{span-left}
@@ -364,24 +364,13 @@ too-long g n us ks Γ u e h =
     no-way false b c = refl
 
 -- ---- the ways out
-sort-of : (e : Sort) → sortFor (sameSort e expression) ≡ e
-sort-of predicate = refl
-sort-of expression = refl
-
-module _ (s : List ℕ) (bs : Bytes s) (at leaf : ℕ) (t₀ l₀ f₀ : List ℕ) (top : ℕ) (o : List ℕ) (end : ℕ) (form : ℕ) (ef : form ≡ formCode (classOf (numberAt 2 s at))) (b : Bool) (eb : b ≡ sameSort (formAtCode form .sort) (sortFor true))
-    (h : HeadAnswer) (eh : h ≡ headAnswer (readHead s at (sortFor b))) where
-  -- the head was read for the sort that the tree has
-  at-sort : (e : Sort) (t : Tree) (q : ℕ) → TreeAt s e at t q → h ≡ headAnswer (readHead s at e)
-  at-sort e t q w =
-      let z : sortFor b ≡ e = ap sortFor (eb ∙ ap (λ (f : _). sameSort (f .sort) expression) (code-form (numberAt 2 s at) form ef)) ∙ sort-of (formOf (numberAt 2 s at) .sort) ∙ tree-head s e at t q w .1 in
-      eh ∙ ap (λ (d : Sort). headAnswer (readHead s at d)) z
-
+module _ (s : List ℕ) (bs : Bytes s) (at leaf : ℕ) (t₀ l₀ f₀ : List ℕ) (top : ℕ) (o : List ℕ) (end : ℕ) (h : HeadAnswer) (eh : KnownPost s at h) where
   pub open-refused : (c : ℕ) → h ≡ H.Refused c → (t₁ l₁ f₁ types : List ℕ) → OpenPost s at leaf t₀ l₀ f₀ top o end t₁ l₁ f₁ types O.Bad
-  open-refused c hr t₁ l₁ f₁ types = record { answer = λ e t q Γ w lf. no-view s at e t q w h (at-sort e t q w) c hr }
+  open-refused c hr t₁ l₁ f₁ types = record { answer = λ e t q Γ w lf. no-view s at e t q w h (eh .by e t q w) c hr }
 
   module _ (tag n tp p k : ℕ) (a₁ a₂ : Bool) (hi : h ≡ H.Is tag n tp p k a₁ a₂) where
     seen : (e : Sort) (t : Tree) (q : ℕ) → TreeAt s e at t q → View s at e t q tag n tp p k
-    seen e t q w = view s at e t q w h (at-sort e t q w) tag n tp p k a₁ a₂ hi
+    seen e t q w = view s at e t q w h (eh .by e t q w) tag n tp p k a₁ a₂ hi
 
     pub open-own : OpenPre s at leaf o end → OwnPre (classOf tag) s (ownPlace (classOf tag) tp leaf) o end
     open-own x =

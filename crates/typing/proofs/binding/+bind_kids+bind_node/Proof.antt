@@ -12,7 +12,7 @@ use Rattle.typing.proofs.binding.+bind_kids+bind_node.Lts-bind_kids as 
 use Rattle.typing.proofs.binding.bind_node.Reads as bind-node
 use Rattle.typing.proofs.binding.bind_node.Kinds as bind-node-kinds
 use Rattle.typing.proofs.binding.+bind_kids+bind_node.Lts-bind_node as bind-node-lts
-use Rattle.frame.proofs.reading.read_head.Reads as read-head-reads
+use Rattle.frame.proofs.reading.known_head.Reads as known-head-reads
 use Rattle.typing.proofs.binding.bind_leaf.Reads as bind-leaf-reads
 use Rattle.typing.proofs.binding.enter.Reads as enter-reads
 use Rattle.typing.proofs.binding.+bind_kids+bind_node.{statement}
@@ -111,9 +111,9 @@ bind-kids-returns-3 : (t : ℕ) → bind-kids-lts.Need-returns-3 (
 bind-kids-returns-3 t c = kids-yes _ _ _ _ _ _ _ _ _ (c .before .before .before .before .before .before .before .before .before .before .before .pre .1 .0) (c .before .before .before .before .before .before .before .before .before .if1 .left) _ _ _ (c .before .before .before .before .before .before .bind-node .ensures) _ _ (c .before .before .before .before .a .given .1) _ _ _ (c .bind-kids .ensures)
 
 -- src/binding.rt:102:9
-bind-node-read-head-requires : (t : ℕ) → bind-node-lts.Need-read-head-requires (
-  read-head-reads.Asked,
-  read-head-reads.Learnt,
+bind-node-known-head-requires : (t : ℕ) → bind-node-lts.Need-known-head-requires (
+  known-head-reads.Asked,
+  known-head-reads.Learnt,
   bind-leaf-reads.Asked,
   bind-leaf-reads.Learnt,
   enter-reads.Asked,
@@ -121,12 +121,12 @@ bind-node-read-head-requires : (t : ℕ) → bind-node-lts.Need-read-head-requir
   bind-kids-below t,
   bind-kids.Post,
 ) (bind-node-at t) bind-node.Post
-bind-node-read-head-requires t c κs = c .before .pre .1 .0 .within
+bind-node-known-head-requires t c κs = let h = c .before .pre .1 .1 in (_, h .0, h .2, h .3)
 
 -- src/binding.rt:104:29
 bind-node-enum-known-h : (t : ℕ) → bind-node-lts.Need-enum-known-h (
-  read-head-reads.Asked,
-  read-head-reads.Learnt,
+  known-head-reads.Asked,
+  known-head-reads.Learnt,
   bind-leaf-reads.Asked,
   bind-leaf-reads.Learnt,
   enter-reads.Asked,
@@ -138,8 +138,8 @@ bind-node-enum-known-h t c = search needs
 
 -- src/binding.rt:106:13
 bind-node-enum-known-h-2 : (t : ℕ) → bind-node-lts.Need-enum-known-h-2 (
-  read-head-reads.Asked,
-  read-head-reads.Learnt,
+  known-head-reads.Asked,
+  known-head-reads.Learnt,
   bind-leaf-reads.Asked,
   bind-leaf-reads.Learnt,
   enter-reads.Asked,
@@ -151,8 +151,8 @@ bind-node-enum-known-h-2 t c = search needs
 
 -- src/binding.rt:115:17
 bind-node-bind-leaf-requires : (t : ℕ) → bind-node-lts.Need-bind-leaf-requires (
-  read-head-reads.Asked,
-  read-head-reads.Learnt,
+  known-head-reads.Asked,
+  known-head-reads.Learnt,
   bind-leaf-reads.Asked,
   bind-leaf-reads.Learnt,
   enter-reads.Asked,
@@ -160,12 +160,12 @@ bind-node-bind-leaf-requires : (t : ℕ) → bind-node-lts.Need-bind-leaf-requir
   bind-kids-below t,
   bind-kids.Post,
 ) (bind-node-at t) bind-node.Post
-bind-node-bind-leaf-requires t c κs = (omega (arith, c .before .before .before .before .before .before .before .before .pre .1 .0 .opened, c .before .before .before .before .before .before .before .before .pre .1 .0 .within, c .before .before .before .before .before .before .before .before .pre .1 .0 .fits), place-room _ _ _ _ _ _ _ _ (c .before .before .before .before .before .before .read-head .ensures) (λ i. c .before .before .before .before .before .before .before .shared-slice-known .given i .fits) _ _ _ _ _ _ _ (c .before .before .before .before .h2 .given .1) (c .before .before .before .before .before .before .before .before .pre .1 .0) (c .before .before .before .before .before .before .before .before .pre .1 .1))
+bind-node-bind-leaf-requires t c κs = (omega (arith, c .before .before .before .before .before .before .before .before .pre .1 .0 .opened, c .before .before .before .before .before .before .before .before .pre .1 .0 .within, c .before .before .before .before .before .before .before .before .pre .1 .0 .fits), place-room _ _ _ _ _ _ _ _ (c .before .before .before .before .before .before .known-head .ensures .by _ _ _ (c .before .before .before .before .before .before .before .before .pre .1 .1 .3)) (λ i. c .before .before .before .before .before .before .before .shared-slice-known .given i .fits) _ _ _ _ _ _ _ (c .before .before .before .before .h2 .given .1) (c .before .before .before .before .before .before .before .before .pre .1 .0) (c .before .before .before .before .before .before .before .before .pre .1 .1))
 
 -- src/binding.rt:115:17
 bind-node-returns : (t : ℕ) → bind-node-lts.Need-returns (
-  read-head-reads.Asked,
-  read-head-reads.Learnt,
+  known-head-reads.Asked,
+  known-head-reads.Learnt,
   bind-leaf-reads.Asked,
   bind-leaf-reads.Learnt,
   enter-reads.Asked,
@@ -173,12 +173,12 @@ bind-node-returns : (t : ℕ) → bind-node-lts.Need-returns (
   bind-kids-below t,
   bind-kids.Post,
 ) (bind-node-at t) bind-node.Post
-bind-node-returns t c = node-leaf _ _ _ _ _ _ _ _ (c .before .before .before .before .before .before .before .read-head .ensures) (λ i. c .before .before .before .before .before .before .before .before .shared-slice-known .given i .fits) _ _ _ _ _ _ _ (c .before .before .before .before .before .h2 .given .1) (c .before .before .before .before .before .before .before .before .before .pre .1 .0) (c .before .before .before .if1 .taken) (place-room _ _ _ _ _ _ _ _ (c .before .before .before .before .before .before .before .read-head .ensures) (λ i. c .before .before .before .before .before .before .before .before .shared-slice-known .given i .fits) _ _ _ _ _ _ _ (c .before .before .before .before .before .h2 .given .1) (c .before .before .before .before .before .before .before .before .before .pre .1 .0) (c .before .before .before .before .before .before .before .before .before .pre .1 .1)) _ _ (c .bind-leaf .ensures)
+bind-node-returns t c = node-leaf _ _ _ _ _ _ _ _ (c .before .before .before .before .before .before .before .known-head .ensures .by _ _ _ (c .before .before .before .before .before .before .before .before .before .pre .1 .1 .3)) (λ i. c .before .before .before .before .before .before .before .before .shared-slice-known .given i .fits) _ _ _ _ _ _ _ (c .before .before .before .before .before .h2 .given .1) (c .before .before .before .before .before .before .before .before .before .pre .1 .0) (c .before .before .before .if1 .taken) (place-room _ _ _ _ _ _ _ _ (c .before .before .before .before .before .before .before .known-head .ensures .by _ _ _ (c .before .before .before .before .before .before .before .before .before .pre .1 .1 .3)) (λ i. c .before .before .before .before .before .before .before .before .shared-slice-known .given i .fits) _ _ _ _ _ _ _ (c .before .before .before .before .before .h2 .given .1) (c .before .before .before .before .before .before .before .before .before .pre .1 .0) (c .before .before .before .before .before .before .before .before .before .pre .1 .1)) _ _ (c .bind-leaf .ensures)
 
 -- src/binding.rt:117:17
 bind-node-enter-requires : (t : ℕ) → bind-node-lts.Need-enter-requires (
-  read-head-reads.Asked,
-  read-head-reads.Learnt,
+  known-head-reads.Asked,
+  known-head-reads.Learnt,
   bind-leaf-reads.Asked,
   bind-leaf-reads.Learnt,
   enter-reads.Asked,
@@ -186,12 +186,12 @@ bind-node-enter-requires : (t : ℕ) → bind-node-lts.Need-enter-requires (
   bind-kids-below t,
   bind-kids.Post,
 ) (bind-node-at t) bind-node.Post
-bind-node-enter-requires t c κs = let w = children-room _ _ _ _ _ _ _ _ (c .before .before .before .before .before .read-head .ensures) (λ i. c .before .before .before .before .before .before .shared-slice-known .given i .fits) _ _ _ _ _ _ _ (c .before .before .before .h2 .given .1) (c .before .before .before .before .before .before .before .pre .1 .0) (c .before .before .before .before .before .before .before .pre .1 .1) in (c .before .before .before .before .before .before .before .pre .1 .0 .fits, omega arith, c .before .before .before .before .before .before .before .pre .1 .0 .binders-size, enter-types _ _ _ _ _ _ _ _ (c .before .before .before .before .before .read-head .ensures) (λ i. c .before .before .before .before .before .before .shared-slice-known .given i .fits) _ _ _ _ _ _ _ (c .before .before .before .h2 .given .1) (c .before .before .before .before .before .before .before .pre .1 .0) (c .before .if1 .left) (c .before .before .before .before .before .before .before .pre .1 .1))
+bind-node-enter-requires t c κs = let w = children-room _ _ _ _ _ _ _ _ (c .before .before .before .before .before .known-head .ensures .by _ _ _ (c .before .before .before .before .before .before .before .pre .1 .1 .3)) (λ i. c .before .before .before .before .before .before .shared-slice-known .given i .fits) _ _ _ _ _ _ _ (c .before .before .before .h2 .given .1) (c .before .before .before .before .before .before .before .pre .1 .0) (c .before .before .before .before .before .before .before .pre .1 .1) in (c .before .before .before .before .before .before .before .pre .1 .0 .fits, omega arith, c .before .before .before .before .before .before .before .pre .1 .0 .binders-size, enter-types _ _ _ _ _ _ _ _ (c .before .before .before .before .before .known-head .ensures .by _ _ _ (c .before .before .before .before .before .before .before .pre .1 .1 .3)) (λ i. c .before .before .before .before .before .before .shared-slice-known .given i .fits) _ _ _ _ _ _ _ (c .before .before .before .h2 .given .1) (c .before .before .before .before .before .before .before .pre .1 .0) (c .before .if1 .left) (c .before .before .before .before .before .before .before .pre .1 .1))
 
 -- src/binding.rt:127:17
 bind-node-add-bind-kids : (t : ℕ) → bind-node-lts.Need-add-bind-kids (
-  read-head-reads.Asked,
-  read-head-reads.Learnt,
+  known-head-reads.Asked,
+  known-head-reads.Learnt,
   bind-leaf-reads.Asked,
   bind-leaf-reads.Learnt,
   enter-reads.Asked,
@@ -199,12 +199,12 @@ bind-node-add-bind-kids : (t : ℕ) → bind-node-lts.Need-add-bind-kids (
   bind-kids-below t,
   bind-kids.Post,
 ) (bind-node-at t) bind-node.Post
-bind-node-add-bind-kids t c = omega (arith, place-room _ _ _ _ _ _ _ _ (c .before .before .before .before .before .before .before .before .read-head .ensures) (λ i. c .before .before .before .before .before .before .before .before .before .shared-slice-known .given i .fits) _ _ _ _ _ _ _ (c .before .before .before .before .before .before .h2 .given .1) (c .before .before .before .before .before .before .before .before .before .before .pre .1 .0) (c .before .before .before .before .before .before .before .before .before .before .pre .1 .1))
+bind-node-add-bind-kids t c = omega (arith, place-room _ _ _ _ _ _ _ _ (c .before .before .before .before .before .before .before .before .known-head .ensures .by _ _ _ (c .before .before .before .before .before .before .before .before .before .before .pre .1 .1 .3)) (λ i. c .before .before .before .before .before .before .before .before .before .shared-slice-known .given i .fits) _ _ _ _ _ _ _ (c .before .before .before .before .before .before .h2 .given .1) (c .before .before .before .before .before .before .before .before .before .before .pre .1 .0) (c .before .before .before .before .before .before .before .before .before .before .pre .1 .1))
 
 -- src/binding.rt:118:13
 bind-node-bind-kids-requires : (t : ℕ) → bind-node-lts.Need-bind-kids-requires (
-  read-head-reads.Asked,
-  read-head-reads.Learnt,
+  known-head-reads.Asked,
+  known-head-reads.Learnt,
   bind-leaf-reads.Asked,
   bind-leaf-reads.Learnt,
   enter-reads.Asked,
@@ -212,12 +212,12 @@ bind-node-bind-kids-requires : (t : ℕ) → bind-node-lts.Need-bind-kids-requir
   bind-kids-below t,
   bind-kids.Post,
 ) (bind-node-at t) bind-node.Post
-bind-node-bind-kids-requires t c κs = let w = children-room _ _ _ _ _ _ _ _ (c .before .before .before .before .before .before .before .before .read-head .ensures) (λ i. c .before .before .before .before .before .before .before .before .before .shared-slice-known .given i .fits) _ _ _ _ _ _ _ (c .before .before .before .before .before .before .h2 .given .1) (c .before .before .before .before .before .before .before .before .before .before .pre .1 .0) (c .before .before .before .before .before .before .before .before .before .before .pre .1 .1) in let f = node-next _ _ _ _ _ _ _ _ (c .before .before .before .before .before .before .before .before .read-head .ensures) (λ i. c .before .before .before .before .before .before .before .before .before .shared-slice-known .given i .fits) _ _ _ _ _ _ _ (c .before .before .before .before .before .before .h2 .given .1) (c .before .before .before .before .before .before .before .before .before .before .pre .1 .0) (c .before .before .before .before .if1 .left) _ _ (c .before .before .enter .ensures) (c .before .before .before .before .before .before .before .before .before .before .pre .1 .1) in (omega arith, f)
+bind-node-bind-kids-requires t c κs = let w = children-room _ _ _ _ _ _ _ _ (c .before .before .before .before .before .before .before .before .known-head .ensures .by _ _ _ (c .before .before .before .before .before .before .before .before .before .before .pre .1 .1 .3)) (λ i. c .before .before .before .before .before .before .before .before .before .shared-slice-known .given i .fits) _ _ _ _ _ _ _ (c .before .before .before .before .before .before .h2 .given .1) (c .before .before .before .before .before .before .before .before .before .before .pre .1 .0) (c .before .before .before .before .before .before .before .before .before .before .pre .1 .1) in let f = node-next _ _ _ _ _ _ _ _ (c .before .before .before .before .before .before .before .before .known-head .ensures .by _ _ _ (c .before .before .before .before .before .before .before .before .before .before .pre .1 .1 .3)) (λ i. c .before .before .before .before .before .before .before .before .before .shared-slice-known .given i .fits) _ _ _ _ _ _ _ (c .before .before .before .before .before .before .h2 .given .1) (c .before .before .before .before .before .before .before .before .before .before .pre .1 .0) (c .before .before .before .before .if1 .left) _ _ (c .before .before .enter .ensures) (c .before .before .before .before .before .before .before .before .before .before .pre .1 .1) in (omega arith, f)
 
 -- src/binding.rt:90:1
 bind-node-returns-2 : (t : ℕ) → bind-node-lts.Need-returns-2 (
-  read-head-reads.Asked,
-  read-head-reads.Learnt,
+  known-head-reads.Asked,
+  known-head-reads.Learnt,
   bind-leaf-reads.Asked,
   bind-leaf-reads.Learnt,
   enter-reads.Asked,
@@ -225,12 +225,12 @@ bind-node-returns-2 : (t : ℕ) → bind-node-lts.Need-returns-2 (
   bind-kids-below t,
   bind-kids.Post,
 ) (bind-node-at t) bind-node.Post
-bind-node-returns-2 t c = bound-never _ _ _ _ _ _ _ _ (c .before .before .before .read-head .ensures) _ (c .before .h .given .1) (c .before .before .before .before .before .pre .1 .0) (c .before .before .before .before .before .pre .1 .1)
+bind-node-returns-2 t c = bound-never _ _ _ _ _ _ _ _ (c .before .before .before .known-head .ensures .by _ _ _ (c .before .before .before .before .before .pre .1 .1 .3)) _ (c .before .h .given .1) (c .before .before .before .before .before .pre .1 .0) (c .before .before .before .before .before .pre .1 .1)
 
 -- src/binding.rt:90:1
 bind-node-returns-3 : (t : ℕ) → bind-node-lts.Need-returns-3 (
-  read-head-reads.Asked,
-  read-head-reads.Learnt,
+  known-head-reads.Asked,
+  known-head-reads.Learnt,
   bind-leaf-reads.Asked,
   bind-leaf-reads.Learnt,
   enter-reads.Asked,
@@ -238,7 +238,7 @@ bind-node-returns-3 : (t : ℕ) → bind-node-lts.Need-returns-3 (
   bind-kids-below t,
   bind-kids.Post,
 ) (bind-node-at t) bind-node.Post
-bind-node-returns-3 t c = node-kids _ _ _ _ _ _ _ _ (c .before .before .before .before .before .before .before .before .before .read-head .ensures) (λ i. c .before .before .before .before .before .before .before .before .before .before .shared-slice-known .given i .fits) _ _ _ _ _ _ _ (c .before .before .before .before .before .before .before .h2 .given .1) (c .before .before .before .before .before .before .before .before .before .before .before .pre .1 .0) (c .before .before .before .before .before .if1 .left) _ _ (c .before .before .before .enter .ensures) _ _ _ (c .bind-kids .ensures)
+bind-node-returns-3 t c = node-kids _ _ _ _ _ _ _ _ (c .before .before .before .before .before .before .before .before .before .known-head .ensures .by _ _ _ (c .before .before .before .before .before .before .before .before .before .before .before .pre .1 .1 .3)) (λ i. c .before .before .before .before .before .before .before .before .before .before .shared-slice-known .given i .fits) _ _ _ _ _ _ _ (c .before .before .before .before .before .before .before .h2 .given .1) (c .before .before .before .before .before .before .before .before .before .before .before .pre .1 .0) (c .before .before .before .before .before .if1 .left) _ _ (c .before .before .before .enter .ensures) _ _ _ (c .bind-kids .ensures)
 
 pub +bind-kids+bind-node-spec : {M : Type 1} → statement M
 +bind-kids+bind-node-spec = close μ-bind-kids μ-bind-node (λ t. bind-kids-lts.spec (
@@ -258,8 +258,8 @@ pub +bind-kids+bind-node-spec : {M : Type 1} → statement M
     (bind-kids-returns-2 t)
     (bind-kids-returns-3 t))
     λ t. bind-node-lts.spec (
-      read-head-reads.Asked,
-      read-head-reads.Learnt,
+      known-head-reads.Asked,
+      known-head-reads.Learnt,
       bind-leaf-reads.Asked,
       bind-leaf-reads.Learnt,
       enter-reads.Asked,
@@ -269,7 +269,7 @@ pub +bind-kids+bind-node-spec : {M : Type 1} → statement M
     )
     (bind-node-at t)
     bind-node.Post
-    (bind-node-read-head-requires t)
+    (bind-node-known-head-requires t)
     (bind-node-enum-known-h t)
     (bind-node-enum-known-h-2 t)
     (bind-node-bind-leaf-requires t)

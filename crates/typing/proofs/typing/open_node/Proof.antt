@@ -1,36 +1,17 @@
-use Rattle.typing.proofs.OpenTurns.{tree-head, open-refused, open-own, open-bad, open-to}
-use Rattle.frame.specs.Tags.{classOf}
-use Rattle.frame.specs.TagCodes.{formCode}
-use native.Mathlib.Omega.{arith}
-use Prim.Native.Nat.{ℕ}
+use Rattle.typing.proofs.OpenTurns.{open-refused, open-own, open-bad, open-to}
 use mathlib.Core.List.{[]}
-use mathlib.Core.Path.{_≡_, refl, sym, ap, _∙_}
+use mathlib.Core.Path.{refl}
 use borrow.Author.Needs.{needs}
 use Rattle.typing.proofs.typing.open_node.Statement.{statement}
 use Rattle.typing.proofs.typing.open_node.Tie as tie
 use Rattle.typing.proofs.typing.open_node.Reads as reads
 use Rattle.typing.proofs.typing.open_node.Lts as lts
-use Rattle.frame.proofs.reading.number.Reads as number-reads
-use Rattle.frame.proofs.reading.read_head.Reads as read-head-reads
-use Rattle.frame.proofs.tags.form_of.Reads as form-of-reads
-use Rattle.frame.proofs.tags.is_sort.Reads as is-sort-reads
+use Rattle.frame.proofs.reading.known_head.Reads as known-head-reads
 use Rattle.typing.proofs.typing.own_type.Reads as own-type-reads
 
--- src/typing.rt:100:46
-number-requires : tie.Need-number-requires
-number-requires c κs = let h = tree-head _ _ _ _ _ (c .before .before .pre .stands) in omega (arith, h .0)
-
--- src/typing.rt:100:38
-form-of-requires : tie.Need-form-of-requires
-form-of-requires c κs = search needs
-
--- src/typing.rt:100:30
-is-sort-requires : tie.Need-is-sort-requires
-is-sort-requires c κs = search needs
-
--- src/typing.rt:100:9
-read-head-requires : tie.Need-read-head-requires
-read-head-requires c κs = let h = tree-head _ _ _ _ _ (c .before .before .before .before .before .pre .stands) in omega (arith, h .0)
+-- src/typing.rt:92:9
+known-head-requires : tie.Need-known-head-requires
+known-head-requires c κs = let h = c .before .before .pre in (h .sort, h .tree, h .to, h .stands)
 
 -- src/typing.rt:102:29
 enum-known-h : tie.Need-enum-known-h
@@ -42,7 +23,7 @@ enum-known-h-2 c = search needs
 
 -- src/typing.rt:112:17
 own-type-requires : tie.Need-own-type-requires
-own-type-requires c κs = open-own (c .before .before .before .before .before .before .before .before .before .before .args .s .now) (λ i. c .before .before .before .before .before .before .before .before .before .shared-slice-known .given i .fits) (c .before .before .before .before .before .before .before .before .before .before .args .at) (c .before .before .before .before .before .before .before .before .before .before .args .leaf) [] [] [] 0 (c .before .before .before .before .before .before .before .before .before .before .args .types .now) (c .before .before .before .before .before .before .before .before .before .before .args .end) _ (c .before .before .before .before .before .before .form-of .ensures .0 ∙ ap (λ (i : ℕ). formCode (classOf i)) (c .before .before .before .before .before .before .before .number .ensures)) _ (c .before .before .before .before .before .is-sort .ensures) (c .before .before .before .before .read-head .result) (c .before .before .before .before .read-head .ensures) (c .before .before .h2 .given .0 .0) _ _ _ _ _ _ (c .before .before .h2 .given .1) (c .before .before .before .before .before .before .before .before .before .before .pre)
+own-type-requires c κs = open-own (c .before .before .before .before .before .before .before .args .s .now) (λ i. c .before .before .before .before .before .before .shared-slice-known .given i .fits) (c .before .before .before .before .before .before .before .args .at) (c .before .before .before .before .before .before .before .args .leaf) [] [] [] 0 (c .before .before .before .before .before .before .before .args .types .now) (c .before .before .before .before .before .before .before .args .end) (c .before .before .before .before .known-head .result) (c .before .before .before .before .known-head .ensures) (c .before .before .h2 .given .0 .0) _ _ _ _ _ _ (c .before .before .h2 .given .1) (c .before .before .before .before .before .before .before .pre)
 
 -- src/typing.rt:114:31
 enum-told : tie.Need-enum-told
@@ -54,7 +35,7 @@ enum-known-own c = search needs
 
 -- src/typing.rt:96:1
 returns : tie.Need-returns
-returns c = record { opens = λ t l f top. open-refused (c .before .before .before .before .before .before .before .before .before .args .s .now) (λ i. c .before .before .before .before .before .before .before .before .shared-slice-known .given i .fits) (c .before .before .before .before .before .before .before .before .before .args .at) (c .before .before .before .before .before .before .before .before .before .args .leaf) t l f top (c .before .before .before .before .before .before .before .before .before .args .types .now) (c .before .before .before .before .before .before .before .before .before .args .end) _ (c .before .before .before .before .before .form-of .ensures .0 ∙ ap (λ (i : ℕ). formCode (classOf i)) (c .before .before .before .before .before .before .number .ensures)) _ (c .before .before .before .before .is-sort .ensures) (c .before .before .before .read-head .result) (c .before .before .before .read-head .ensures) _ (c .before .h .given .1) _ _ _ _ }
+returns c = record { opens = λ t l f top. open-refused (c .before .before .before .before .before .before .args .s .now) (λ i. c .before .before .before .before .before .shared-slice-known .given i .fits) (c .before .before .before .before .before .before .args .at) (c .before .before .before .before .before .before .args .leaf) t l f top (c .before .before .before .before .before .before .args .types .now) (c .before .before .before .before .before .before .args .end) (c .before .before .before .known-head .result) (c .before .before .before .known-head .ensures) _ (c .before .h .given .1) _ _ _ _ }
 
 -- src/typing.rt:96:1
 same-length : tie.Need-same-length
@@ -62,7 +43,7 @@ same-length c = search needs
 
 -- src/typing.rt:96:1
 returns-2 : tie.Need-returns-2
-returns-2 c = record { opens = λ t l f top. open-bad (c .before .before .before .before .before .before .before .before .before .before .before .before .before .before .before .args .s .now) (λ i. c .before .before .before .before .before .before .before .before .before .before .before .before .before .before .shared-slice-known .given i .fits) (c .before .before .before .before .before .before .before .before .before .before .before .before .before .before .before .args .at) (c .before .before .before .before .before .before .before .before .before .before .before .before .before .before .before .args .leaf) t l f top (c .before .before .before .before .before .before .before .before .before .before .before .before .before .before .before .args .types .now) (c .before .before .before .before .before .before .before .before .before .before .before .before .before .before .before .args .end) _ (c .before .before .before .before .before .before .before .before .before .before .before .form-of .ensures .0 ∙ ap (λ (i : ℕ). formCode (classOf i)) (c .before .before .before .before .before .before .before .before .before .before .before .before .number .ensures)) _ (c .before .before .before .before .before .before .before .before .before .before .is-sort .ensures) (c .before .before .before .before .before .before .before .before .before .read-head .result) (c .before .before .before .before .before .before .before .before .before .read-head .ensures) (c .before .before .before .before .before .before .before .h2 .given .0 .0) _ _ _ _ _ _ (c .before .before .before .before .before .before .before .h2 .given .1) _ (c .before .before .before .before .own-type .result) (c .before .before .before .before .own-type .ensures) (c .enum-told .given .1) _ _ _ }
+returns-2 c = record { opens = λ t l f top. open-bad (c .before .before .before .before .before .before .before .before .before .before .before .before .args .s .now) (λ i. c .before .before .before .before .before .before .before .before .before .before .before .shared-slice-known .given i .fits) (c .before .before .before .before .before .before .before .before .before .before .before .before .args .at) (c .before .before .before .before .before .before .before .before .before .before .before .before .args .leaf) t l f top (c .before .before .before .before .before .before .before .before .before .before .before .before .args .types .now) (c .before .before .before .before .before .before .before .before .before .before .before .before .args .end) (c .before .before .before .before .before .before .before .before .before .known-head .result) (c .before .before .before .before .before .before .before .before .before .known-head .ensures) (c .before .before .before .before .before .before .before .h2 .given .0 .0) _ _ _ _ _ _ (c .before .before .before .before .before .before .before .h2 .given .1) _ (c .before .before .before .before .own-type .result) (c .before .before .before .before .own-type .ensures) (c .enum-told .given .1) _ _ _ }
 
 -- src/typing.rt:96:1
 same-length-2 : tie.Need-same-length-2
@@ -70,16 +51,13 @@ same-length-2 c = search needs
 
 -- src/typing.rt:96:1
 returns-3 : tie.Need-returns-3
-returns-3 c = record { opens = λ t l f top. open-to (c .before .before .before .before .before .before .before .before .before .before .before .before .before .before .before .before .args .s .now) (λ i. c .before .before .before .before .before .before .before .before .before .before .before .before .before .before .before .shared-slice-known .given i .fits) (c .before .before .before .before .before .before .before .before .before .before .before .before .before .before .before .before .args .at) (c .before .before .before .before .before .before .before .before .before .before .before .before .before .before .before .before .args .leaf) t l f top (c .before .before .before .before .before .before .before .before .before .before .before .before .before .before .before .before .args .types .now) (c .before .before .before .before .before .before .before .before .before .before .before .before .before .before .before .before .args .end) _ (c .before .before .before .before .before .before .before .before .before .before .before .before .form-of .ensures .0 ∙ ap (λ (i : ℕ). formCode (classOf i)) (c .before .before .before .before .before .before .before .before .before .before .before .before .before .number .ensures)) _ (c .before .before .before .before .before .before .before .before .before .before .before .is-sort .ensures) (c .before .before .before .before .before .before .before .before .before .before .read-head .result) (c .before .before .before .before .before .before .before .before .before .before .read-head .ensures) (c .before .before .before .before .before .before .before .before .h2 .given .0 .0) _ _ _ _ _ _ (c .before .before .before .before .before .before .before .before .h2 .given .1) _ (c .before .before .before .before .before .own-type .result) (c .before .before .before .before .before .own-type .ensures) _ (c .before .own .given .1) _ _ _ _ refl refl refl }
+returns-3 c = record { opens = λ t l f top. open-to (c .before .before .before .before .before .before .before .before .before .before .before .before .before .args .s .now) (λ i. c .before .before .before .before .before .before .before .before .before .before .before .before .shared-slice-known .given i .fits) (c .before .before .before .before .before .before .before .before .before .before .before .before .before .args .at) (c .before .before .before .before .before .before .before .before .before .before .before .before .before .args .leaf) t l f top (c .before .before .before .before .before .before .before .before .before .before .before .before .before .args .types .now) (c .before .before .before .before .before .before .before .before .before .before .before .before .before .args .end) (c .before .before .before .before .before .before .before .before .before .before .known-head .result) (c .before .before .before .before .before .before .before .before .before .before .known-head .ensures) (c .before .before .before .before .before .before .before .before .h2 .given .0 .0) _ _ _ _ _ _ (c .before .before .before .before .before .before .before .before .h2 .given .1) _ (c .before .before .before .before .before .own-type .result) (c .before .before .before .before .before .own-type .ensures) _ (c .before .own .given .1) _ _ _ _ refl refl refl }
 
 pub open-node-spec : {M : Type 1} → statement M
 open-node-spec =
     tie.close
     (tie.spec
-    number-requires
-    form-of-requires
-    is-sort-requires
-    read-head-requires
+    known-head-requires
     enum-known-h
     enum-known-h-2
     own-type-requires
