@@ -1,6 +1,6 @@
--- The ways out of the functions of sameness and of ends, on plain values.
+-- The ways out of the functions of sameness, on plain values.
 -- Main results: bytes-yes, bytes-no; tags-first, tags-second, heads-room, heads-short, heads-bytes, heads-agree; node-differ,
--- node-both, node-kids; kids-none, kids-first, kids-no, kids-rest, kids-yes; end-kids, ends-none, ends-more.
+-- node-both, node-kids; kids-none, kids-first, kids-no, kids-rest, kids-yes; left-stands, left-known (the head that is read).
 use mathlib.Core.Path.{_≡_, sym, ap, ap₂, _∙_, subst}
 use mathlib.Core.Bool.{Bool, true, false}
 use mathlib.Core.List.{List}
@@ -14,13 +14,15 @@ use Rattle.frame.specs.TagCodes.{sortFor, kindsFor}
 use Rattle.frame.specs.Encoding.{encHead, enc, encs}
 use Rattle.frame.specs.Reading.{readHead}
 use Rattle.frame.specs.Spans.{Spans}
-use Rattle.frame.specs.Post.{headAnswer}
+use Rattle.frame.specs.Post.{headAnswer, HeadStands, KnownPost}
+use Rattle.frame.specs.At.{IsAt}
+use Rattle.frame.proofs.View.{stands-at}
 use Rattle.frame.specs.declared.reading.HeadAnswer.{HeadAnswer}
 use Rattle.frame.specs.declared.reading.HeadAnswer.the-variants as H
 use Rattle.frame.proofs.Inversion.{true-not}
 use Rattle.frame.proofs.ReadBack.{enc-long, head-back}
 use Rattle.nav.specs.Stands.{Stands, StandAll}
-use Rattle.nav.specs.Compared.{BothStand, BothStandAll, SamePost, SameAllPost, Agreed, HeadsPost, BytesPost, Standing, StandingAll, EndPost, EndAllPost}
+use Rattle.nav.specs.Compared.{BothStand, BothStandAll, SamePost, SameAllPost, Agreed, HeadsPost, BytesPost}
 use Rattle.nav.specs.declared.sameness.Same.{Same}
 use Rattle.nav.specs.declared.sameness.Same.the-variants.{Yes, No}
 use Rattle.nav.specs.declared.sameness.Heads.{Heads}
@@ -267,48 +269,18 @@ module _ (s : List ℕ) (n : ℕ) (f l : Bool) (a b : ℕ) where
                 rest .differ (v .v) (v .w) (v .left) (v .right) er z
 
 -- at the sort that a test found
+-- ---- the head that is read stands there
+left-at : (s : List ℕ) (e : Sort) (a b : ℕ) (w : BothStand s e a b) → IsAt s e a (w .t) (a + length (enc (w .t)))
+left-at s e a b w = stands-at s e a (w .t) (a + length (enc (w .t))) (w .left .bytes) (w .left .formed)
+
+pub left-stands : (s : List ℕ) (e : Sort) (a b : ℕ) → BothStand s e a b → HeadStands s a
+left-stands s e a b w = (e, w .t, _, left-at s e a b w)
+
+pub left-known : (s : List ℕ) (e : Sort) (a b : ℕ) → BothStand s e a b → (h : HeadAnswer) → KnownPost s a h → h ≡ headAnswer (readHead s a e)
+left-known s e a b w h k = k .by e (w .t) _ (left-at s e a b w)
+
 pub at-sort : {s : List ℕ} {f o : Bool} {a b : ℕ} → f ≡ o → BothStand s (sortFor f) a b → BothStand s (sortFor o) a b
 at-sort {s} {f} {o} {a} {b} q m = subst (λ (i : Bool). BothStand s (sortFor i) a b) q m
 
 pub of-sort : {s : List ℕ} {f o : Bool} {a b : ℕ} {x : Same} → f ≡ o → SamePost s (sortFor o) a b x → SamePost s (sortFor f) a b x
 of-sort {s} {f} {o} {a} {b} {x} q m = subst (λ (i : Bool). SamePost s (sortFor i) a b x) (sym q) m
-
--- ---- ends
-module _ (s : List ℕ) (at : ℕ) (e : Sort) (hd : HeadAnswer) (eh : hd ≡ headAnswer (readHead s at e)) where
-  pub end-refused : Standing s at e → (c : ℕ) → hd ≡ H.Refused c → EndPost s at e at
-  end-refused w c ec = view-refused s at e (w .t) hd eh (w .there) c ec
-
-  module _ (g n tp p m : ℕ) (f l : Bool) (ei : hd ≡ H.Is g n tp p m f l) where
-    pub end-both : Standing s at e → StandingAll s p (kindsFor m f l) × (at + 2 ≤ p) × (p ≤ length s)
-    end-both w =
-        let v = view s at e (w .t) hd eh (w .there) g n tp p m f l ei in
-        (record { ts = v .ks; there = v .kids }, v .past, v .top .within)
-
-    pub end-kids : (r : ℕ) → EndAllPost s p (kindsFor m f l) r → EndPost s at e r
-    end-kids r post = record { ends = λ t st. let v = view s at e t hd eh st g n tp p m f l ei in post .ends (v .ks) (v .kids) ∙ sym (v .ends) }
-
-module _ (s : List ℕ) (n : ℕ) (f l : Bool) (at : ℕ) where
-  pub ends-none : n ≡ 0 → EndAllPost s at (kindsFor n f l) at
-  ends-none z = record { ends = λ ts st. nil-end at ts (none-kinds n f l ts st z) }
-
-  module _ (some : n ≡ 0 → ⊥) where
-    pub ends-first : StandingAll s at (kindsFor n f l) → Standing s at (sortFor f) × (at ≤ length s)
-    ends-first w = let v = split-kinds n f l (w .ts) (w .there) some in (record { t = v .first; there = v .one }, all-inside (w .there))
-
-    module _ (p : ℕ) (post : EndPost s at (sortFor f) p) where
-      pub ends-rest : StandingAll s at (kindsFor n f l) → StandingAll s p (kindsFor (n - 1) l l) × (at + 2 ≤ p) × (p ≤ length s)
-      ends-rest w =
-          let v = split-kinds n f l (w .ts) (w .there) some in
-          let z = post .ends (v .first) (v .one) in
-          let o : StandAll s p (kindsFor (n - 1) l l) (v .rest) = rw z (v .others) in
-          (record { ts = v .rest; there = o }, omega (arith, z, enc-long (v .first)), all-inside o)
-
-      pub ends-more : (r : ℕ) → EndAllPost s p (kindsFor (n - 1) l l) r → EndAllPost s at (kindsFor n f l) r
-      ends-more r rest = record { ends = ends }
-        where
-          ends : (ts : Forest) → StandAll s at (kindsFor n f l) ts → r ≡ at + length (encs ts)
-          ends ts st =
-              let v = split-kinds n f l ts st some in
-              let z = post .ends (v .first) (v .one) in
-              let o : StandAll s p (kindsFor (n - 1) l l) (v .rest) = rw z (v .others) in
-              omega (arith, rest .ends (v .rest) o, z, v .long)

@@ -56,20 +56,3 @@ pub record HeadsPost (s : List ℕ) (e : Sort) (a b : ℕ) (r : Heads) : Type 0 
 pub record BytesPost (s : List ℕ) (a b n : ℕ) (r : Bool) : Type 0 where
   pub same : r ≡ true → take n (drop a s) ≡ take n (drop b s)
   pub differ : r ≡ false → take n (drop a s) ≡ take n (drop b s) → ⊥
-
--- ---- ends
--- some tree of sort e stands there, some trees in a row
-pub record Standing (s : List ℕ) (at : ℕ) (e : Sort) : Type 0 where
-  pub t : Tree
-  pub there : Stands s at e t
-
-pub record StandingAll (s : List ℕ) (at : ℕ) (es : List Sort) : Type 0 where
-  pub ts : Forest
-  pub there : StandAll s at es ts
-
--- r is the end of whatever tree stands there, of whatever trees stand there in a row
-pub record EndPost (s : List ℕ) (at : ℕ) (e : Sort) (r : ℕ) : Type 0 where
-  pub ends : (t : Tree) → Stands s at e t → r ≡ at + length (enc t)
-
-pub record EndAllPost (s : List ℕ) (at : ℕ) (es : List Sort) (r : ℕ) : Type 0 where
-  pub ends : (ts : Forest) → StandAll s at es ts → r ≡ at + length (encs ts)

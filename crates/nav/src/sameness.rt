@@ -5,7 +5,7 @@ ghost use Prim.Native.Nat.{_+_, _≤_};
 ghost use lib.ListN.{length};
 ghost use Rattle.frame.specs.Tags.{predicate, expression};
 ghost use Rattle.frame.specs.TagCodes.{sortFor, kindsFor};
-ghost use Rattle.nav.specs.Compared.{BothStand, BothStandAll, SamePost, SameAllPost, HeadsPost, BytesPost, Standing, StandingAll, EndPost, EndAllPost};
+ghost use Rattle.nav.specs.Compared.{BothStand, BothStandAll, SamePost, SameAllPost, HeadsPost, BytesPost};
 
 // Whether two trees are the same; if so, where each ends.
 pub enum Same {
@@ -119,36 +119,4 @@ fn same_kids(s: &[u8], a: usize, b: usize, n: usize, first: bool, later: bool) -
             Same::Yes(p, q) => same_kids(s, p, q, n - 1, later, later),
         }
     }
-}
-
-// Where the tree at `at` ends, an expression where e.
-pub fn end_of(s: &[u8], at: usize, e: bool) -> usize
-    requires { ⌜ Standing (now s) at (sortFor e) ⌝ }
-    ensures { λ r. ⌜ EndPost (now (s .entry)) at (sortFor e) r ⌝ }
-{
-    let h = frame::reading::known_head(s, at);
-    match h {
-        HeadAnswer::Refused(_c) => at,
-        HeadAnswer::Is {
-            tag: _,
-            payload: _,
-            types: _,
-            children,
-            count,
-            first,
-            later,
-        } => end_of_kids(s, children, count, first, later),
-    }
-}
-
-// Where the n trees in a row at `at` end, the first and the later ones of these sorts.
-fn end_of_kids(s: &[u8], at: usize, n: usize, first: bool, later: bool) -> usize
-    requires { ⌜ StandingAll (now s) at (kindsFor n first later) ⌝ }
-    ensures { λ r. ⌜ EndAllPost (now (s .entry)) at (kindsFor n first later) r ⌝ }
-{
-    if n == 0 {
-        return at;
-    }
-    let p = end_of(s, at, first);
-    end_of_kids(s, p, n - 1, later, later)
 }

@@ -1,5 +1,5 @@
 use native.Mathlib.Omega.{arith}
-use Rattle.nav.proofs.SameTurns.{tags-first, tags-second, both-inside, heads-refused, heads-room, heads-short, heads-bytes, heads-agree}
+use Rattle.nav.proofs.SameTurns.{left-stands, left-known, tags-first, tags-second, both-inside, heads-refused, heads-room, heads-short, heads-bytes, heads-agree}
 use borrow.Author.Needs.{needs}
 use Rattle.nav.proofs.sameness.same_heads.Statement.{statement}
 use Rattle.nav.proofs.sameness.same_heads.Tie as tie
@@ -37,8 +37,8 @@ returns-2 : tie.Need-returns-2
 returns-2 c = tags-second _ _ _ _ (c .if2 .taken)
 
 -- src/sameness.rt:50:9
-read-head-requires : tie.Need-read-head-requires
-read-head-requires c κs = let z = both-inside _ _ _ _ (c .before .before .before .before .before .before .before .pre) in omega arith
+known-head-requires : tie.Need-known-head-requires
+known-head-requires c κs = left-stands _ _ _ _ (c .before .before .before .before .before .before .before .pre)
 
 -- src/sameness.rt:52:29
 enum-known-h : tie.Need-enum-known-h
@@ -50,35 +50,35 @@ enum-known-h-2 c = search needs
 
 -- src/sameness.rt:62:21
 sub-n : tie.Need-sub-n
-sub-n c = let z = heads-room _ _ _ _ _ (c .before .before .before .read-head .ensures) _ _ _ _ _ _ _ (c .before .h2 .given .1) (c .before .before .before .before .before .before .before .before .before .before .before .pre) in omega arith
+sub-n c = let z = heads-room _ _ _ _ _ (left-known _ _ _ _ (c .before .before .before .before .before .before .before .before .before .before .before .pre) _ (c .before .before .before .known-head .ensures)) _ _ _ _ _ _ _ (c .before .h2 .given .1) (c .before .before .before .before .before .before .before .before .before .before .before .pre) in omega arith
 
 -- src/sameness.rt:63:16
 sub-if3 : tie.Need-sub-if3
-sub-if3 c = let z = heads-room _ _ _ _ _ (c .before .before .before .read-head .ensures) _ _ _ _ _ _ _ (c .before .h2 .given .1) (c .before .before .before .before .before .before .before .before .before .before .before .pre) in omega arith
+sub-if3 c = let z = heads-room _ _ _ _ _ (left-known _ _ _ _ (c .before .before .before .before .before .before .before .before .before .before .before .pre) _ (c .before .before .before .known-head .ensures)) _ _ _ _ _ _ _ (c .before .h2 .given .1) (c .before .before .before .before .before .before .before .before .before .before .before .pre) in omega arith
 
 -- src/sameness.rt:64:17
 returns-3 : tie.Need-returns-3
-returns-3 c = heads-short _ _ _ _ _ (c .before .before .before .before .read-head .ensures) _ _ _ _ _ _ _ (c .before .before .h2 .given .1) (c .if3 .taken)
+returns-3 c = heads-short _ _ _ _ _ (left-known _ _ _ _ (c .before .before .before .before .before .before .before .before .before .before .before .before .pre) _ (c .before .before .before .before .known-head .ensures)) _ _ _ _ _ _ _ (c .before .before .h2 .given .1) (c .if3 .taken)
 
 -- src/sameness.rt:66:17
 same-bytes-requires : tie.Need-same-bytes-requires
-same-bytes-requires c κs = let z = heads-room _ _ _ _ _ (c .before .before .before .before .read-head .ensures) _ _ _ _ _ _ _ (c .before .before .h2 .given .1) (c .before .before .before .before .before .before .before .before .before .before .before .before .pre) in omega arith
+same-bytes-requires c κs = let z = heads-room _ _ _ _ _ (left-known _ _ _ _ (c .before .before .before .before .before .before .before .before .before .before .before .before .pre) _ (c .before .before .before .before .known-head .ensures)) _ _ _ _ _ _ _ (c .before .before .h2 .given .1) (c .before .before .before .before .before .before .before .before .before .before .before .before .pre) in omega arith
 
 -- src/sameness.rt:68:40
 add-q : tie.Need-add-q
-add-q c = let z = heads-room _ _ _ _ _ (c .before .before .before .before .before .before .read-head .ensures) _ _ _ _ _ _ _ (c .before .before .before .before .h2 .given .1) (c .before .before .before .before .before .before .before .before .before .before .before .before .before .before .pre) in omega arith
+add-q c = let z = heads-room _ _ _ _ _ (left-known _ _ _ _ (c .before .before .before .before .before .before .before .before .before .before .before .before .before .before .pre) _ (c .before .before .before .before .before .before .known-head .ensures)) _ _ _ _ _ _ _ (c .before .before .before .before .h2 .given .1) (c .before .before .before .before .before .before .before .before .before .before .before .before .before .before .pre) in omega arith
 
 -- src/sameness.rt:40:1
 returns-4 : tie.Need-returns-4
-returns-4 c = heads-refused _ _ _ _ _ (c .before .before .before .read-head .ensures) (c .before .before .before .before .before .before .before .before .before .before .before .pre) _ (c .before .h .given .1)
+returns-4 c = heads-refused _ _ _ _ _ (left-known _ _ _ _ (c .before .before .before .before .before .before .before .before .before .before .before .pre) _ (c .before .before .before .known-head .ensures)) (c .before .before .before .before .before .before .before .before .before .before .before .pre) _ (c .before .h .given .1)
 
 -- src/sameness.rt:40:1
 returns-5 : tie.Need-returns-5
-returns-5 c = heads-agree _ _ _ _ _ (c .before .before .before .before .before .before .read-head .ensures) _ _ _ _ _ _ _ (c .before .before .before .before .h2 .given .1) _ (c .before .same-bytes .ensures) (c .if4 .taken) (c .before .before .if3 .left)
+returns-5 c = heads-agree _ _ _ _ _ (left-known _ _ _ _ (c .before .before .before .before .before .before .before .before .before .before .before .before .before .before .pre) _ (c .before .before .before .before .before .before .known-head .ensures)) _ _ _ _ _ _ _ (c .before .before .before .before .h2 .given .1) _ (c .before .same-bytes .ensures) (c .if4 .taken) (c .before .before .if3 .left)
 
 -- src/sameness.rt:40:1
 returns-6 : tie.Need-returns-6
-returns-6 c = heads-bytes _ _ _ _ _ (c .before .before .before .before .before .before .read-head .ensures) _ _ _ _ _ _ _ (c .before .before .before .before .h2 .given .1) _ (c .before .same-bytes .ensures) (c .if4 .left)
+returns-6 c = heads-bytes _ _ _ _ _ (left-known _ _ _ _ (c .before .before .before .before .before .before .before .before .before .before .before .before .before .before .pre) _ (c .before .before .before .before .before .before .known-head .ensures)) _ _ _ _ _ _ _ (c .before .before .before .before .h2 .given .1) _ (c .before .same-bytes .ensures) (c .if4 .left)
 
 pub same-heads-spec : {M : Type 1} → statement M
 same-heads-spec =
@@ -92,7 +92,7 @@ same-heads-spec =
     add-if2-2
     shared-slice-read-if2-2
     returns-2
-    read-head-requires
+    known-head-requires
     enum-known-h
     enum-known-h-2
     sub-n
