@@ -21,3 +21,4 @@ pub mod LineTurns
 pub mod AtPlace
 pub mod Splices
 pub mod Within
+pub mod AgainTurns

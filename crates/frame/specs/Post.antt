@@ -12,7 +12,7 @@ use Rattle.frame.specs.TagCodes.{firstSort, laterSort}
 use Rattle.frame.specs.Encoding.{encTys, starts, startsIn}
 use Rattle.frame.specs.Reading.{TyRes, okT, noT, byteOf, TysRes, okTs, noTs, HeadRes, okH, noH, Res, ok, no, FRes, okF, noF, readHead, readMany, readNode, Parsed, tree, bad, frameLimit}
 use Rattle.frame.specs.Spans.{Spans}
-use Rattle.frame.specs.At.{IsAt}
+use Rattle.frame.specs.At.{IsAt, Rest}
 use Rattle.frame.specs.declared.reading.TypeAnswer.{TypeAnswer}
 use Rattle.frame.specs.declared.reading.TypeAnswer.the-variants as T
 use Rattle.frame.specs.declared.reading.HeadAnswer.{HeadAnswer}
@@ -96,3 +96,16 @@ tableSize = 2048
 abbrev pub tableOf : Parsed → List ℕ
 tableOf (tree t) = starts t 0 ++ replicate (tableSize - nodes t) 0
 tableOf (bad c) = replicate tableSize 0
+
+-- ---- a frame that was read before
+-- nodes stand from `at` to its end, and the table has room for them from place k on
+pub record PlacesPre (s : List ℕ) (at k : ℕ) (table : List ℕ) : Type 0 where
+  pub room : Room s at k
+  pub size : length table ≡ tableSize
+  pub ts : Forest
+  pub es : List Sort
+  pub rest : Rest s at ts es
+
+-- the table t₁ is t₀ with their starts from place k on, and r is the place after the last
+pub record PlacesPost (s : List ℕ) (at k : ℕ) (t₀ t₁ : List ℕ) (r : ℕ) : Type 0 where
+  pub by : (ts : Forest) (es : List Sort) → Rest s at ts es → (r ≡ k + nodesIn ts) × (t₁ ≡ sets t₀ k (startsIn ts at))

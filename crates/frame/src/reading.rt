@@ -6,10 +6,11 @@ ghost use lib.ListN.{length, replicate};
 ghost use mathlib.Core.Bool.{true};
 ghost use mathlib.Core.List.{List};
 ghost use Rattle.frame.specs.Types.{Ty};
+ghost use Rattle.frame.specs.Trees.{Tree};
 ghost use Rattle.frame.specs.Tags.{inRange};
 ghost use Rattle.frame.specs.TagCodes.{formAtCode, sortFor, kindsFor};
-ghost use Rattle.frame.specs.Reading.{numberAt, readTy, readTys, okTs, withTys, readHead, parse};
-ghost use Rattle.frame.specs.Post.{typeAnswer, givenAt, typesAnswer, headAnswer, TypesStand, SkipPost, HeadStands, KnownPost, Room, NodePost, KidsPost, frameAnswer, tableOf};
+ghost use Rattle.frame.specs.Reading.{numberAt, readTy, readTys, okTs, withTys, readHead, parse, tree};
+ghost use Rattle.frame.specs.Post.{typeAnswer, givenAt, typesAnswer, headAnswer, TypesStand, SkipPost, HeadStands, KnownPost, PlacesPre, PlacesPost, Room, NodePost, KidsPost, frameAnswer, tableOf};
 use crate::refusals::BAD_COUNT;
 use crate::refusals::BAD_LENGTH;
 use crate::refusals::BAD_TAG;
@@ -299,5 +300,45 @@ pub fn read(frame: &[u8]) -> FrameRead
             }
         }
         NodeAnswer::Refused(c) => refused(c),
+    }
+}
+
+// The starts of the nodes from `at` on go into the table from place k on, of a frame that was read before: a node's children are
+// the next nodes, so heads are met one after the other. The answer is the place after the last.
+fn place_nodes(s: &[u8], at: usize, starts: &mut [u16; 2048], k: usize) -> usize
+    requires { ⌜ PlacesPre (now s) at k (now starts) ⌝ }
+    ensures { λ r. ⌜ PlacesPost (now (s .entry)) at k (now (starts .entry)) (now (starts .exit)) r ⌝ }
+{
+    if s.len() <= at {
+        return k;
+    }
+    let h = known_head(s, at);
+    match h {
+        HeadAnswer::Refused(_c) => k,
+        HeadAnswer::Is {
+            tag: _,
+            payload: _,
+            types: _,
+            children,
+            count: _,
+            first: _,
+            later: _,
+        } => {
+            starts[k] = at as u16;
+            place_nodes(s, children, starts, k + 1)
+        }
+    }
+}
+
+// What `read` answers, of a frame that was read before.
+pub fn read_again(frame: &[u8]) -> FrameRead
+    requires { ⌜ ((t : Tree) × (parse (now frame) ≡ tree t)) ⌝ }
+    ensures { λ r. ⌜ (r .answer ≡ frameAnswer (parse (now (frame .entry)))) × (r .starts ≡ tableOf (parse (now (frame .entry)))) ⌝ }
+{
+    let mut starts = [0u16; 2048];
+    let n = place_nodes(frame, 0, &mut starts, 0);
+    FrameRead {
+        answer: FrameAnswer::Nodes(n),
+        starts: starts,
     }
 }

@@ -75,7 +75,7 @@ fn first_step(s: &[u8], scratch: &mut [u8; 4096]) -> Next
     requires { ⌜ FirstPre (now s) (now scratch) ⌝ }
     ensures { λ r. ⌜ FirstPost (now (s .entry)) (now (scratch .exit)) r ⌝ }
 {
-    let read = frame::reading::read(s);
+    let read = frame::reading::read_again(s);
     let answer = read.answer;
     match answer {
         FrameAnswer::Refused(_c) => Next::Rests,
