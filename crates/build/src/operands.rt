@@ -6,23 +6,46 @@ use typing::patterns::Typed;
 use typing::type_bytes::copy_in;
 use typing::typing::type_tree;
 ghost use mathlib.Core.Path.{_≡_};
-ghost use Prim.Native.Nat.{_+_, _<_};
-ghost use lib.ListN.{getD};
+ghost use Prim.Native.Nat.{_+_, _*_, _≤_, _<_};
+ghost use lib.ListN.{length, getD};
 ghost use Rattle.emit.specs.Programs.{template};
 ghost use Rattle.build.specs.Operands.{asksTypes, TypeOfPre, TypeOfPost, TypesPre, TypesPost, RangesPre, RangesPost, FillPre, FillPost};
 
-// By place: 1 where the right side has a type that is made from an operand's.
-const ASKS_TYPES: [u8; 88] =
-    *b"\x00\x00\x00\x00\x01\x00\x00\x00\x01\x00\x00\x00\x00\x01\x01\x00\x00\x00\x00\x00\x00\x00\x00\x00\x01\x01\x01\x00\x01\x01\x01\x01\x01\x01\x01\x01\x00\x00\x00\x01\x00\x01\x00\x01\x01\x01\x00\x01\x00\x01\x01\x01\x00\x01\x01\x01\x01\x01\x01\x01\x00\x00\x00\x00\x00\x00\x00\x00\x00\x00\x00\x00\x00\x00\x00\x00\x00\x00\x00\x00\x00\x00\x00\x00\x00\x00\x00\x00";
+// By place, one bit: whether the right side has a type that is made from an operand's. No place from 64 on has one.
+const ASKS_TYPES: usize = 0xfeeba8ff7006110;
 
 fn asks_types(pattern: usize) -> bool
     requires { ⌜ pattern < 88 ⌝ }
     ensures { λ r. ⌜ r ≡ asksTypes (template pattern) ⌝ }
 {
-    ASKS_TYPES[pattern] == 1
+    if 64 <= pattern {
+        return false;
+    }
+    (ASKS_TYPES >> pattern) % 2 == 1
 }
 
-// The type of the subtree at place k, into the buffer from `to` on.
+// The type of the subtree at place k, into the buffer from `to` on; `work` has room for a type of 64 bytes for each node.
+fn type_with(
+    s: &[u8],
+    starts: &[u16; 2048],
+    leaves: &[u16; 2048],
+    k: usize,
+    work: &mut [u8],
+    types: &mut [u8],
+    to: usize,
+)
+    requires { ⌜ TypeOfPre (now s) (now starts) (now leaves) k (now types) to × (32 * length (now s) + 64 ≤ length (now work)) ⌝ }
+    ensures { λ r. ⌜ TypeOfPost (now (s .entry)) (now (starts .entry)) (now (leaves .entry)) k (now (types .entry)) (now (types .exit)) to ⌝ }
+{
+    let at = start_at(starts, k);
+    let a = type_tree(s, at, k, leaves, work);
+    match a {
+        Typed::Is(m) => copy_in(work, 0, m, types, to),
+        Typed::Bad => {}
+    }
+}
+
+// The same, with room for 2,048 nodes; a short frame has few nodes, and a buffer takes time to clear.
 fn type_of_place(
     s: &[u8],
     starts: &[u16; 2048],
@@ -34,13 +57,13 @@ fn type_of_place(
     requires { ⌜ TypeOfPre (now s) (now starts) (now leaves) k (now types) to ⌝ }
     ensures { λ r. ⌜ TypeOfPost (now (s .entry)) (now (starts .entry)) (now (leaves .entry)) k (now (types .entry)) (now (types .exit)) to ⌝ }
 {
-    let mut work = [0u8; 131136];
-    let at = start_at(starts, k);
-    let a = type_tree(s, at, k, leaves, &mut work);
-    match a {
-        Typed::Is(m) => copy_in(&work, 0, m, types, to),
-        Typed::Bad => {}
+    if s.len() <= 254 {
+        let mut small = [0u8; 8192];
+        type_with(s, starts, leaves, k, &mut small, types, to);
+        return;
     }
+    let mut work = [0u8; 131136];
+    type_with(s, starts, leaves, k, &mut work, types, to)
 }
 
 // The types of the operands at two places, where the pattern asks for types.

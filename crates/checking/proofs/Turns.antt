@@ -1,5 +1,5 @@
 -- Laws for each way out of the check, on plain values.
--- Main results: read-stands, read-fits, type-pre, typed-by, refused-read, bound-out, names-out, typed-out, accepted-out.
+-- Main results: read-stands, read-fits, Roomy, type-pre, typed-by, refused-read, bound-out, names-out, typed-out, accepted-out.
 use mathlib.Core.Path.{_≡_, refl, sym, ap, _∙_, subst}
 use mathlib.Core.Bool.{Bool, true, false}
 use mathlib.Core.List.{List, []}
@@ -30,12 +30,17 @@ use Rattle.checking.specs.Posts.{checkAnswer, TypedPre, TypedPost, ReadP
 use Rattle.checking.specs.declared.CheckAnswer.the-variants as A
 
 -- ---- typing
-few-nodes : (s : List ℕ) → Bytes s → length s ≤ frameLimit → (t : Tree) → IsAt s predicate 0 t (length s) → nodes t ≤ 2048
-few-nodes s bs l t h = omega (arith, nodes-enc t, at-span s bs predicate 0 t (length s) h .long)
+few-nodes : (s : List ℕ) → Bytes s → (t : Tree) → IsAt s predicate 0 t (length s) → nodes t + nodes t ≤ length s
+few-nodes s bs t h = omega (arith, nodes-enc t, at-span s bs predicate 0 t (length s) h .long)
 
-pub type-pre : (s leaves types : List ℕ) → Bytes s → TypedPre s leaves → length types ≡ 131136 → TypePre s 0 0 leaves types
+-- a buffer for a frame of so many bytes: a node has two bytes at least
+abbrev pub Roomy : List ℕ → List ℕ → Type 0
+Roomy s types = 32 * length s + 64 ≤ length types
+
+pub type-pre : (s leaves types : List ℕ) → Bytes s → TypedPre s leaves → Roomy s types → TypePre s 0 0 leaves types
 type-pre s leaves types bs p d =
-    let n = few-nodes s bs (p .fits) (p .whole) (p .stands) in
+    let n = few-nodes s bs (p .whole) (p .stands) in
+    let f = p .fits in
     record {
       sort = predicate;
       tree = p .whole;
@@ -52,14 +57,14 @@ abbrev pub isTyped : Typed → Bool
 isTyped (T.Is n) = true
 isTyped T.Bad = false
 
-pub typed-by : (s leaves types : List ℕ) (r : Typed) → Bytes s → TypedPre s leaves → length types ≡ 131136 → TypePost s 0 0 leaves types r → (b : Bool) → b ≡ isTyped r → TypedPost s leaves b
+pub typed-by : (s leaves types : List ℕ) (r : Typed) → Bytes s → TypedPre s leaves → Roomy s types → TypePost s 0 0 leaves types r → (b : Bool) → b ≡ isTyped r → TypedPost s leaves b
 typed-by s leaves types r bs p l q b e = record { answer = λ t h k. e ∙ go t r (q .answer predicate t (length s) [] h k (room t h) (buffer t h)) }
   where
     room : (t : Tree) → IsAt s predicate 0 t (length s) → 0 + nodes t ≤ 2048
-    room t h = omega (arith, few-nodes s bs (p .fits) t h)
+    room t h = omega (arith, few-nodes s bs t h, p .fits)
 
     buffer : (t : Tree) → IsAt s predicate 0 t (length s) → 64 * nodes t + 64 ≤ length types
-    buffer t h = omega (arith, few-nodes s bs (p .fits) t h)
+    buffer t h = omega (arith, few-nodes s bs t h, l)
 
     go : (t : Tree) (x : Typed) → Typing x t [] types → isTyped x ≡ typedTree t []
     go t (T.Is n) y = sym (y .0)

@@ -6,6 +6,7 @@ use typing::patterns::Typed;
 use typing::typing::type_tree;
 ghost use mathlib.Core.Path.{_≡_};
 ghost use Rattle.typing.specs.Check.{check as checked};
+ghost use Prim.Native.Nat.{_+_, _*_, _≤_};
 ghost use lib.ListN.{length};
 ghost use Rattle.checking.specs.Posts.{TypedPre, TypedPost, ReadPre, TreePost, checkAnswer};
 
@@ -17,17 +18,29 @@ pub enum CheckAnswer {
     Refused(u8),
 }
 
-// Whether every node of a frame's tree is typed. The buffer has room for a type of 64 bytes for each of 2,048 nodes.
-fn typing_ok(s: &[u8], leaves: &[u16; 2048]) -> bool
-    requires { ⌜ TypedPre (now s) (now leaves) ⌝ }
+// Whether every node of a frame's tree is typed; the buffer has room for a type of 64 bytes for each node.
+fn typed_with(s: &[u8], leaves: &[u16; 2048], types: &mut [u8]) -> bool
+    requires { ⌜ TypedPre (now s) (now leaves) × (32 * length (now s) + 64 ≤ length (now types)) ⌝ }
     ensures { λ r. ⌜ TypedPost (now (s .entry)) (now (leaves .entry)) r ⌝ }
 {
-    let mut types = [0u8; 131136];
-    let a = type_tree(s, 0, 0, leaves, &mut types);
+    let a = type_tree(s, 0, 0, leaves, types);
     match a {
         Typed::Is(_n) => true,
         Typed::Bad => false,
     }
+}
+
+// The same, with a buffer for 2,048 nodes; a short frame has few nodes, and a buffer takes time to clear.
+fn typing_ok(s: &[u8], leaves: &[u16; 2048]) -> bool
+    requires { ⌜ TypedPre (now s) (now leaves) ⌝ }
+    ensures { λ r. ⌜ TypedPost (now (s .entry)) (now (leaves .entry)) r ⌝ }
+{
+    if s.len() <= 254 {
+        let mut small = [0u8; 8192];
+        return typed_with(s, leaves, &mut small);
+    }
+    let mut types = [0u8; 131136];
+    typed_with(s, leaves, &mut types)
 }
 
 // Numbers 8, 9 and 10 of a frame that was read, with n nodes. Where it is accepted, the table has the types of its bound
