@@ -1,23 +1,23 @@
 -- What stands in the buffers fills a template, whichever it is; the table of the templates that ask for types.
--- Main results: asks-table, fill-ready, fill-done.
+-- Main results: asks-high, asks-low, fill-ready, fill-done.
 use mathlib.Core.Path.{_≡_, refl, sym, ap, _∙_}
 use mathlib.Core.Bool.{Bool, true, false, not, _&&_, _||_}
 use mathlib.Core.List.{List, [], _∷_}
-use Prim.Native.Nat.{ℕ, zero, suc, _≤_, _<_}
+use Prim.Native.Nat.{ℕ, zero, suc, _/_, _%_, _^_, _≤_, _<_}
 use native.Mathlib.Omega.{arith}
 use lib.ListN.{length, getD}
-use lib.Dec.{eqb, ltb}
-use borrow.Author.Tests.{ltb-true}
+use lib.Dec.{eqb, leb, ltb}
+use borrow.Author.Tests.{ltb-true, le-leb, lt-leb}
 use Rattle.frame.specs.Types.{Ty}
 use Rattle.frame.specs.Trees.{head, Tree, node, Forest}
-use Rattle.frame.specs.Tags.{formOf}
+use Rattle.frame.specs.Tags.{pick, formOf}
 use Rattle.frame.specs.Encoding.{encTys, enc}
 use Rattle.frame.specs.Spans.{Spans}
 use Rattle.frame.specs.Places.{Ctx, found, find}
 use Rattle.frame.proofs.Inversion.{true-not}
 use Rattle.frame.proofs.SameTrees.{both-true}
 use Rattle.frame.proofs.Splices.{find-lt}
-use Rattle.frame.proofs.TagTables.{allBelow, below}
+use Rattle.frame.proofs.TagTables.{flag}
 use Rattle.typing.specs.Typing.{typeOf}
 use Rattle.nav.specs.PlaceTables.{Table}
 use Rattle.emit.specs.Out.{Puts}
@@ -29,30 +29,19 @@ use Rattle.rewriter.specs.Decision.{filling, takesBinders, hasBinders, Bound}
 use Rattle.build.specs.Operands.{asksTypes, Held, TypesPre, TypesPost, RangesPre, RangesPost, FillAt, FillPre, FillPost}
 
 -- ---- the table of src/operands.rt
-unfoldable pub asked : List ℕ
-asked = 0 ∷ 0 ∷ 0 ∷ 0 ∷ 1 ∷ 0 ∷ 0 ∷ 0 ∷ 1 ∷ 0 ∷ 0 ∷ 0 ∷ 0 ∷ 1 ∷ 1 ∷ 0 ∷ 0 ∷ 0 ∷ 0 ∷ 0 ∷ 0 ∷ 0 ∷ 0 ∷ 0 ∷ 1 ∷ 1 ∷ 1 ∷ 0 ∷ 1 ∷ 1 ∷ 1 ∷ 1 ∷ 1 ∷ 1 ∷ 1 ∷ 1 ∷ 0 ∷ 0 ∷ 0 ∷ 1 ∷ 0 ∷ 1 ∷ 0 ∷ 1 ∷ 1 ∷ 1 ∷ 0 ∷ 1 ∷ 0 ∷ 1 ∷ 1 ∷ 1 ∷ 0 ∷ 1 ∷ 1 ∷ 1 ∷ 1 ∷ 1 ∷ 1 ∷ 1 ∷ 0 ∷ 0 ∷ 0 ∷ 0 ∷ 0 ∷ 0 ∷ 0 ∷ 0 ∷ 0 ∷ 0 ∷ 0 ∷ 0 ∷ 0 ∷ 0 ∷ 0 ∷ 0 ∷ 0 ∷ 0 ∷ 0 ∷ 0 ∷ 0 ∷ 0 ∷ 0 ∷ 0 ∷ 0 ∷ 0 ∷ 0 ∷ 0 ∷ []
+-- what the code reads of its word
+abbrev pub askedAt : ℕ → Bool
+askedAt k = eqb (1148060082513142032 / 2 ^ k % 2) 1
 
-alike : Bool → Bool → Bool
-alike true b = b
-alike false b = not b
+asks-at : (k : ℕ) → k < 88 → pick (leb 64 k) false (askedAt k) ≡ asksTypes (template k)
+unfolding asksTypes template findRow templates among
+asks-at k h = flag (λ k. pick (leb 64 k) false (askedAt k)) (λ k. asksTypes (template k)) 88 refl k h
 
-alike-is : (a b : Bool) → alike a b ≡ true → a ≡ b
-unfolding alike
-alike-is true true e = refl
-alike-is true false e = sym e
-alike-is false true e = e
-alike-is false false e = refl
+pub asks-high : (k : ℕ) → k < 88 → 64 ≤ k → false ≡ asksTypes (template k)
+asks-high k h l = sym (ap (λ (b : Bool). pick b false (askedAt k)) (le-leb 64 k l)) ∙ asks-at k h
 
-asks-right : ℕ → Bool
-asks-right k = alike (eqb (getD asked k 0) 1) (asksTypes (template k))
-
-all-ask : allBelow 88 asks-right ≡ true
-unfolding asks-right alike asked asksTypes template findRow templates among
-all-ask = refl
-
-pub asks-table : (k : ℕ) → k < 88 → eqb (getD asked k 0) 1 ≡ asksTypes (template k)
-unfolding asks-right
-asks-table k h = alike-is _ _ (below 88 asks-right all-ask k h)
+pub asks-low : (k : ℕ) → k < 88 → k < 64 → askedAt k ≡ asksTypes (template k)
+asks-low k h l = sym (ap (λ (b : Bool). pick b false (askedAt k)) (lt-leb 64 k l)) ∙ asks-at k h
 
 -- ---- templates have two operands, and binders at the places that take them
 small : ℕ → Bool

@@ -30,17 +30,23 @@ use Rattle.emit.specs.Written.{TypeAt}
 use Rattle.emit.specs.Holds.{boolAt, MadeFrom}
 use Rattle.emit.specs.declared.template.Ranges.{Ranges}
 use Rattle.rewriter.specs.Decision.{hasBinders}
+use Rattle.frame.proofs.Extents.{nodes-enc}
 use Rattle.build.specs.Operands.{asksTypes, Held, TypeOfPre, TypeOfPost, TypesPre, TypesPost, RangesPre, RangesPost}
 use Rattle.build.proofs.Subtrees.{held-leaves, held-typed, held-short, two-places, span-at, binders-at}
 
 -- ---- one operand's type
+-- a buffer for the types of a frame of so many bytes: a node has two bytes at least
+abbrev pub Roomy : List ℕ → List ℕ → Type 0
+Roomy s work = 32 * length s + 64 ≤ length work
+
 module _ (s st leaves : List ℕ) (k : ℕ) where
   module _ (n : ℕ) (t : Tree) (h : Held s st leaves n t) (Δ : Ctx) (v : Tree) (f : find t [] k ≡ found Δ v) where
-    few : (k + nodes v ≤ 2048) × (64 * nodes v + 64 ≤ 131136)
+    few : (k + nodes v ≤ 2048) × (64 * nodes v ≤ 32 * length s)
     few =
         let a = place-end t [] k Δ v f .0 in
         let b = framed-few s t st n (h .framed) in
-        (omega arith, omega arith)
+        let l : length s ≡ length (enc t) = ap (λ (xs : List ℕ). length xs) (h .framed .bytes) in
+        (omega arith, omega (arith, nodes-enc t))
 
     stands : (e : Sort) × ((q : ℕ) × IsAt s e (getD st k 0) v q)
     stands =
@@ -48,15 +54,15 @@ module _ (s st leaves : List ℕ) (k : ℕ) where
         let w = place-stands s t st n (h .framed) k Δ v f (o .0) (o .1) in
         (o .0, (getD st k 0 + length (enc v), stands-at s (o .0) (getD st k 0) v (getD st k 0 + length (enc v)) (w .bytes) (w .formed)))
 
-    typing : (work : List ℕ) (a : Typed) → length work ≡ 131136 → TypePost s (getD st k 0) k leaves work a → Typing a v Δ work
+    typing : (work : List ℕ) (a : Typed) → Roomy s work → TypePost s (getD st k 0) k leaves work a → Typing a v Δ work
     typing work a l p =
         let x = stands in
-        p .answer (x .0) v (x .1 .0) Δ (x .1 .1) (held-leaves s st leaves n t h k Δ v f) (few .0) (rw l (few .1))
+        p .answer (x .0) v (x .1 .0) Δ (x .1 .1) (held-leaves s st leaves n t h k Δ v f) (few .0) (omega (arith, few .1))
 
   pub type-of-few : (types : List ℕ) (to : ℕ) → TypeOfPre s st leaves k types to → k < 2048
   type-of-few types to p = omega (arith, p .below, framed-few s (p .t) st (p .n) (p .held .framed))
 
-  pub type-of-pre : (types : List ℕ) (to : ℕ) → TypeOfPre s st leaves k types to → (at : ℕ) → at ≡ getD st k 0 → (work : List ℕ) → length work ≡ 131136 → TypePre s at k leaves work
+  pub type-of-pre : (types : List ℕ) (to : ℕ) → TypeOfPre s st leaves k types to → (at : ℕ) → at ≡ getD st k 0 → (work : List ℕ) → Roomy s work → TypePre s at k leaves work
   type-of-pre types to p at ea work d =
       let v = find-some (p .t) [] k (p .below) in
       let x = stands (p .n) (p .t) (p .held) (v .0) (v .1) (v .2) in
@@ -70,10 +76,10 @@ module _ (s st leaves : List ℕ) (k : ℕ) where
         leafs = held-leaves s st leaves (p .n) (p .t) (p .held) k (v .0) (v .1) (v .2);
         frame = p .held .framed .short;
         places = y .0;
-        buffer = rw d (y .1);
+        buffer = omega (arith, y .1);
       })
 
-  module _ (types : List ℕ) (to : ℕ) (p : TypeOfPre s st leaves k types to) (at : ℕ) (ea : at ≡ getD st k 0) (work : List ℕ) (l : length work ≡ 131136) where
+  module _ (types : List ℕ) (to : ℕ) (p : TypeOfPre s st leaves k types to) (at : ℕ) (ea : at ≡ getD st k 0) (work : List ℕ) (l : Roomy s work) where
     answer-at : (a : Typed) → TypePost s at k leaves work a → TypePost s (getD st k 0) k leaves work a
     answer-at a post = subst (λ (i : ℕ). TypePost s i k leaves work a) ea post
 
