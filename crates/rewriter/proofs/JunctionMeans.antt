@@ -1,4 +1,4 @@
--- What `decide_junction` answers stands for the answer of `simplify_assoc_pred`.
+-- What `simplify_assoc_pred` of src/junction.rt answers stands for what the definition of that name gives.
 -- Main results: settled-none, settled-one, settled-all, settled-fewer, settled-decided (the ways out of `settle`); conj-done, disj-done.
 use mathlib.Core.Path.{_≡_, refl, sym, ap, _∙_}
 use mathlib.Core.Bool.{Bool, true, false, not, _&&_}

@@ -18,17 +18,16 @@ use Rattle.nav.specs.PlaceTables.{Table, Placed, BothPlaced, TagPost, SameAtPos
 use Rattle.nav.proofs.Hops.{place-sorted}
 use Rattle.nav.proofs.SamePlaces.{only-child}
 use Rattle.rules.specs.Change.{Change, to, same, _orElse_, when, onTag, with1, unary}
-use Rattle.rules.specs.Simplify.{makeNeg, simplifyEqv}
+use Rattle.rules.specs.Simplify.{makeNeg, simplifyEqv, simplifyNot}
 use Rattle.emit.specs.Template.{filled}
 use Rattle.emit.specs.Programs.{template}
-use Rattle.emit.proofs.RightSides.{right-64, right-75, right-76, right-77, right-78, right-79, right-80, right-81}
+use Rattle.emit.proofs.RightSides.{right-64, right-75, right-76, right-77, right-78, right-79, right-80, right-81, right-82, right-83, right-84}
 use Rattle.rewriter.specs.Decision.{filling, takesBinders, Means}
-use Rattle.rewriter.specs.Decides.{negatedAt}
-use Rattle.rewriter.specs.Decides.{Here, HereTwo, Decides, DecidesTwo, OpposesPost}
+use Rattle.rewriter.specs.Decides.{HereTwo, DecidesOne, DecidesTwo, OpposesPost, negatedAt}
 use Rattle.rewriter.specs.RulesAt.{opposes}
 use Rattle.rewriter.specs.declared.decision.Decision.{Decision}
 use Rattle.rewriter.specs.declared.decision.Decision.the-variants as D
-use Rattle.rewriter.proofs.Shapes.{Single, single, placed, place-few, ownTypes, fixed-at, unbound, first-placed, second-placed}
+use Rattle.rewriter.proofs.Shapes.{Single, single, placed, place-few, ownTypes, fixed-at, unbound, first-placed, second-placed, by-rest, by-node, by-single}
 
 -- ---- one tree is the negation of another
 pub unary-when : (v w : Tree) (c : Change) → unary #Not v (λ inner. when (sameTree inner w) c) ≡ when (opposes v w) c
@@ -220,3 +219,27 @@ module _ (s st nx : List ℕ) (a b left right : ℕ) (pl : TagPost s st a left) 
                       means = λ t n Γ v w tb fa fb x Ξ kept.
                           last t n Γ v w tb fa fb ∙ rw (sym (po .says t n Γ w v tb fb fa) ∙ n6, sym (pu .says t n Γ v w tb fa fb) ∙ z);
                     }
+
+-- ---- ¬ in logic
+module _ (s st nx : List ℕ) (k tag : ℕ) (pt : TagPost s st k tag) where
+  pub out-82 : tag ≡ 610 → (r : Decision) → r ≡ D.Fixed 82 82 k k k → DecidesOne simplifyNot s st nx k r
+  unfolding onTag
+  out-82 key =
+      by-node (λ Γ. simplifyNot) s st nx k tag pt 610 key 82 refl (λ Γ n us ks. leaf #BFalse) (λ Γ n us ks. refl) (λ Γ n us ks. sym (right-82 _ _ _))
+
+  pub out-83 : tag ≡ 611 → (r : Decision) → r ≡ D.Fixed 83 83 k k k → DecidesOne simplifyNot s st nx k r
+  unfolding onTag
+  out-83 key =
+      by-node (λ Γ. simplifyNot) s st nx k tag pt 611 key 83 refl (λ Γ n us ks. leaf #BTrue) (λ Γ n us ks. refl) (λ Γ n us ks. sym (right-83 _ _ _))
+
+  pub out-84 : tag ≡ 701 → (r : Decision) → r ≡ D.Fixed 84 84 (k + 1) (k + 1) k → DecidesOne simplifyNot s st nx k r
+  unfolding onTag lookup classOf formAt
+  out-84 key =
+      by-single (λ Γ. simplifyNot) s st nx k tag pt 701 key 84 refl predicate (λ x. refl) (λ Γ n us a. a) (λ Γ n us a. refl) (λ Γ n us a. sym (right-84 a _ _ _))
+
+  pub not-none : (tag ≡ 610 → ⊥) → (tag ≡ 611 → ⊥) → (tag ≡ 701 → ⊥) → DecidesOne simplifyNot s st nx k D.Rests
+  unfolding onTag
+  not-none a b c = by-rest (λ Γ. simplifyNot) s st nx k tag pt (λ Γ v. rest v) D.Rests refl
+    where
+      rest : (v : Tree) → tagOf v ≡ tag → simplifyNot v ≡ same
+      rest (node (head o n us) ks) z = rw z (simp (ne-eqb tag 610 a, ne-eqb tag 611 b, ne-eqb tag 701 c))

@@ -42,6 +42,10 @@ pub record Decides (rule : Ctx → Tree → Change) (s st nx : List ℕ) (k : �
   pub means : (t : Tree) (n : ℕ) (Γ : Ctx) (v : Tree) → Table s t st nx n → find t [] k ≡ found Γ v
       → (w : Tree) (Ξ : Ctx) (kept : List ℕ) → Means t w Ξ kept r (rule Γ v)
 
+-- the same of a rule that does not ask for the context
+abbrev pub DecidesOne : (Tree → Change) → List ℕ → List ℕ → List ℕ → ℕ → Decision → Type 0
+DecidesOne rule = Decides (λ Γ. rule)
+
 -- the same of a rule on two trees in one context
 pub record DecidesPair (rule : Ctx → Tree → Tree → Change) (s st nx : List ℕ) (a b : ℕ) (r : Decision) : Type 0 where
   pub means : (t : Tree) (n : ℕ) (Γ : Ctx) (v w : Tree) → Table s t st nx n → find t [] a ≡ found Γ v → find t [] b ≡ found Γ w

@@ -5,18 +5,23 @@ use mathlib.Core.List.{List, [], _∷_}
 use lib.Dec.{eqb}
 use Rattle.frame.specs.Trees.{head, Tree, node, Forest, nil, cons, leaf, two}
 use Rattle.frame.specs.Sameness.{sameTree}
-use Rattle.frame.specs.Operators.{#Equal, #SRel, #STRel, #SetMinus, #CProd, #DProd, #PProd, #DomRes, #DomSub, #RanRes, #RanSub, #UpTo, #RelImage, #BInter, #BComp, #FComp, #QUnion, #Not, #Partition, #Forall, #Exists, #BTrue, #BFalse, #LAnd}
+use Rattle.frame.specs.Operators.{#Equal, #SRel, #STRel, #SetMinus, #CProd, #DProd, #PProd, #DomRes, #DomSub, #RanRes, #RanSub, #UpTo, #RelImage, #BInter, #BComp, #FComp, #QUnion, #Not, #Finite, #Partition, #SubsetEq, #Forall, #Exists, #BTrue, #BFalse, #LAnd}
 use Rattle.frame.specs.Places.{Ctx}
-use Rattle.rules.specs.Change.{Change, to, _orElse_, when, isTag, onTag, unary, quantifier, contains}
-use Rattle.rules.specs.Simplify.{makeNeg, simplifyNot, simplifyForall, simplifyExists}
-use Rattle.rules.specs.Negation.{rewriteNotInner, rewritePartition}
-use Rattle.rules.specs.Finite.{finite, isProjection}
+use Rattle.rules.specs.Change.{Change, to, _orElse_, when, isTag, onTag, with1, with2, unary, binary, quantifier, contains}
+use Rattle.rules.specs.Simplify.{makeNeg, simplifyForall, simplifyExists}
+use Rattle.rules.specs.Negation.{rewriteNot, rewriteNotInner, rewritePartition}
+use Rattle.rules.specs.Finite.{finite, isProjection, rewriteFinite}
 use Rattle.rules.specs.EqualsType.{rewriteEqualsType}
-use Rattle.rules.specs.Dispatch.{isOwnType}
+use Rattle.rules.specs.Dispatch.{isOwnType, equalRules, subsetRules}
 
--- ¬ a: logic, then negation
-abbrev pub negationOf : Ctx → Tree → Change
-negationOf Γ a = simplifyNot a orElse rewriteNotInner a
+-- what dispatch asks where logic gives nothing
+abbrev pub afterLogic : Ctx → Tree → Change
+afterLogic Γ t =
+    rewriteNot t
+    orElse unary #Finite t (rewriteFinite Γ)
+    orElse onTag #Partition t (λ ts children. rewritePartition Γ children)
+    orElse binary #Equal t (equalRules Γ)
+    orElse binary #SubsetEq t (subsetRules Γ)
 
 -- ¬ a = b
 abbrev pub unequal : Tree → Tree → Change

@@ -131,7 +131,7 @@ fn settle(x: Outcome, k: usize, n: usize, p: usize, neutral: usize, determinant:
 }
 
 // The rule at an ∧ or an ∨. Patterns 1 and 2 are those of ⊤ and ⊥.
-pub fn decide_junction(
+pub fn simplify_assoc_pred(
     s: &[u8],
     starts: &[u16; 2048],
     nexts: &[u16; 2048],

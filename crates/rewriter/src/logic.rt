@@ -1,12 +1,12 @@
-// ⇒ and ⇔ (66 to 81), on two operands.
+// ⇒ and ⇔ (66 to 81), on two operands, and ¬ (82 to 84).
 use crate::decision::Decision;
 use crate::operands::fixed;
 use nav::places::same_at;
 use nav::places::tag_at;
 ghost use mathlib.Core.Path.{_≡_};
-ghost use Rattle.rules.specs.Simplify.{simplifyEqv};
+ghost use Rattle.rules.specs.Simplify.{simplifyEqv, simplifyNot};
 ghost use Rattle.rewriter.specs.RulesAt.{impFirst, impLast};
-ghost use Rattle.rewriter.specs.Decides.{Here, HereTwo, Decides, DecidesTwo, OpposesPost, negatedAt};
+ghost use Rattle.rewriter.specs.Decides.{Here, HereTwo, DecidesOne, DecidesTwo, OpposesPost, negatedAt};
 ghost use Prim.Native.Nat.{_<_};
 
 // Whether the tree at place a is ¬ of the tree at place b.
@@ -22,7 +22,7 @@ pub fn opposes_at(s: &[u8], starts: &[u16; 2048], nexts: &[u16; 2048], a: usize,
 }
 
 // ¬ of the tree at place p, whose tag is given: what a negation negates, or a new negation.
-fn negated(place: usize, tag: usize, p: usize) -> Decision
+fn make_neg(place: usize, tag: usize, p: usize) -> Decision
     requires { ⌜ p < 2048 ⌝ }
     ensures { λ r. ⌜ r ≡ negatedAt place tag p ⌝ }
 {
@@ -62,10 +62,10 @@ pub fn equivalence_at(
         return fixed(77, a, a, a);
     }
     if right == 611 {
-        return negated(78, left, a);
+        return make_neg(78, left, a);
     }
     if left == 611 {
-        return negated(79, right, b);
+        return make_neg(79, right, b);
     }
     if opposes_at(s, starts, nexts, b, a) {
         return fixed(80, a, a, a);
@@ -99,7 +99,7 @@ pub fn implication_first_at(
         return fixed(68, a, a, a);
     }
     if right == 611 {
-        return negated(69, left, a);
+        return make_neg(69, left, a);
     }
     if same_at(s, starts, a, b) {
         return fixed(70, a, a, a);
@@ -125,4 +125,19 @@ pub fn implication_last_at(
         return fixed(74, b, b, b);
     }
     Decision::Rests
+}
+
+// ¬ of the predicate at place k.
+pub fn negation_at(s: &[u8], starts: &[u16; 2048], nexts: &[u16; 2048], k: usize) -> Decision
+    requires { ⌜ Here (now s) (now starts) (now nexts) k ⌝ }
+    ensures { λ r. ⌜ DecidesOne simplifyNot (now (s .entry)) (now (starts .entry)) (now (nexts .entry)) k r ⌝ }
+{
+    let tag = tag_at(s, starts, k);
+    let nested = k + 1;
+    match tag {
+        610 => fixed(82, k, k, k),
+        611 => fixed(83, k, k, k),
+        701 => fixed(84, nested, nested, k),
+        _ => Decision::Rests,
+    }
 }

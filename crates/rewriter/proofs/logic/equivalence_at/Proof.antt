@@ -8,7 +8,7 @@ use Rattle.rewriter.proofs.logic.equivalence_at.Reads as reads
 use Rattle.rewriter.proofs.logic.equivalence_at.Lts as lts
 use Rattle.nav.proofs.places.same_at.Reads as same-at-reads
 use Rattle.nav.proofs.places.tag_at.Reads as tag-at-reads
-use Rattle.rewriter.proofs.logic.negated.Reads as negated-reads
+use Rattle.rewriter.proofs.logic.make_neg.Reads as make-neg-reads
 use Rattle.rewriter.proofs.logic.opposes_at.Reads as opposes-at-reads
 use Rattle.rewriter.proofs.operands.fixed.Reads as fixed-reads
 
@@ -49,20 +49,20 @@ returns-3 : tie.Need-returns-3
 returns-3 c = out-77 _ _ _ _ _ _ _ (c .before .before .before .before .before .before .tag-at .ensures) (c .before .before .before .before .before .tag-at2 .ensures) (c .before .before .before .before .if1 .left) (c .before .before .before .if2 .left) _ (c .before .before .same-at .ensures) (c .before .if3 .taken) _ (c .fixed3 .ensures)
 
 -- src/logic.rt:58:9
-negated-requires : tie.Need-negated-requires
-negated-requires c κs = two-few (c .before .before .before .before .before .before .before .before .pre) .0
+make-neg-requires : tie.Need-make-neg-requires
+make-neg-requires c κs = two-few (c .before .before .before .before .before .before .before .before .pre) .0
 
 -- src/logic.rt:58:9
 returns-4 : tie.Need-returns-4
-returns-4 c = out-78 _ _ _ _ _ _ _ (c .before .before .before .before .before .before .before .tag-at .ensures) (c .before .before .before .before .before .before .tag-at2 .ensures) (c .before .before .before .before .before .if1 .left) (c .before .before .before .before .if2 .left) _ (c .before .before .before .same-at .ensures) (c .before .before .if3 .left) (c .before .if4 .taken) _ (c .negated .ensures)
+returns-4 c = out-78 _ _ _ _ _ _ _ (c .before .before .before .before .before .before .before .tag-at .ensures) (c .before .before .before .before .before .before .tag-at2 .ensures) (c .before .before .before .before .before .if1 .left) (c .before .before .before .before .if2 .left) _ (c .before .before .before .same-at .ensures) (c .before .before .if3 .left) (c .before .if4 .taken) _ (c .make-neg .ensures)
 
 -- src/logic.rt:61:9
-negated-requires-2 : tie.Need-negated-requires-2
-negated-requires-2 c κs = two-few (c .before .before .before .before .before .before .before .before .before .pre) .1
+make-neg-requires-2 : tie.Need-make-neg-requires-2
+make-neg-requires-2 c κs = two-few (c .before .before .before .before .before .before .before .before .before .pre) .1
 
 -- src/logic.rt:61:9
 returns-5 : tie.Need-returns-5
-returns-5 c = out-79 _ _ _ _ _ _ _ (c .before .before .before .before .before .before .before .before .tag-at .ensures) (c .before .before .before .before .before .before .before .tag-at2 .ensures) (c .before .before .before .before .before .before .if1 .left) (c .before .before .before .before .before .if2 .left) _ (c .before .before .before .before .same-at .ensures) (c .before .before .before .if3 .left) (c .before .before .if4 .left) (c .before .if5 .taken) _ (c .negated2 .ensures)
+returns-5 c = out-79 _ _ _ _ _ _ _ (c .before .before .before .before .before .before .before .before .tag-at .ensures) (c .before .before .before .before .before .before .before .tag-at2 .ensures) (c .before .before .before .before .before .before .if1 .left) (c .before .before .before .before .before .if2 .left) _ (c .before .before .before .before .same-at .ensures) (c .before .before .before .if3 .left) (c .before .before .if4 .left) (c .before .if5 .taken) _ (c .make-neg2 .ensures)
 
 -- src/logic.rt:63:8
 opposes-at-requires : tie.Need-opposes-at-requires
@@ -105,9 +105,9 @@ equivalence-at-spec =
     same-at-requires
     fixed-requires-3
     returns-3
-    negated-requires
+    make-neg-requires
     returns-4
-    negated-requires-2
+    make-neg-requires-2
     returns-5
     opposes-at-requires
     fixed-requires-4

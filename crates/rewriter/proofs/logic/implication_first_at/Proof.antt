@@ -29,11 +29,11 @@ fixed-requires-3 c κs = search needs
 returns-3 : tie.Need-returns-3
 returns-3 c = out-68 _ _ _ _ _ _ _ (c .before .before .before .before .before .tag-at .ensures) (c .before .before .before .before .tag-at2 .ensures) (c .before .before .before .if1 .left) (c .before .before .if2 .left) (c .before .if3 .taken) _ (c .fixed3 .ensures)
 
-negated-requires : tie.Need-negated-requires
-negated-requires c κs = two-few (c .before .before .before .before .before .before .before .pre) .0
+make-neg-requires : tie.Need-make-neg-requires
+make-neg-requires c κs = two-few (c .before .before .before .before .before .before .before .pre) .0
 
 returns-4 : tie.Need-returns-4
-returns-4 c = out-69 _ _ _ _ _ _ _ (c .before .before .before .before .before .before .tag-at .ensures) (c .before .before .before .before .before .tag-at2 .ensures) (c .before .before .before .before .if1 .left) (c .before .before .before .if2 .left) (c .before .if4 .taken) _ (c .negated .ensures)
+returns-4 c = out-69 _ _ _ _ _ _ _ (c .before .before .before .before .before .before .tag-at .ensures) (c .before .before .before .before .before .tag-at2 .ensures) (c .before .before .before .before .if1 .left) (c .before .before .before .if2 .left) (c .before .if4 .taken) _ (c .make-neg .ensures)
 
 same-at-requires : tie.Need-same-at-requires
 same-at-requires c κs = both-placed (c .before .before .before .before .before .before .before .pre)
@@ -59,7 +59,7 @@ implication-first-at-spec =
     returns-2
     fixed-requires-3
     returns-3
-    negated-requires
+    make-neg-requires
     returns-4
     same-at-requires
     fixed-requires-4

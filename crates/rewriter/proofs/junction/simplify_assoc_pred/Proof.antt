@@ -1,10 +1,10 @@
 use Rattle.rewriter.proofs.JunctionMeans.{conj-done, disj-done}
 use Rattle.rewriter.proofs.JunctionTurns.{pre-placed}
 use borrow.Author.Needs.{needs}
-use Rattle.rewriter.proofs.junction.decide_junction.Statement.{statement}
-use Rattle.rewriter.proofs.junction.decide_junction.Tie as tie
-use Rattle.rewriter.proofs.junction.decide_junction.Reads as reads
-use Rattle.rewriter.proofs.junction.decide_junction.Lts as lts
+use Rattle.rewriter.proofs.junction.simplify_assoc_pred.Statement.{statement}
+use Rattle.rewriter.proofs.junction.simplify_assoc_pred.Tie as tie
+use Rattle.rewriter.proofs.junction.simplify_assoc_pred.Reads as reads
+use Rattle.rewriter.proofs.junction.simplify_assoc_pred.Lts as lts
 use Rattle.nav.proofs.places.arity_at.Reads as arity-at-reads
 use Rattle.nav.proofs.places.tag_at.Reads as tag-at-reads
 use Rattle.rewriter.proofs.junction.absorb.Reads as absorb-reads
@@ -59,8 +59,8 @@ settle-requires-2 c κs = search needs
 returns-2 : tie.Need-returns-2
 returns-2 c = disj-done _ _ _ _ _ (c .before .before .before .before .before .before .before .arity-at .ensures) _ (c .before .before .before .before .before .before .tag-at .ensures) _ _ _ (c .before .wide162 .ensures .0) _ (c .before .before .before .before .before .if1 .left) (c .before .before .before .absorb2 .ensures) (c .settle2 .ensures)
 
-pub decide-junction-spec : {M : Type 1} → statement M
-decide-junction-spec =
+pub simplify-assoc-pred-spec : {M : Type 1} → statement M
+simplify-assoc-pred-spec =
     tie.close
     (tie.spec
     arity-at-requires

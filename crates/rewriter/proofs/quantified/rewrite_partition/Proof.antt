@@ -2,8 +2,8 @@ use native.Mathlib.Omega.{arith}
 use Rattle.rewriter.proofs.Shapes.{here-few, here-placed}
 use Rattle.rewriter.proofs.QuantTurns.{part-other, part-14, part-15, part-none}
 use borrow.Author.Needs.{needs}
-use Rattle.rewriter.proofs.quantified.partition_at.Statement.{statement}
-use Rattle.rewriter.proofs.quantified.partition_at.Tie as tie
+use Rattle.rewriter.proofs.quantified.rewrite_partition.Statement.{statement}
+use Rattle.rewriter.proofs.quantified.rewrite_partition.Tie as tie
 
 tag-at-requires : tie.Need-tag-at-requires
 tag-at-requires c κs = here-placed (c .before .pre)
@@ -35,8 +35,8 @@ returns-3 c = part-15 _ _ _ _ _ (c .before .before .before .before .before .befo
 returns-4 : tie.Need-returns-4
 returns-4 c = part-none _ _ _ _ _ (c .before .before .before .before .before .tag-at .ensures) (c .before .before .before .before .if1 .left) _ (c .before .before .arity-at .ensures) (c .before .if2 .left) (c .if3 .left)
 
-pub partition-at-spec : {M : Type 1} → statement M
-partition-at-spec =
+pub rewrite-partition-spec : {M : Type 1} → statement M
+rewrite-partition-spec =
     tie.close
     (tie.spec
     tag-at-requires

@@ -2,8 +2,8 @@ use native.Mathlib.Omega.{arith}
 use Rattle.rewriter.proofs.Shapes.{here-few, here-placed}
 use Rattle.rewriter.proofs.FiniteTurns.{finite-1, finite-2-402, finite-2-403, finite-2-401, finite-3, finite-4, finite-5, finite-6, finite-7, finite-8, finite-9, finite-10, set-here, finite-set, restricted-here, finite-restricted, finite-13-410, finite-13-411, finite-none}
 use borrow.Author.Needs.{needs}
-use Rattle.rewriter.proofs.finite.finite_at.Statement.{statement}
-use Rattle.rewriter.proofs.finite.finite_at.Tie as tie
+use Rattle.rewriter.proofs.finite.rewrite_finite.Statement.{statement}
+use Rattle.rewriter.proofs.finite.rewrite_finite.Tie as tie
 
 tag-at-requires : tie.Need-tag-at-requires
 tag-at-requires c κs = here-placed (c .before .pre)
@@ -113,8 +113,8 @@ returns-16 c = finite-13-411 _ _ _ _ _ (c .before .before .before .tag-at .ensur
 returns-17 : tie.Need-returns-17
 returns-17 c = finite-none _ _ _ _ _ (c .before .before .tag-at .ensures) (c .match .rest .0 .0 .0 .0 .0 .0 .0 .0 .0 .0 .0 .0 .0 .0 .0 .1) (c .match .rest .0 .0 .0 .0 .0 .0 .0 .0 .0 .0 .0 .0 .0 .0 .1) (c .match .rest .0 .0 .0 .0 .0 .0 .0 .0 .0 .0 .0 .0 .0 .1) (c .match .rest .0 .0 .0 .0 .0 .0 .0 .0 .0 .0 .0 .0 .1) (c .match .rest .0 .0 .0 .0 .0 .0 .0 .0 .0 .0 .0 .1) (c .match .rest .0 .0 .0 .0 .0 .0 .0 .0 .0 .0 .1) (c .match .rest .0 .0 .0 .0 .0 .0 .0 .0 .0 .1) (c .match .rest .0 .0 .0 .0 .0 .0 .0 .0 .1) (c .match .rest .0 .0 .0 .0 .0 .0 .0 .1) (c .match .rest .0 .0 .0 .0 .0 .0 .1) (c .match .rest .0 .0 .0 .0 .0 .1) (c .match .rest .0 .0 .0 .0 .1) (c .match .rest .0 .0 .0 .1) (c .match .rest .0 .0 .1) (c .match .rest .0 .1) (c .match .rest .1)
 
-pub finite-at-spec : {M : Type 1} → statement M
-finite-at-spec =
+pub rewrite-finite-spec : {M : Type 1} → statement M
+rewrite-finite-spec =
     tie.close
     (tie.spec
     tag-at-requires

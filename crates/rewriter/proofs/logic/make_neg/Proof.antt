@@ -1,9 +1,9 @@
 use borrow.Author.Tests.{eq-eqb, ne-eqb}
 use borrow.Author.Needs.{needs}
-use Rattle.rewriter.proofs.logic.negated.Statement.{statement}
-use Rattle.rewriter.proofs.logic.negated.Tie as tie
-use Rattle.rewriter.proofs.logic.negated.Reads as reads
-use Rattle.rewriter.proofs.logic.negated.Lts as lts
+use Rattle.rewriter.proofs.logic.make_neg.Statement.{statement}
+use Rattle.rewriter.proofs.logic.make_neg.Tie as tie
+use Rattle.rewriter.proofs.logic.make_neg.Reads as reads
+use Rattle.rewriter.proofs.logic.make_neg.Lts as lts
 use Rattle.rewriter.proofs.operands.fixed.Reads as fixed-reads
 
 -- src/logic.rt:29:21
@@ -22,5 +22,5 @@ fixed-requires c κs = search needs
 returns-2 : tie.Need-returns-2
 returns-2 c = rw (ne-eqb _ 701 (c .before .if1 .left)) (c .fixed .ensures)
 
-pub negated-spec : {M : Type 1} → statement M
-negated-spec = tie.close (tie.spec add-inner returns fixed-requires returns-2)
+pub make-neg-spec : {M : Type 1} → statement M
+make-neg-spec = tie.close (tie.spec add-inner returns fixed-requires returns-2)

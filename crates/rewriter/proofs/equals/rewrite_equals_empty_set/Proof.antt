@@ -2,10 +2,10 @@ use native.Mathlib.Omega.{arith}
 use Rattle.rewriter.proofs.Shapes.{here-few, here-placed}
 use Rattle.rewriter.proofs.EmptyTurns.{inter-here, empty-inter, empty-40, empty-41, empty-42, empty-43, empty-44, empty-45, empty-46, empty-47, empty-48, empty-49, empty-50, empty-51, empty-56, empty-57, empty-59}
 use borrow.Author.Needs.{needs}
-use Rattle.rewriter.proofs.equals.equals_empty_at.Statement.{statement}
-use Rattle.rewriter.proofs.equals.equals_empty_at.Tie as tie
-use Rattle.rewriter.proofs.equals.equals_empty_at.Reads as reads
-use Rattle.rewriter.proofs.equals.equals_empty_at.Lts as lts
+use Rattle.rewriter.proofs.equals.rewrite_equals_empty_set.Statement.{statement}
+use Rattle.rewriter.proofs.equals.rewrite_equals_empty_set.Tie as tie
+use Rattle.rewriter.proofs.equals.rewrite_equals_empty_set.Reads as reads
+use Rattle.rewriter.proofs.equals.rewrite_equals_empty_set.Lts as lts
 use Rattle.nav.proofs.places.arity_at.Reads as arity-at-reads
 use Rattle.nav.proofs.places.tag_at.Reads as tag-at-reads
 use Rattle.rewriter.proofs.equals.empty_by_tag.Reads as empty-by-tag-reads
@@ -166,8 +166,8 @@ returns-16 c = empty-59 _ _ _ _ _ (c .before .before .before .before .tag-at .en
 returns-17 : tie.Need-returns-17
 returns-17 c = c .empty-by-tag .ensures .decides _ _ _ (c .before .before .before .before .tag-at .ensures)
 
-pub equals-empty-at-spec : {M : Type 1} → statement M
-equals-empty-at-spec =
+pub rewrite-equals-empty-set-spec : {M : Type 1} → statement M
+rewrite-equals-empty-set-spec =
     tie.close
     (tie.spec
     tag-at-requires

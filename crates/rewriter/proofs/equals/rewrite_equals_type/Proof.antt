@@ -2,10 +2,10 @@ use Rattle.rewriter.proofs.TypeTurns.{type-24, type-25, type-26, type-2
 use Rattle.rewriter.proofs.Shapes.{here-few, here-placed}
 use native.Mathlib.Omega.{arith}
 use borrow.Author.Needs.{needs}
-use Rattle.rewriter.proofs.equals.equals_type_at.Statement.{statement}
-use Rattle.rewriter.proofs.equals.equals_type_at.Tie as tie
-use Rattle.rewriter.proofs.equals.equals_type_at.Reads as reads
-use Rattle.rewriter.proofs.equals.equals_type_at.Lts as lts
+use Rattle.rewriter.proofs.equals.rewrite_equals_type.Statement.{statement}
+use Rattle.rewriter.proofs.equals.rewrite_equals_type.Tie as tie
+use Rattle.rewriter.proofs.equals.rewrite_equals_type.Reads as reads
+use Rattle.rewriter.proofs.equals.rewrite_equals_type.Lts as lts
 use Rattle.nav.proofs.places.tag_at.Reads as tag-at-reads
 use Rattle.rewriter.proofs.operands.each.Reads as each-reads
 use Rattle.rewriter.proofs.operands.fixed.Reads as fixed-reads
@@ -131,8 +131,8 @@ returns-13 c = type-35 _ _ _ _ _ (c .before .before .before .tag-at .ensures) (c
 returns-14 : tie.Need-returns-14
 returns-14 c = type-none _ _ _ _ _ (c .before .before .tag-at .ensures) (c .match .rest .0 .0 .0 .0 .0 .0 .0 .0 .0 .0 .0 .0 .1) (c .match .rest .0 .0 .0 .0 .0 .0 .0 .0 .0 .0 .0 .1) (c .match .rest .0 .0 .0 .0 .0 .0 .0 .0 .0 .0 .1) (c .match .rest .0 .0 .0 .0 .0 .0 .0 .0 .0 .1) (c .match .rest .0 .0 .0 .0 .0 .0 .0 .0 .1) (c .match .rest .0 .0 .0 .0 .0 .0 .0 .1) (c .match .rest .0 .0 .0 .0 .0 .0 .1) (c .match .rest .0 .0 .0 .0 .0 .1) (c .match .rest .0 .0 .0 .0 .1) (c .match .rest .0 .0 .0 .1) (c .match .rest .0 .0 .1) (c .match .rest .0 .1) (c .match .rest .1)
 
-pub equals-type-at-spec : {M : Type 1} → statement M
-equals-type-at-spec =
+pub rewrite-equals-type-spec : {M : Type 1} → statement M
+rewrite-equals-type-spec =
     tie.close
     (tie.spec
     tag-at-requires
