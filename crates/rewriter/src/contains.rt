@@ -1,10 +1,8 @@
 // Whether a tree, or its negation, is among trees in a row.
 use crate::decision::Decision;
 use nav::places::same_at;
-ghost use Rattle.rewriter.specs.Decides.{HereTwo, DecidesTwo, InRow, MatchesPost, ContainsPost, NegationInPost, isRests};
+ghost use Rattle.rewriter.specs.Decides.{HereTwo, InRow, MatchesPost, ContainsPost, NegationInPost, isRests};
 ghost use mathlib.Core.Path.{_≡_};
-ghost use Rattle.rules.specs.Simplify.{simplifyImp};
-ghost use Rattle.rewriter.specs.RulesAt.{impAnd};
 
 // Whether the tree at place a is the tree at place b, or where `negated` its negation.
 pub fn matches_at(
@@ -66,32 +64,6 @@ pub fn negation_in(
     contains_in(s, starts, nexts, c, m, w, true)
 }
 
-// ⇒ of the predicates at places a and b, where the first is ∧: the second, or its negation, is among the operands.
-pub fn implication_and_at(
-    s: &[u8],
-    starts: &[u16; 2048],
-    nexts: &[u16; 2048],
-    a: usize,
-    b: usize,
-) -> Decision
-    requires { ⌜ HereTwo (now s) (now starts) (now nexts) a b ⌝ }
-    ensures { λ r. ⌜ DecidesTwo impAnd (now (s .entry)) (now (starts .entry)) (now (nexts .entry)) a b r ⌝ }
-{
-    let left = nav::places::tag_at(s, starts, a);
-    if left != 351 {
-        return Decision::Rests;
-    }
-    let m = nav::places::arity_at(s, starts, a);
-    let c = a + 1;
-    if contains_in(s, starts, nexts, c, m, b, false) {
-        return crate::operands::fixed(71, a, a, a);
-    }
-    if negation_in(s, starts, nexts, c, m, b) {
-        return crate::operands::fixed(72, a, a, a);
-    }
-    Decision::Rests
-}
-
 // Whether no rule applies.
 pub fn rests(d: Decision) -> bool
     ensures { λ r. ⌜ r ≡ isRests d ⌝ }
@@ -114,26 +86,4 @@ pub fn rests(d: Decision) -> bool
         Decision::Apart { node: _, single: _ } => false,
         Decision::Within(_k) => false,
     }
-}
-
-// ⇒ of the predicates at places a and b.
-pub fn implication_at(
-    s: &[u8],
-    starts: &[u16; 2048],
-    nexts: &[u16; 2048],
-    a: usize,
-    b: usize,
-) -> Decision
-    requires { ⌜ HereTwo (now s) (now starts) (now nexts) a b ⌝ }
-    ensures { λ r. ⌜ DecidesTwo simplifyImp (now (s .entry)) (now (starts .entry)) (now (nexts .entry)) a b r ⌝ }
-{
-    let first = crate::logic::implication_first_at(s, starts, nexts, a, b);
-    if !rests(first) {
-        return first;
-    }
-    let within = implication_and_at(s, starts, nexts, a, b);
-    if !rests(within) {
-        return within;
-    }
-    crate::logic::implication_last_at(s, starts, nexts, a, b)
 }

@@ -1,11 +1,10 @@
-// ⇒ and ⇔ (66 to 81), on two operands, and ¬ (82 to 84).
+// ⇔ (75 to 81) and ¬ (82 to 84), and negations of operands.
 use crate::decision::Decision;
 use crate::operands::fixed;
 use nav::places::same_at;
 use nav::places::tag_at;
 ghost use mathlib.Core.Path.{_≡_};
 ghost use Rattle.rules.specs.Simplify.{simplifyEqv, simplifyNot};
-ghost use Rattle.rewriter.specs.RulesAt.{impFirst, impLast};
 ghost use Rattle.rewriter.specs.Decides.{Here, HereTwo, DecidesOne, DecidesTwo, OpposesPost, negatedAt};
 ghost use Prim.Native.Nat.{_<_};
 
@@ -22,7 +21,7 @@ pub fn opposes_at(s: &[u8], starts: &[u16; 2048], nexts: &[u16; 2048], a: usize,
 }
 
 // ¬ of the tree at place p, whose tag is given: what a negation negates, or a new negation.
-fn make_neg(place: usize, tag: usize, p: usize) -> Decision
+pub fn make_neg(place: usize, tag: usize, p: usize) -> Decision
     requires { ⌜ p < 2048 ⌝ }
     ensures { λ r. ⌜ r ≡ negatedAt place tag p ⌝ }
 {
@@ -72,57 +71,6 @@ pub fn equivalence_at(
     }
     if opposes_at(s, starts, nexts, a, b) {
         return fixed(81, a, a, a);
-    }
-    Decision::Rests
-}
-
-// ⇒ of the predicates at places a and b: ⊤, ⊥ and sameness.
-pub fn implication_first_at(
-    s: &[u8],
-    starts: &[u16; 2048],
-    nexts: &[u16; 2048],
-    a: usize,
-    b: usize,
-) -> Decision
-    requires { ⌜ HereTwo (now s) (now starts) (now nexts) a b ⌝ }
-    ensures { λ r. ⌜ DecidesTwo impFirst (now (s .entry)) (now (starts .entry)) (now (nexts .entry)) a b r ⌝ }
-{
-    let left = tag_at(s, starts, a);
-    let right = tag_at(s, starts, b);
-    if left == 610 {
-        return fixed(66, b, b, b);
-    }
-    if left == 611 {
-        return fixed(67, a, a, a);
-    }
-    if right == 610 {
-        return fixed(68, a, a, a);
-    }
-    if right == 611 {
-        return make_neg(69, left, a);
-    }
-    if same_at(s, starts, a, b) {
-        return fixed(70, a, a, a);
-    }
-    Decision::Rests
-}
-
-// ⇒ where one side is ¬ of the other.
-pub fn implication_last_at(
-    s: &[u8],
-    starts: &[u16; 2048],
-    nexts: &[u16; 2048],
-    a: usize,
-    b: usize,
-) -> Decision
-    requires { ⌜ HereTwo (now s) (now starts) (now nexts) a b ⌝ }
-    ensures { λ r. ⌜ DecidesTwo impLast (now (s .entry)) (now (starts .entry)) (now (nexts .entry)) a b r ⌝ }
-{
-    if opposes_at(s, starts, nexts, a, b) {
-        return fixed(73, b, b, b);
-    }
-    if opposes_at(s, starts, nexts, b, a) {
-        return fixed(74, b, b, b);
     }
     Decision::Rests
 }

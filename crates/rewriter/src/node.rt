@@ -19,7 +19,7 @@ pub fn simplify_predicate_node(
     match tag {
         351 => crate::junction::simplify_assoc_pred(s, starts, nexts, k, kept),
         352 => crate::junction::simplify_assoc_pred(s, starts, nexts, k, kept),
-        251 => crate::contains::implication_at(s, starts, nexts, a, b),
+        251 => crate::implication::implication_at(s, starts, nexts, a, b),
         252 => crate::logic::equivalence_at(s, starts, nexts, a, b),
         701 => crate::logic::negation_at(s, starts, nexts, a),
         851 => crate::quantified::forall_at(s, starts, nexts, k),

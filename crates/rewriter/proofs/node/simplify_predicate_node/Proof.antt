@@ -11,7 +11,7 @@ use Rattle.rewriter.proofs.node.simplify_predicate_node.Tie as tie
 use Rattle.rewriter.proofs.node.simplify_predicate_node.Reads as reads
 use Rattle.rewriter.proofs.node.simplify_predicate_node.Lts as lts
 use Rattle.nav.proofs.places.tag_at.Reads as tag-at-reads
-use Rattle.rewriter.proofs.contains.implication_at.Reads as implication-at-reads
+use Rattle.rewriter.proofs.implication.implication_at.Reads as implication-at-reads
 use Rattle.rewriter.proofs.junction.simplify_assoc_pred.Reads as simplify-assoc-pred-reads
 use Rattle.rewriter.proofs.logic.equivalence_at.Reads as equivalence-at-reads
 use Rattle.rewriter.proofs.logic.negation_at.Reads as negation-at-reads

@@ -1,8 +1,8 @@
 use Rattle.rewriter.proofs.LogicTurns.{turned}
 use Rattle.rewriter.proofs.ImpTurns.{out-73, out-74, last-none}
 use borrow.Author.Needs.{needs}
-use Rattle.rewriter.proofs.logic.implication_last_at.Statement.{statement}
-use Rattle.rewriter.proofs.logic.implication_last_at.Tie as tie
+use Rattle.rewriter.proofs.implication.implication_last_at.Statement.{statement}
+use Rattle.rewriter.proofs.implication.implication_last_at.Tie as tie
 
 opposes-at-requires : tie.Need-opposes-at-requires
 opposes-at-requires c κs = c .before .pre

@@ -3,8 +3,8 @@ use Rattle.rewriter.proofs.Shapes.{first-placed}
 use Rattle.rewriter.proofs.LogicTurns.{two-few}
 use Rattle.rewriter.proofs.AndTurns.{and-other, and-row, out-71, out-72, and-none}
 use borrow.Author.Needs.{needs}
-use Rattle.rewriter.proofs.contains.implication_and_at.Statement.{statement}
-use Rattle.rewriter.proofs.contains.implication_and_at.Tie as tie
+use Rattle.rewriter.proofs.implication.implication_and_at.Statement.{statement}
+use Rattle.rewriter.proofs.implication.implication_and_at.Tie as tie
 
 tag-at-requires : tie.Need-tag-at-requires
 tag-at-requires c κs = first-placed (c .before .pre)

@@ -2,8 +2,8 @@ use Rattle.rewriter.proofs.Shapes.{first-placed, second-placed}
 use Rattle.rewriter.proofs.LogicTurns.{both-placed, two-few}
 use Rattle.rewriter.proofs.ImpTurns.{out-66, out-67, out-68, out-69, out-70, first-none}
 use borrow.Author.Needs.{needs}
-use Rattle.rewriter.proofs.logic.implication_first_at.Statement.{statement}
-use Rattle.rewriter.proofs.logic.implication_first_at.Tie as tie
+use Rattle.rewriter.proofs.implication.implication_first_at.Statement.{statement}
+use Rattle.rewriter.proofs.implication.implication_first_at.Tie as tie
 
 tag-at-requires : tie.Need-tag-at-requires
 tag-at-requires c κs = first-placed (c .before .pre)

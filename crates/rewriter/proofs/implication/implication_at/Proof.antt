@@ -2,8 +2,8 @@ use mathlib.Core.Path.{sym, _∙_}
 use borrow.Author.Tests.{not-true, not-false}
 use Rattle.rewriter.proofs.Series.{imp-first, imp-and, imp-last}
 use borrow.Author.Needs.{needs}
-use Rattle.rewriter.proofs.contains.implication_at.Statement.{statement}
-use Rattle.rewriter.proofs.contains.implication_at.Tie as tie
+use Rattle.rewriter.proofs.implication.implication_at.Statement.{statement}
+use Rattle.rewriter.proofs.implication.implication_at.Tie as tie
 
 implication-first-at-requires : tie.Need-implication-first-at-requires
 implication-first-at-requires c κs = c .before .pre
