@@ -1,9 +1,7 @@
 -- The rules that are decided by places, at the trees whose tags they look at first.
 use Prim.Native.Nat.{ℕ}
-use mathlib.Core.Bool.{Bool, false, _&&_}
 use mathlib.Core.List.{List, [], _∷_}
-use lib.Dec.{eqb}
-use Rattle.frame.specs.Trees.{head, Tree, node, Forest, nil, cons, leaf, two}
+use Rattle.frame.specs.Trees.{Tree, leaf, two}
 use Rattle.frame.specs.Sameness.{sameTree}
 use Rattle.frame.specs.Operators.{#Equal, #SRel, #STRel, #SetMinus, #CProd, #DProd, #PProd, #DomRes, #DomSub, #RanRes, #RanSub, #UpTo, #RelImage, #BInter, #BComp, #FComp, #QUnion, #Not, #Finite, #Partition, #SubsetEq, #Forall, #Exists, #BTrue, #BFalse, #LAnd}
 use Rattle.frame.specs.Places.{Ctx}
@@ -46,15 +44,6 @@ forallOf Γ v = quantifier #Forall v simplifyForall
 
 abbrev pub existsOf : Ctx → Tree → Change
 existsOf Γ v = quantifier #Exists v simplifyExists
-
--- v is ¬ w
-abbrev pub soleSame : Forest → Tree → Bool
-soleSame nil w = false
-soleSame (cons a nil) w = sameTree a w
-soleSame (cons a (cons b ks)) w = false
-
-abbrev pub opposes : Tree → Tree → Bool
-opposes (node (head g n us) ks) w = eqb g #Not && soleSame ks w
 
 -- left ⇒ right: the first tests of simplifyImp, and the last; between them it looks among the operands of ∧ on the left
 abbrev pub impFirst : Tree → Tree → Change

@@ -1,4 +1,6 @@
 // ⇒ (66 to 74), on two operands.
+use crate::contains::contains_in;
+use crate::contains::negates;
 use crate::contains::rests;
 use crate::decision::Decision;
 use crate::operands::fixed;
@@ -54,10 +56,10 @@ fn implication_and_at(
     }
     let m = nav::places::arity_at(s, starts, a);
     let c = a + 1;
-    if crate::contains::contains_in(s, starts, nexts, c, m, b, false) {
+    if contains_in(s, starts, nexts, c, m, b, false) {
         return fixed(71, a, a, a);
     }
-    if crate::contains::negation_in(s, starts, nexts, c, m, b) {
+    if contains_in(s, starts, nexts, c, m, b, true) {
         return fixed(72, a, a, a);
     }
     Decision::Rests
@@ -74,10 +76,10 @@ fn implication_last_at(
     requires { ⌜ HereTwo (now s) (now starts) (now nexts) a b ⌝ }
     ensures { λ r. ⌜ DecidesTwo impLast (now (s .entry)) (now (starts .entry)) (now (nexts .entry)) a b r ⌝ }
 {
-    if crate::logic::opposes_at(s, starts, nexts, a, b) {
+    if negates(s, starts, a, b) {
         return fixed(73, b, b, b);
     }
-    if crate::logic::opposes_at(s, starts, nexts, b, a) {
+    if negates(s, starts, b, a) {
         return fixed(74, b, b, b);
     }
     Decision::Rests

@@ -4,12 +4,12 @@ pub mod operands; // operands.rt: decisions on the children of a node
 pub mod negation; // negation.rt: ¬ of an order or an equation
 pub mod equals; // equals.rt: a set equated to ∅ or to a type expression
 pub mod finite; // finite.rt: finite(S)
-pub mod logic; // logic.rt: ⇔, ¬ in logic, negations of operands
+pub mod logic; // logic.rt: ⇔, and ¬ in logic
 pub mod quantified; // quantified.rt: quantifiers, and partitions
 pub mod junction; // junction.rt: ∧ and ∨
 pub mod singles; // singles.rt: sets of one member among operands
 pub mod inter; // inter.rt: ∩ = ∅
-pub mod contains; // contains.rt: a tree among others
+pub mod contains; // contains.rt: a tree beside another, or among others
 pub mod implication; // implication.rt: ⇒
 pub mod own_type; // own_type.rt: an expression that is a type
 pub mod equality; // equality.rt: = and ⊆

@@ -1,24 +1,14 @@
-// ⇔ (75 to 81) and ¬ (82 to 84), and negations of operands.
+// ⇔ (75 to 81) and ¬ (82 to 84), and the negation of an operand.
+use crate::contains::negates;
 use crate::decision::Decision;
 use crate::operands::fixed;
+use crate::operands::patterned;
 use nav::places::same_at;
 use nav::places::tag_at;
 ghost use mathlib.Core.Path.{_≡_};
 ghost use Rattle.rules.specs.Simplify.{simplifyEqv, simplifyNot};
-ghost use Rattle.rewriter.specs.Decides.{Here, HereTwo, DecidesOne, DecidesTwo, OpposesPost, negatedAt};
+ghost use Rattle.rewriter.specs.Decides.{Here, HereTwo, DecidesOne, DecidesTwo, negatedAt};
 ghost use Prim.Native.Nat.{_<_};
-
-// Whether the tree at place a is ¬ of the tree at place b.
-pub fn opposes_at(s: &[u8], starts: &[u16; 2048], nexts: &[u16; 2048], a: usize, b: usize) -> bool
-    requires { ⌜ HereTwo (now s) (now starts) (now nexts) a b ⌝ }
-    ensures { λ r. ⌜ OpposesPost (now (s .entry)) (now (starts .entry)) (now (nexts .entry)) a b r ⌝ }
-{
-    let tag = tag_at(s, starts, a);
-    if tag != 701 {
-        return false;
-    }
-    same_at(s, starts, a + 1, b)
-}
 
 // ¬ of the tree at place p, whose tag is given: what a negation negates, or a new negation.
 pub fn make_neg(place: usize, tag: usize, p: usize) -> Decision
@@ -26,14 +16,7 @@ pub fn make_neg(place: usize, tag: usize, p: usize) -> Decision
     ensures { λ r. ⌜ r ≡ negatedAt place tag p ⌝ }
 {
     if tag == 701 {
-        let inner = p + 1;
-        return Decision::Fixed {
-            place: place,
-            pattern: 64,
-            first: inner,
-            second: inner,
-            binder: p,
-        };
+        return patterned(place, 64, p + 1, p);
     }
     fixed(place, p, p, p)
 }
@@ -66,10 +49,10 @@ pub fn equivalence_at(
     if left == 611 {
         return make_neg(79, right, b);
     }
-    if opposes_at(s, starts, nexts, b, a) {
+    if negates(s, starts, b, a) {
         return fixed(80, a, a, a);
     }
-    if opposes_at(s, starts, nexts, a, b) {
+    if negates(s, starts, a, b) {
         return fixed(81, a, a, a);
     }
     Decision::Rests

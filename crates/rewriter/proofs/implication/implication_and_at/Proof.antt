@@ -27,17 +27,17 @@ fixed-requires c κs = search needs
 returns-2 : tie.Need-returns-2
 returns-2 c = out-71 _ _ _ _ _ _ (c .before .before .before .before .before .tag-at .ensures) (c .before .before .before .before .if1 .left) _ (c .before .before .before .arity-at .ensures) _ (c .before .before .contains-in .ensures) (c .before .if2 .taken) _ (c .fixed .ensures)
 
-negation-in-requires : tie.Need-negation-in-requires
-negation-in-requires c κs = and-row _ _ _ _ _ _ (c .before .before .before .before .tag-at .ensures) (c .before .before .before .if1 .left) _ (c .before .before .arity-at .ensures) (c .before .before .before .before .before .before .pre)
+contains-in-requires-2 : tie.Need-contains-in-requires-2
+contains-in-requires-2 c κs = and-row _ _ _ _ _ _ (c .before .before .before .before .tag-at .ensures) (c .before .before .before .if1 .left) _ (c .before .before .arity-at .ensures) (c .before .before .before .before .before .before .pre)
 
 fixed-requires-2 : tie.Need-fixed-requires-2
 fixed-requires-2 c κs = search needs
 
 returns-3 : tie.Need-returns-3
-returns-3 c = out-72 _ _ _ _ _ _ (c .before .before .before .before .before .before .before .tag-at .ensures) (c .before .before .before .before .before .before .if1 .left) _ (c .before .before .before .before .before .arity-at .ensures) _ (c .before .before .before .before .contains-in .ensures) (c .before .before .before .if2 .left) _ (c .before .before .negation-in .ensures) (c .before .if3 .taken) _ (c .fixed2 .ensures)
+returns-3 c = out-72 _ _ _ _ _ _ (c .before .before .before .before .before .before .before .tag-at .ensures) (c .before .before .before .before .before .before .if1 .left) _ (c .before .before .before .before .before .arity-at .ensures) _ (c .before .before .before .before .contains-in .ensures) (c .before .before .before .if2 .left) _ (c .before .before .contains-in2 .ensures) (c .before .if3 .taken) _ (c .fixed2 .ensures)
 
 returns-4 : tie.Need-returns-4
-returns-4 c = and-none _ _ _ _ _ _ (c .before .before .before .before .before .before .tag-at .ensures) (c .before .before .before .before .before .if1 .left) _ (c .before .before .before .before .arity-at .ensures) _ (c .before .before .before .contains-in .ensures) (c .before .before .if2 .left) _ (c .before .negation-in .ensures) (c .if3 .left)
+returns-4 c = and-none _ _ _ _ _ _ (c .before .before .before .before .before .before .tag-at .ensures) (c .before .before .before .before .before .if1 .left) _ (c .before .before .before .before .arity-at .ensures) _ (c .before .before .before .contains-in .ensures) (c .before .before .if2 .left) _ (c .before .contains-in2 .ensures) (c .if3 .left)
 
 pub implication-and-at-spec : {M : Type 1} → statement M
 implication-and-at-spec =
@@ -50,7 +50,7 @@ implication-and-at-spec =
     contains-in-requires
     fixed-requires
     returns-2
-    negation-in-requires
+    contains-in-requires-2
     fixed-requires-2
     returns-3
     returns-4)
