@@ -9,14 +9,14 @@ use Rattle.frame.specs.Trees.{head, Tree, node, tagOf, leaf, two}
 use Rattle.frame.specs.Tags.{predicate, expression, lookup, classOf, formAt}
 use Rattle.frame.specs.Operators.{#Equal, #Lt, #Le, #Gt, #Ge, #True, #False}
 use Rattle.nav.specs.PlaceTables.{TagPost}
-use Rattle.rules.specs.Change.{to, same, onTag}
+use Rattle.rules.specs.Change.{to, same, onTag, with1}
 use Rattle.rules.specs.Negation.{rewriteNot, rewriteNotInner}
 use Rattle.emit.proofs.RightSides.{right-16, right-17, right-18, right-19, right-20, right-21, right-22, right-23}
 use Rattle.rewriter.specs.Decides.{Here, HereTwo, DecidesOne, DecidesTwo, Unlike}
 use Rattle.rewriter.specs.RulesAt.{unequal}
 use Rattle.rewriter.specs.declared.decision.Decision.{Decision}
 use Rattle.rewriter.specs.declared.decision.Decision.the-variants as D
-use Rattle.rewriter.proofs.Shapes.{fixed-at, unbound, by-rest, by-double, two-here, by-two}
+use Rattle.rewriter.proofs.Shapes.{fixed-at, unbound, by-rest, by-other, by-double, two-here, by-two}
 use Rattle.rewriter.proofs.Descents.{here-child, by-child}
 
 -- ---- ¬ a = b
@@ -134,11 +134,8 @@ module _ (s st nx : List ℕ) (k tag : ℕ) (pt : TagPost s st k tag) where
 -- ---- at the ¬ itself
 module _ (s st nx : List ℕ) (k tag : ℕ) (pt : TagPost s st k tag) where
   pub not-other : (tag ≡ 701 → ⊥) → DecidesOne rewriteNot s st nx k D.Rests
-  unfolding rewriteNot onTag
-  not-other h = by-rest (λ Γ. rewriteNot) s st nx k tag pt (λ Γ v. rest v) D.Rests refl
-    where
-      rest : (v : Tree) → tagOf v ≡ tag → rewriteNot v ≡ same
-      rest (node (head o n us) ks) z = rw z (rw (ne-eqb tag 701 h))
+  unfolding rewriteNot
+  not-other = by-other (λ Γ. rewriteNot) s st nx k tag pt 701 (λ Γ us ks. with1 ks rewriteNotInner) (λ Γ v. refl)
 
   module _ (key : tag ≡ 701) where
     pub inner-here : Here s st nx k → Here s st nx (k + 1)
