@@ -1,4 +1,4 @@
--- The ways out of equals_empty_at and empty_by_tag of src/equals.rt: a law for each place.
+-- The ways out of rewrite_equals_empty_set and empty_by_tag of src/equals.rt: a law for each place.
 use mathlib.Core.Path.{_≡_, refl, sym, ap, _∙_}
 use mathlib.Core.Bool.{Bool, true, false}
 use mathlib.Core.List.{List, [], _∷_}

@@ -1,4 +1,4 @@
--- The ways out of finite_at and finite_restricted_at of src/finite.rt: a law for each place.
+-- The ways out of rewrite_finite and finite_restricted_at of src/finite.rt: a law for each place.
 use mathlib.Core.Path.{_≡_, refl, sym, ap, _∙_}
 use mathlib.Core.Bool.{Bool, true, false}
 use mathlib.Core.List.{List, [], _∷_}

@@ -1,4 +1,4 @@
--- The ways out of implication_first_at and implication_last_at of src/logic.rt, and how they make up simplifyImp.
+-- The ways out of implication_first_at and implication_last_at of src/implication.rt, and how they make up simplifyImp.
 use mathlib.Core.Path.{_≡_, refl, sym, ap, _∙_}
 use mathlib.Core.Bool.{Bool, true, false, _&&_}
 use mathlib.Core.List.{List, [], _∷_}
@@ -18,12 +18,13 @@ use Rattle.nav.proofs.Hops.{Sorted, place-sorted}
 use Rattle.rules.specs.Change.{Change, to, same, _orElse_, when, onTag, contains}
 use Rattle.rules.specs.Simplify.{makeNeg, simplifyImp}
 use Rattle.emit.proofs.RightSides.{right-66, right-67, right-68, right-69, right-70, right-73, right-74}
-use Rattle.rewriter.specs.Decides.{HereTwo, DecidesTwo, OpposesPost, negatedAt}
-use Rattle.rewriter.specs.RulesAt.{opposes, impFirst, impLast}
+use Rattle.rewriter.specs.Decides.{DecidesTwo, Compared, negatedAt}
+use Rattle.rewriter.specs.RulesAt.{impFirst, impLast}
 use Rattle.rewriter.specs.declared.decision.Decision.{Decision}
 use Rattle.rewriter.specs.declared.decision.Decision.the-variants as D
 use Rattle.rewriter.proofs.Shapes.{any, or-same}
-use Rattle.rewriter.proofs.LogicTurns.{unary-when, on-left, on-right, negated-means}
+use Rattle.rewriter.proofs.LogicTurns.{on-left, on-right, negated-means}
+use Rattle.rewriter.proofs.Opposites.{unary-when}
 
 -- ---- ⊤ has no payload, no types and no children
 leaf-in : (n : ℕ) (us : List Ty) (ks : Forest) → Sorted (node (head 610 n us) ks) → node (head 610 n us) ks ≡ leaf 610
@@ -107,23 +108,26 @@ module _ (s st nx : List ℕ) (a b left right : ℕ) (pl : TagPost s st a left) 
           }
 
 -- ---- the last tests
-last-form : (v w : Tree) → impLast v w ≡ (when (opposes v w) (to 73 w) orElse when (opposes w v) (to 74 w))
-last-form v w = rw (unary-when v w (to 73 w), unary-when w v (to 74 w))
+last-form : (v w : Tree) → Sorted v → Sorted w
+    → impLast v w ≡ (when (sameTree v (one #Not w)) (to 73 w) orElse when (sameTree w (one #Not v)) (to 74 w))
+last-form v w ov ow = rw (unary-when v w (to 73 w) ov, unary-when w v (to 74 w) ow)
 
-module _ (s st nx : List ℕ) (a b : ℕ) (o : Bool) (po : OpposesPost s st nx a b o) where
+module _ (s st nx : List ℕ) (a b : ℕ) (o : Bool) (po : Compared (one #Not) s st a b o) where
+  last : (t : Tree) (n : ℕ) (Γ : Ctx) (v w : Tree) → Table s t st nx n → find t [] a ≡ found Γ v → find t [] b ≡ found Γ w
+      → impLast v w ≡ (when o (to 73 w) orElse when (sameTree w (one #Not v)) (to 74 w))
+  last t n Γ v w tb fa fb =
+      last-form v w (place-sorted s t st n (tb .framed) a Γ v fa) (place-sorted s t st n (tb .framed) b Γ w fb)
+      ∙ ap (λ (x : Bool). when x (to 73 w) orElse when (sameTree w (one #Not v)) (to 74 w)) (sym (po .says t n Γ Γ v w (tb .framed) fa fb))
+
   pub out-73 : o ≡ true → (r : Decision) → r ≡ D.Fixed 73 73 b b b → DecidesTwo impLast s st nx a b r
-  out-73 z =
-      on-right impLast s st nx a b 73 refl (λ v w. w) (λ t n Γ v w tb fa fb. last-form v w ∙ rw (sym (po .says t n Γ v w tb fa fb) ∙ z)) (λ Γ v w. sym (right-73 w _ _ _))
+  out-73 z = on-right impLast s st nx a b 73 refl (λ v w. w) (λ t n Γ v w tb fa fb. last t n Γ v w tb fa fb ∙ rw z) (λ Γ v w. sym (right-73 w _ _ _))
 
-  module _ (n1 : o ≡ false) (u : Bool) (pu : OpposesPost s st nx b a u) where
+  module _ (n1 : o ≡ false) (u : Bool) (pu : Compared (one #Not) s st b a u) where
     pub out-74 : u ≡ true → (r : Decision) → r ≡ D.Fixed 74 74 b b b → DecidesTwo impLast s st nx a b r
     out-74 z =
         on-right impLast s st nx a b 74 refl (λ v w. w)
-        (λ t n Γ v w tb fa fb. last-form v w ∙ rw (sym (po .says t n Γ v w tb fa fb) ∙ n1, sym (pu .says t n Γ w v tb fb fa) ∙ z)) (λ Γ v w. sym (right-74 w _ _ _))
+        (λ t n Γ v w tb fa fb. last t n Γ v w tb fa fb ∙ rw (n1, sym (pu .says t n Γ Γ w v (tb .framed) fb fa) ∙ z)) (λ Γ v w. sym (right-74 w _ _ _))
 
     pub last-none : u ≡ false → DecidesTwo impLast s st nx a b D.Rests
     last-none z =
-        record {
-          means = λ t n Γ v w tb fa fb x Ξ kept.
-              last-form v w ∙ rw (sym (po .says t n Γ v w tb fa fb) ∙ n1, sym (pu .says t n Γ w v tb fb fa) ∙ z);
-        }
+        record { means = λ t n Γ v w tb fa fb x Ξ kept. last t n Γ v w tb fa fb ∙ rw (n1, sym (pu .says t n Γ Γ w v (tb .framed) fb fa) ∙ z) }

@@ -1,4 +1,4 @@
--- What `decide_junction` answers stands for the answer of `simplify_assoc_pred`.
+-- What `simplify_assoc_pred` of src/junction.rt answers stands for what the definition of that name gives.
 -- Main results: settled-none, settled-one, settled-all, settled-fewer, settled-decided (the ways out of `settle`); conj-done, disj-done.
 use mathlib.Core.Path.{_≡_, refl, sym, ap, _∙_}
 use mathlib.Core.Bool.{Bool, true, false, not, _&&_}
@@ -26,7 +26,7 @@ use Rattle.rewriter.specs.declared.decision.Decision.the-variants as D
 use Rattle.rewriter.specs.Junction.{Absorbed, AbsorbPost, settled, JunctionPost}
 use Rattle.rewriter.specs.declared.junction.Outcome.{Outcome}
 use Rattle.rewriter.specs.declared.junction.Outcome.the-variants.{Decided, Stay}
-use Rattle.rewriter.proofs.Shapes.{unbound}
+use Rattle.rewriter.proofs.Shapes.{fixed-at, unbound}
 
 -- ---- the ways out of `settle`
 module _ (x : Outcome) (m : ℕ) (ex : x ≡ Stay m) (k n p pn pd : ℕ) where
@@ -62,7 +62,7 @@ module _ (t : Tree) (k : ℕ) (Γ : Ctx) (g x : ℕ) (us : List Ty) (ks : Forest
   fixed-means : (place pattern p : ℕ) → (ltb pattern 88 && not (takesBinders pattern)) ≡ true → (Δ : Ctx) (a new : Tree) (c : Change) → c ≡ to place new
       → find t [] p ≡ found Δ a → enc new ≡ filled (template pattern) (filling Δ a a us) → FixedMeans t place pattern p p k c
   fixed-means place pattern p plain Δ a new c e h b =
-      record { new = new; answer = e; Δ = Δ; a = a; b = a; at-first = h; at-second = h; Θ = Γ; g = g; n = x; us = us; ks = ks; at-binder = f; bound = unbound pattern g plain; bytes = b }
+      fixed-at t place pattern c new e p p k Δ Γ a a v h h f (unbound pattern g plain) b
 
   module _ (lay : formOf g .layout ≡ counted 2 255 predicate) (neutral determinant pn pd : ℕ) (ln : (ltb pn 88 && not (takesBinders pn)) ≡ true) (ld : (ltb pd 88 && not (takesBinders pd)) ≡ true) (en : (Δ : Ctx) (a b : Tree) → filled (template pn) (filling Δ a b us) ≡ enc (leaf neutral))
       (ed : (Δ : Ctx) (a b : Tree) → filled (template pd) (filling Δ a b us) ≡ enc (leaf determinant)) (lent : List ℕ) (p : ℕ) (ep : p ≡ getD lent 0 0) where
@@ -96,53 +96,59 @@ module _ (t : Tree) (k : ℕ) (Γ : Ctx) (g x : ℕ) (us : List Ty) (ks : Forest
         rw z (stay (a .0) c (a .1) (rw z at (a .3)))
 
 -- the children of ∧ and ∨ are in the node's own context
-and-under : (us : List Ty) (Γ : Ctx) → under 351 us Γ ≡ Γ
-unfolding lookup classOf formAt
-and-under us Γ = refl
+abbrev Joining : ℕ → Type 0
+Joining g = ((us : List Ty) (Γ : Ctx) → under g us Γ ≡ Γ) × (formOf g .layout ≡ counted 2 255 predicate)
 
-or-under : (us : List Ty) (Γ : Ctx) → under 352 us Γ ≡ Γ
+and-joins : Joining 351
 unfolding lookup classOf formAt
-or-under us Γ = refl
+and-joins = (λ us Γ. refl, refl)
 
-and-layout : formOf 351 .layout ≡ counted 2 255 predicate
+or-joins : Joining 352
 unfolding lookup classOf formAt
-and-layout = refl
+or-joins = (λ us Γ. refl, refl)
 
-or-layout : formOf 352 .layout ≡ counted 2 255 predicate
-unfolding lookup classOf formAt
-or-layout = refl
+-- a pattern without operands: that of a literal
+abbrev Literal : ℕ → ℕ → Type 0
+Literal pattern g = ((ltb pattern 88 && not (takesBinders pattern)) ≡ true)
+    × ((us : List Ty) (Δ : Ctx) (a b : Tree) → filled (template pattern) (filling Δ a b us) ≡ enc (leaf g))
+
+true-literal : Literal 1 610
+true-literal = (refl, λ us Δ a b. right-1 _ _ us)
+
+false-literal : Literal 2 611
+false-literal = (refl, λ us Δ a b. right-2 _ _ us)
 
 -- the decision, by the node's operator
 module _ (s st nx : List ℕ) (k r : ℕ) (many : ChildrenPost s st k r) (tag : ℕ) (post : TagPost s st k tag) (lent : List ℕ) (x : Outcome) (p : ℕ)
     (ep : p ≡ getD lent 0 0) (d : Decision) where
-  pub conj-done : tag ≡ 351 → AbsorbPost s st nx k 610 611 lent x → d ≡ settled x k r p 1 2 → JunctionPost s st nx k lent d
-  unfolding simplifyAssocPred
-  conj-done e absorbed ed = record { long = absorbed .long; conj = conj; disj = λ t n Γ y us ks tb f. other t n Γ y us ks tb f }
-    where
-      conj : (t : Tree) (n : ℕ) (Γ : Ctx) (y : ℕ) (us : List Ty) (ks : Forest) → Table s t st nx n → find t [] k ≡ found Γ (node (head 351 y us) ks)
-          → Means t (node (head 351 y us) ks) Γ lent d (simplifyAssocPred 351 610 611 ks)
-      conj t n Γ y us ks tb f =
-          let z : r ≡ count ks = many .many t n Γ (node (head 351 y us) ks) (tb .framed) f in
-          let a : Absorbed t Γ lent x (scan 610 611 ks nil) = rw (and-under us Γ) at (absorbed .scanned (λ q. omega arith) t n Γ 351 y us ks tb f) in
-          rw (ed, z) (settle-means t k Γ 351 y us ks f and-layout 610 611 1 2 refl refl (λ Δ i j. right-1 _ _ us) (λ Δ i j. right-2 _ _ us) lent p ep x (scan 610 611 ks nil) a)
+  abbrev StandsFor : ℕ → ℕ → ℕ → Type 0
+  StandsFor g neutral determinant = (t : Tree) (n : ℕ) (Γ : Ctx) (y : ℕ) (us : List Ty) (ks : Forest) → Table s t st nx n
+      → find t [] k ≡ found Γ (node (head g y us) ks) → Means t (node (head g y us) ks) Γ lent d (simplifyAssocPred g neutral determinant ks)
 
-      other : (t : Tree) (n : ℕ) (Γ : Ctx) (y : ℕ) (us : List Ty) (ks : Forest) → Table s t st nx n → find t [] k ≡ found Γ (node (head 352 y us) ks)
-          → Means t (node (head 352 y us) ks) Γ lent d (simplifyAssocPred 352 611 610 ks)
-      other t n Γ y us ks tb f =
-          let z : tag ≡ 352 = post .tag t n Γ (node (head 352 y us) ks) (tb .framed) f in
-          absurd (omega arith)
+  at-operator : (g neutral determinant pn pd : ℕ) → Joining g → (neutral ≡ determinant → ⊥) → Literal pn neutral → Literal pd determinant
+      → AbsorbPost s st nx k neutral determinant lent x → d ≡ settled x k r p pn pd → StandsFor g neutral determinant
+  unfolding simplifyAssocPred
+  at-operator g neutral determinant pn pd (inside, lay) apart (ln, en) (ld, el) absorbed ed t n Γ y us ks tb f =
+      let z : r ≡ count ks = many .many t n Γ (node (head g y us) ks) (tb .framed) f in
+      let a : Absorbed t Γ lent x (scan neutral determinant ks nil) = rw (inside us Γ) at (absorbed .scanned apart t n Γ g y us ks tb f) in
+      rw (ed, z) (settle-means t k Γ g y us ks f lay neutral determinant pn pd ln ld (en us) (el us) lent p ep x (scan neutral determinant ks nil) a)
+
+  -- no other operator stands there
+  not-there : (g neutral determinant : ℕ) → (tag ≡ g → ⊥) → StandsFor g neutral determinant
+  not-there g neutral determinant e t n Γ y us ks tb f = absurd (e (post .tag t n Γ (node (head g y us) ks) (tb .framed) f))
+
+  pub conj-done : tag ≡ 351 → AbsorbPost s st nx k 610 611 lent x → d ≡ settled x k r p 1 2 → JunctionPost s st nx k lent d
+  conj-done e absorbed ed =
+      record {
+        long = absorbed .long;
+        conj = at-operator 351 610 611 1 2 and-joins (λ q. omega arith) true-literal false-literal absorbed ed;
+        disj = not-there 352 611 610 (λ z. omega arith);
+      }
 
   pub disj-done : (tag ≡ 351 → ⊥) → AbsorbPost s st nx k 611 610 lent x → d ≡ settled x k r p 2 1 → JunctionPost s st nx k lent d
-  unfolding simplifyAssocPred
-  disj-done e absorbed ed = record { long = absorbed .long; conj = λ t n Γ y us ks tb f. other t n Γ y us ks tb f; disj = disj }
-    where
-      disj : (t : Tree) (n : ℕ) (Γ : Ctx) (y : ℕ) (us : List Ty) (ks : Forest) → Table s t st nx n → find t [] k ≡ found Γ (node (head 352 y us) ks)
-          → Means t (node (head 352 y us) ks) Γ lent d (simplifyAssocPred 352 611 610 ks)
-      disj t n Γ y us ks tb f =
-          let z : r ≡ count ks = many .many t n Γ (node (head 352 y us) ks) (tb .framed) f in
-          let a : Absorbed t Γ lent x (scan 611 610 ks nil) = rw (or-under us Γ) at (absorbed .scanned (λ q. omega arith) t n Γ 352 y us ks tb f) in
-          rw (ed, z) (settle-means t k Γ 352 y us ks f or-layout 611 610 2 1 refl refl (λ Δ i j. right-2 _ _ us) (λ Δ i j. right-1 _ _ us) lent p ep x (scan 611 610 ks nil) a)
-
-      other : (t : Tree) (n : ℕ) (Γ : Ctx) (y : ℕ) (us : List Ty) (ks : Forest) → Table s t st nx n → find t [] k ≡ found Γ (node (head 351 y us) ks)
-          → Means t (node (head 351 y us) ks) Γ lent d (simplifyAssocPred 351 610 611 ks)
-      other t n Γ y us ks tb f = absurd (e (post .tag t n Γ (node (head 351 y us) ks) (tb .framed) f))
+  disj-done e absorbed ed =
+      record {
+        long = absorbed .long;
+        conj = not-there 351 610 611 e;
+        disj = at-operator 352 611 610 2 1 or-joins (λ q. omega arith) false-literal true-literal absorbed ed;
+      }

@@ -27,7 +27,8 @@ use Rattle.rules.specs.Change.{contains}
 use Rattle.rules.specs.Simplify.{makeNeg, Verdict, drops, keeps, decides, verdict, Kept, kept, decided, afterVerdict, scan}
 use Rattle.rewriter.proofs.Children.{Child, child-of}
 use Rattle.rewriter.specs.Decision.{At}
-use Rattle.rewriter.specs.Junction.{OppositePost, JunctionPre, Absorbed, AbsorbPost}
+use Rattle.rewriter.specs.Decides.{Compared}
+use Rattle.rewriter.specs.Junction.{JunctionPre, Absorbed, AbsorbPost}
 use Rattle.rewriter.specs.declared.junction.Outcome.the-variants.{Decided, Stay}
 
 -- ---- an ∧ or an ∨ has at most 255 children
@@ -167,12 +168,12 @@ module _ (s st nx : List ℕ) (neutral determinant : ℕ) where
           right = record { t = t; n = n; framed = tb .framed; below = find-lt t [] c Θ w f };
         }
 
-    module _ (o : Bool) (opp : OppositePost s st p c o) where
+    module _ (o : Bool) (opp : Compared makeNeg s st p c o) where
       pub scanned-meets : o ≡ true → (t : Tree) (n : ℕ) (Θ : Ctx) (out : Forest) (w : Tree) → Table s t st nx n → At t Θ (take m lent) out
           → find t [] c ≡ found Θ w → verdict neutral determinant out w ≡ decides
       scanned-meets eo t n Θ out w tb a f =
           let v = first-of t n Θ out w tb a f in
-          let z = sym (opp .meets t n Θ Θ (v .w) w (tb .framed) (v .there) f) ∙ eo in
+          let z = sym (opp .says t n Θ Θ (v .w) w (tb .framed) (v .there) f) ∙ eo in
           sc t n Θ out w tb a f .says
           ∙ ap (λ (l : Forest). pending fresh l w) (v .is)
           ∙ pending-opposite fresh (v .w) (v .rest) w z
@@ -180,7 +181,7 @@ module _ (s st nx : List ℕ) (neutral determinant : ℕ) where
       pub scanned-next : o ≡ false → (r : Bool) → SameAtPost s st p c r → (next : Bool) → next ≡ pick r false fresh → Scanned lent c m next (j + 1)
       scanned-next eo r same next en t n Θ out w tb a f =
           let v = first-of t n Θ out w tb a f in
-          let z = sym (opp .meets t n Θ Θ (v .w) w (tb .framed) (v .there) f) ∙ eo in
+          let z = sym (opp .says t n Θ Θ (v .w) w (tb .framed) (v .there) f) ∙ eo in
           let y = same .same t n Θ Θ (v .w) w (tb .framed) (v .there) f in
           record {
             left = v .rest;

@@ -21,4 +21,5 @@ pub mod OwnTypes
 pub mod Descents
 pub mod OwnTurns
 pub mod PairTurns
+pub mod NodeTurns
 pub mod DispatchTurns

@@ -15,66 +15,21 @@ use Rattle.frame.specs.Encoding.{enc}
 use Rattle.frame.specs.Places.{Ctx, found, find}
 use Rattle.frame.specs.Sameness.{sameTree}
 use Rattle.nav.specs.PlaceTables.{Table, Placed, BothPlaced, TagPost, SameAtPost}
-use Rattle.nav.proofs.Hops.{place-sorted}
+use Rattle.nav.proofs.Hops.{Sorted, place-sorted}
 use Rattle.nav.proofs.SamePlaces.{only-child}
 use Rattle.rules.specs.Change.{Change, to, same, _orElse_, when, onTag, with1, unary}
-use Rattle.rules.specs.Simplify.{makeNeg, simplifyEqv}
+use Rattle.rules.specs.Simplify.{makeNeg, simplifyEqv, simplifyNot}
 use Rattle.emit.specs.Template.{filled}
 use Rattle.emit.specs.Programs.{template}
-use Rattle.emit.proofs.RightSides.{right-64, right-75, right-76, right-77, right-78, right-79, right-80, right-81}
+use Rattle.emit.proofs.RightSides.{right-64, right-75, right-76, right-77, right-78, right-79, right-80, right-81, right-82, right-83, right-84}
 use Rattle.rewriter.specs.Decision.{filling, takesBinders, Means}
-use Rattle.rewriter.specs.Decides.{negatedAt}
-use Rattle.rewriter.specs.Decides.{Here, HereTwo, Decides, DecidesTwo, OpposesPost}
-use Rattle.rewriter.specs.RulesAt.{opposes}
+use Rattle.rewriter.specs.Decides.{HereTwo, DecidesOne, DecidesTwo, Compared, negatedAt}
 use Rattle.rewriter.specs.declared.decision.Decision.{Decision}
 use Rattle.rewriter.specs.declared.decision.Decision.the-variants as D
-use Rattle.rewriter.proofs.Shapes.{Single, single, placed, place-few, ownTypes, fixed-at, unbound, first-placed, second-placed}
+use Rattle.rewriter.proofs.Opposites.{neg-other, unary-when}
+use Rattle.rewriter.proofs.Shapes.{single, place-few, ownTypes, fixed-at, unbound, first-placed, second-placed, by-rest, by-node, by-single}
 
--- ---- one tree is the negation of another
-pub unary-when : (v w : Tree) (c : Change) → unary #Not v (λ inner. when (sameTree inner w) c) ≡ when (opposes v w) c
-unfolding onTag
-unary-when (node (head g n us) ks) w c = go (eqb g 701) ks
-  where
-    go : (b : Bool) (ks : Forest) → pick b (with1 ks (λ inner. when (sameTree inner w) c)) same ≡ when (b && opposes (node (head 701 n us) ks) w) c
-    go true nil = refl
-    go true (cons a nil) = refl
-    go true (cons a (cons b ks)) = refl
-    go false ks = refl
-
-module _ (s st nx : List ℕ) (a b tag : ℕ) (pt : TagPost s st a tag) where
-  pub not-opposed : (tag ≡ 701 → ⊥) → OpposesPost s st nx a b false
-  not-opposed h = record { says = λ t n Γ v w tb fa fb. go v w (λ q. h (pt .tag t n Γ v (tb .framed) fa ∙ q)) }
-    where
-      go : (v w : Tree) → (tagOf v ≡ 701 → ⊥) → false ≡ opposes v w
-      go (node (head g n us) ks) w d = rw (ne-eqb g 701 d)
-
-  module _ (key : tag ≡ 701) where
-    pub opposed-here : HereTwo s st nx a b → HereTwo s st nx (a + 1) b
-    unfolding lookup classOf formAt
-    opposed-here h =
-        let o = single 701 predicate (λ x. refl) (h .v) (place-sorted s (h .t) st (h .n) (h .table .framed) a (h .Γ) (h .v) (h .first))
-        (sym (pt .tag (h .t) (h .n) (h .Γ) (h .v) (h .table .framed) (h .first)) ∙ key) in
-        record {
-          t = h .t;
-          n = h .n;
-          table = h .table;
-          Γ = h .Γ;
-          v = o .a;
-          w = h .w;
-          first = only-child (h .t) nx (h .table .follows) a (h .Γ) 701 (o .n) (o .us) (o .a) (h .first ∙ ap (found (h .Γ)) (o .is));
-          second = h .second;
-        }
-
-    pub opposed-same : (r : Bool) → SameAtPost s st (a + 1) b r → OpposesPost s st nx a b r
-    unfolding lookup classOf formAt
-    opposed-same r p =
-        record {
-          says = λ t n Γ v w tb fa fb.
-              let o = single 701 predicate (λ x. refl) v (place-sorted s t st n (tb .framed) a Γ v fa) (sym (pt .tag t n Γ v (tb .framed) fa) ∙ key) in
-              let fc = only-child t nx (tb .follows) a Γ 701 (o .n) (o .us) (o .a) (fa ∙ ap (found Γ) (o .is)) in
-              rw (o .is) (p .same t n Γ Γ (o .a) w (tb .framed) fc fb);
-        }
-
+-- ---- two places
 pub both-placed : {s st nx : List ℕ} {a b : ℕ} → HereTwo s st nx a b → BothPlaced s st a b
 both-placed h = record { left = first-placed h; right = second-placed h }
 
@@ -104,10 +59,6 @@ module _ (rule : Tree → Tree → Change) (s st nx : List ℕ) (a b : ℕ) (pla
       }
 
 -- ---- a negation, removed where there is one
-make-not : (v : Tree) → (tagOf v ≡ 701 → ⊥) → makeNeg v ≡ one #Not v
-unfolding makeNeg
-make-not (node (head g n us) ks) h = rw (ne-eqb g 701 h)
-
 pub negated-means : (s st nx : List ℕ) (t : Tree) (n p : ℕ) (Γ : Ctx) (v : Tree) (tag place : ℕ) → (ltb place 88 && not (takesBinders place)) ≡ true → (c : Change) → Table s t st nx n → find t [] p ≡ found Γ v → tag ≡ tagOf v
     → c ≡ to place (makeNeg v)
     → ((a : Tree) (us : List Ty) → enc (one #Not a) ≡ filled (template place) (filling Γ a a us))
@@ -121,7 +72,7 @@ negated-means s st nx t n p Γ v tag place plain c tb f z ans bytes x Ξ kept = 
         let fc = only-child t nx (tb .follows) p Γ 701 (o .n) (o .us) (o .a) (f ∙ ap (found Γ) (o .is)) in
         fixed-at t place 64 c (o .a) (ans ∙ ap (λ (u : Tree). to place (makeNeg u)) (o .is)) (p + 1) (p + 1) p Γ Γ (o .a) (o .a) v fc fc f (unbound 64 (tagOf v) refl) (sym (right-64 (o .a) _ _ _))
     go false h =
-        fixed-at t place place c (one #Not v) (ans ∙ ap (to place) (make-not v (λ q. eqb-false tag 701 h (z ∙ q)))) p p p Γ Γ v v v f f f (unbound place (tagOf v) plain) (bytes v (ownTypes v))
+        fixed-at t place place c (one #Not v) (ans ∙ ap (to place) (neg-other v (λ q. eqb-false tag 701 h (z ∙ q)))) p p p Γ Γ v v v f f f (unbound place (tagOf v) plain) (bytes v (ownTypes v))
 
 -- ---- ⇔
 module _ (v w : Tree) where
@@ -145,10 +96,10 @@ module _ (v w : Tree) where
           eqv-79 z = rw (ne-eqb (tagOf w) 610 n1, ne-eqb (tagOf v) 610 n2, n3, ne-eqb (tagOf w) 611 n4, z)
 
           module _ (n5 : tagOf v ≡ 611 → ⊥) where
-            eqv-last : simplifyEqv v w ≡ (when (opposes w v) (to 80 (leaf #BFalse)) orElse when (opposes v w) (to 81 (leaf #BFalse)))
-            eqv-last =
+            eqv-last : Sorted v → Sorted w → simplifyEqv v w ≡ (when (sameTree w (one #Not v)) (to 80 (leaf #BFalse)) orElse when (sameTree v (one #Not w)) (to 81 (leaf #BFalse)))
+            eqv-last ov ow =
                 rw (ne-eqb (tagOf w) 610 n1, ne-eqb (tagOf v) 610 n2, n3, ne-eqb (tagOf w) 611 n4, ne-eqb (tagOf v) 611 n5)
-                (rw (unary-when w v (to 80 (leaf #BFalse)), unary-when v w (to 81 (leaf #BFalse))))
+                (rw (unary-when w v (to 80 (leaf #BFalse)) ow, unary-when v w (to 81 (leaf #BFalse)) ov))
 
 module _ (s st nx : List ℕ) (a b left right : ℕ) (pl : TagPost s st a left) (pr : TagPost s st b right) where
   pub out-75 : right ≡ 610 → (r : Decision) → r ≡ D.Fixed 75 75 a a a → DecidesTwo simplifyEqv s st nx a b r
@@ -196,27 +147,52 @@ module _ (s st nx : List ℕ) (a b left right : ℕ) (pl : TagPost s st a left) 
 
           module _ (n5 : left ≡ 611 → ⊥) where
             last : (t : Tree) (n : ℕ) (Γ : Ctx) (v w : Tree) → Table s t st nx n → find t [] a ≡ found Γ v → find t [] b ≡ found Γ w
-                → simplifyEqv v w ≡ (when (opposes w v) (to 80 (leaf #BFalse)) orElse when (opposes v w) (to 81 (leaf #BFalse)))
+                → simplifyEqv v w ≡ (when (sameTree w (one #Not v)) (to 80 (leaf #BFalse)) orElse when (sameTree v (one #Not w)) (to 81 (leaf #BFalse)))
             last t n Γ v w tb fa fb =
                 let zl = pl .tag t n Γ v (tb .framed) fa in
                 let zr = pr .tag t n Γ w (tb .framed) fb in
                 eqv-last v w (λ q. n1 (zr ∙ q)) (λ q. n2 (zl ∙ q)) (sym (pe .same t n Γ Γ v w (tb .framed) fa fb) ∙ n3) (λ q. n4 (zr ∙ q)) (λ q. n5 (zl ∙ q))
+                (place-sorted s t st n (tb .framed) a Γ v fa) (place-sorted s t st n (tb .framed) b Γ w fb)
 
-            module _ (o : Bool) (po : OpposesPost s st nx b a o) where
+            module _ (o : Bool) (po : Compared (one #Not) s st b a o) where
               pub out-80 : o ≡ true → (r : Decision) → r ≡ D.Fixed 80 80 a a a → DecidesTwo simplifyEqv s st nx a b r
               out-80 z =
                   on-left simplifyEqv s st nx a b 80 refl (λ v w. leaf #BFalse)
-                  (λ t n Γ v w tb fa fb. last t n Γ v w tb fa fb ∙ rw (sym (po .says t n Γ w v tb fb fa) ∙ z)) (λ Γ v w. sym (right-80 _ _ _))
+                  (λ t n Γ v w tb fa fb. last t n Γ v w tb fa fb ∙ rw (sym (po .says t n Γ Γ w v (tb .framed) fb fa) ∙ z)) (λ Γ v w. sym (right-80 _ _ _))
 
-              module _ (n6 : o ≡ false) (u : Bool) (pu : OpposesPost s st nx a b u) where
+              module _ (n6 : o ≡ false) (u : Bool) (pu : Compared (one #Not) s st a b u) where
                 pub out-81 : u ≡ true → (r : Decision) → r ≡ D.Fixed 81 81 a a a → DecidesTwo simplifyEqv s st nx a b r
                 out-81 z =
                     on-left simplifyEqv s st nx a b 81 refl (λ v w. leaf #BFalse)
-                    (λ t n Γ v w tb fa fb. last t n Γ v w tb fa fb ∙ rw (sym (po .says t n Γ w v tb fb fa) ∙ n6, sym (pu .says t n Γ v w tb fa fb) ∙ z)) (λ Γ v w. sym (right-81 _ _ _))
+                    (λ t n Γ v w tb fa fb. last t n Γ v w tb fa fb ∙ rw (sym (po .says t n Γ Γ w v (tb .framed) fb fa) ∙ n6, sym (pu .says t n Γ Γ v w (tb .framed) fa fb) ∙ z)) (λ Γ v w. sym (right-81 _ _ _))
 
                 pub eqv-none : u ≡ false → DecidesTwo simplifyEqv s st nx a b D.Rests
                 eqv-none z =
                     record {
                       means = λ t n Γ v w tb fa fb x Ξ kept.
-                          last t n Γ v w tb fa fb ∙ rw (sym (po .says t n Γ w v tb fb fa) ∙ n6, sym (pu .says t n Γ v w tb fa fb) ∙ z);
+                          last t n Γ v w tb fa fb ∙ rw (sym (po .says t n Γ Γ w v (tb .framed) fb fa) ∙ n6, sym (pu .says t n Γ Γ v w (tb .framed) fa fb) ∙ z);
                     }
+
+-- ---- ¬ in logic
+module _ (s st nx : List ℕ) (k tag : ℕ) (pt : TagPost s st k tag) where
+  pub out-82 : tag ≡ 610 → (r : Decision) → r ≡ D.Fixed 82 82 k k k → DecidesOne simplifyNot s st nx k r
+  unfolding onTag
+  out-82 key =
+      by-node (λ Γ. simplifyNot) s st nx k tag pt 610 key 82 refl (λ Γ n us ks. leaf #BFalse) (λ Γ n us ks. refl) (λ Γ n us ks. sym (right-82 _ _ _))
+
+  pub out-83 : tag ≡ 611 → (r : Decision) → r ≡ D.Fixed 83 83 k k k → DecidesOne simplifyNot s st nx k r
+  unfolding onTag
+  out-83 key =
+      by-node (λ Γ. simplifyNot) s st nx k tag pt 611 key 83 refl (λ Γ n us ks. leaf #BTrue) (λ Γ n us ks. refl) (λ Γ n us ks. sym (right-83 _ _ _))
+
+  pub out-84 : tag ≡ 701 → (r : Decision) → r ≡ D.Fixed 84 84 (k + 1) (k + 1) k → DecidesOne simplifyNot s st nx k r
+  unfolding onTag lookup classOf formAt
+  out-84 key =
+      by-single (λ Γ. simplifyNot) s st nx k tag pt 701 key 84 refl predicate (λ x. refl) (λ Γ n us a. a) (λ Γ n us a. refl) (λ Γ n us a. sym (right-84 a _ _ _))
+
+  pub not-none : (tag ≡ 610 → ⊥) → (tag ≡ 611 → ⊥) → (tag ≡ 701 → ⊥) → DecidesOne simplifyNot s st nx k D.Rests
+  unfolding onTag
+  not-none a b c = by-rest (λ Γ. simplifyNot) s st nx k tag pt (λ Γ v. rest v) D.Rests refl
+    where
+      rest : (v : Tree) → tagOf v ≡ tag → simplifyNot v ≡ same
+      rest (node (head o n us) ks) z = rw z (simp (ne-eqb tag 610 a, ne-eqb tag 611 b, ne-eqb tag 701 c))

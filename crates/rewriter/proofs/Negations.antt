@@ -1,26 +1,23 @@
 -- The ways out of src/negation.rt.
-use mathlib.Core.Path.{_≡_, refl, sym, ap, _∙_}
+-- Main results: unequal-20 to unequal-23, unequal-none; not-16 to not-19, not-equal, not-none (on what is negated); not-other, of-inner.
+use mathlib.Core.Path.{_≡_, refl, sym, _∙_}
 use mathlib.Core.List.{List, [], _∷_}
 use Prim.Native.Nat.{ℕ, _+_, _<_}
-use native.Mathlib.Omega.{arith}
 use lib.ListN.{getD}
 use borrow.Author.Tests.{ne-eqb}
-use Rattle.frame.specs.Types.{Ty}
-use Rattle.frame.specs.Trees.{head, Tree, node, Forest, nil, cons, tagOf, leaf, one, two}
+use Rattle.frame.specs.Trees.{head, Tree, node, tagOf, leaf, two}
 use Rattle.frame.specs.Tags.{predicate, expression, lookup, classOf, formAt}
-use Rattle.frame.specs.Operators.{#Equal, #Lt, #Le, #Gt, #Ge, #True, #False, #BTrue, #BFalse, #Not}
-use Rattle.frame.specs.Encoding.{enc}
-use Rattle.frame.specs.Places.{Ctx, found, find}
-use Rattle.nav.specs.PlaceTables.{Table, TagPost}
-use Rattle.nav.proofs.Hops.{place-sorted}
-use Rattle.nav.proofs.SamePlaces.{two-children}
-use Rattle.rules.specs.Change.{Change, to, same, onTag}
-use Rattle.emit.proofs.RightSides.{right-16, right-17, right-18, right-19, right-20, right-21, right-22, right-23, right-82, right-83, right-84}
-use Rattle.rewriter.specs.Decides.{Here, HereTwo, Decides, DecidesTwo}
-use Rattle.rewriter.specs.RulesAt.{negationOf, unequal}
+use Rattle.frame.specs.Operators.{#Equal, #Lt, #Le, #Gt, #Ge, #True, #False}
+use Rattle.nav.specs.PlaceTables.{TagPost}
+use Rattle.rules.specs.Change.{to, same, onTag, with1}
+use Rattle.rules.specs.Negation.{rewriteNot, rewriteNotInner}
+use Rattle.emit.proofs.RightSides.{right-16, right-17, right-18, right-19, right-20, right-21, right-22, right-23}
+use Rattle.rewriter.specs.Decides.{Here, HereTwo, DecidesOne, DecidesTwo, Unlike}
+use Rattle.rewriter.specs.RulesAt.{unequal}
 use Rattle.rewriter.specs.declared.decision.Decision.{Decision}
 use Rattle.rewriter.specs.declared.decision.Decision.the-variants as D
-use Rattle.rewriter.proofs.Shapes.{Double, double, place-few, fixed-at, unbound, by-rest, by-node, by-single, by-double}
+use Rattle.rewriter.proofs.Shapes.{fixed-at, unbound, by-rest, by-other, by-double, two-here, by-two}
+use Rattle.rewriter.proofs.Descents.{here-child, by-child}
 
 -- ---- ¬ a = b
 module _ (v w : Tree) where
@@ -90,79 +87,61 @@ module _ (s st nx : List ℕ) (a b : ℕ) (right : ℕ) (pr : TagPost s st b rig
               ans-none v w (λ q. h (y ∙ q)) (λ q. i (y ∙ q)) (λ q. j (z ∙ q)) (λ q. l (z ∙ q));
         }
 
--- ---- ¬ by the tag
+-- ---- by the tag of what is negated
 module _ (s st nx : List ℕ) (k tag : ℕ) (pt : TagPost s st k tag) where
-  pub not-82 : tag ≡ 610 → (r : Decision) → r ≡ D.Fixed 82 82 k k k → Decides negationOf s st nx k r
-  unfolding onTag
-  not-82 key = by-node negationOf s st nx k tag pt 610 key 82 refl (λ Γ n us ks. leaf #BFalse) (λ Γ n us ks. refl) (λ Γ n us ks. sym (right-82 _ _ _))
-
-  pub not-83 : tag ≡ 611 → (r : Decision) → r ≡ D.Fixed 83 83 k k k → Decides negationOf s st nx k r
-  unfolding onTag
-  not-83 key = by-node negationOf s st nx k tag pt 611 key 83 refl (λ Γ n us ks. leaf #BTrue) (λ Γ n us ks. refl) (λ Γ n us ks. sym (right-83 _ _ _))
-
-  pub not-84 : tag ≡ 701 → (r : Decision) → r ≡ D.Fixed 84 84 (k + 1) (k + 1) k → Decides negationOf s st nx k r
-  unfolding onTag lookup classOf formAt
-  not-84 key =
-      by-single negationOf s st nx k tag pt 701 key 84 refl predicate (λ x. refl) (λ Γ n us a. a) (λ Γ n us a. refl) (λ Γ n us a. sym (right-84 a _ _ _))
-
   module _ (j : ℕ) (ej : k + 1 < 2048 → j ≡ getD nx (k + 1) 0) where
-    pub not-16 : tag ≡ 104 → (r : Decision) → r ≡ D.Fixed 16 16 (k + 1) j k → Decides negationOf s st nx k r
+    pub not-16 : tag ≡ 104 → (r : Decision) → r ≡ D.Fixed 16 16 (k + 1) j k → DecidesOne rewriteNotInner s st nx k r
     unfolding onTag lookup classOf formAt
     not-16 key =
-        by-double negationOf s st nx k tag pt 104 key 16 refl expression expression (λ x. refl) (λ Γ n us a b. two #Gt a b) (λ Γ n us a b. refl)
+        by-double (λ Γ. rewriteNotInner) s st nx k tag pt 104 key 16 refl expression expression (λ x. refl) (λ Γ n us a b. two #Gt a b) (λ Γ n us a b. refl)
         (λ Γ n us a b. sym (right-16 a b _ us)) j ej
 
-    pub not-17 : tag ≡ 106 → (r : Decision) → r ≡ D.Fixed 17 17 (k + 1) j k → Decides negationOf s st nx k r
+    pub not-17 : tag ≡ 106 → (r : Decision) → r ≡ D.Fixed 17 17 (k + 1) j k → DecidesOne rewriteNotInner s st nx k r
     unfolding onTag lookup classOf formAt
     not-17 key =
-        by-double negationOf s st nx k tag pt 106 key 17 refl expression expression (λ x. refl) (λ Γ n us a b. two #Lt a b) (λ Γ n us a b. refl)
+        by-double (λ Γ. rewriteNotInner) s st nx k tag pt 106 key 17 refl expression expression (λ x. refl) (λ Γ n us a b. two #Lt a b) (λ Γ n us a b. refl)
         (λ Γ n us a b. sym (right-17 a b _ us)) j ej
 
-    pub not-18 : tag ≡ 105 → (r : Decision) → r ≡ D.Fixed 18 18 (k + 1) j k → Decides negationOf s st nx k r
+    pub not-18 : tag ≡ 105 → (r : Decision) → r ≡ D.Fixed 18 18 (k + 1) j k → DecidesOne rewriteNotInner s st nx k r
     unfolding onTag lookup classOf formAt
     not-18 key =
-        by-double negationOf s st nx k tag pt 105 key 18 refl expression expression (λ x. refl) (λ Γ n us a b. two #Le a b) (λ Γ n us a b. refl)
+        by-double (λ Γ. rewriteNotInner) s st nx k tag pt 105 key 18 refl expression expression (λ x. refl) (λ Γ n us a b. two #Le a b) (λ Γ n us a b. refl)
         (λ Γ n us a b. sym (right-18 a b _ us)) j ej
 
-    pub not-19 : tag ≡ 103 → (r : Decision) → r ≡ D.Fixed 19 19 (k + 1) j k → Decides negationOf s st nx k r
+    pub not-19 : tag ≡ 103 → (r : Decision) → r ≡ D.Fixed 19 19 (k + 1) j k → DecidesOne rewriteNotInner s st nx k r
     unfolding onTag lookup classOf formAt
     not-19 key =
-        by-double negationOf s st nx k tag pt 103 key 19 refl expression expression (λ x. refl) (λ Γ n us a b. two #Ge a b) (λ Γ n us a b. refl)
+        by-double (λ Γ. rewriteNotInner) s st nx k tag pt 103 key 19 refl expression expression (λ x. refl) (λ Γ n us a b. two #Ge a b) (λ Γ n us a b. refl)
         (λ Γ n us a b. sym (right-19 a b _ us)) j ej
 
     -- ¬ a = b: at the two children
     pub equation-here : tag ≡ 101 → Here s st nx k → HereTwo s st nx (k + 1) j
     unfolding lookup classOf formAt
-    equation-here key h =
-        let o = double 101 expression expression (λ x. refl) (h .v) (place-sorted s (h .t) st (h .n) (h .table .framed) k (h .Γ) (h .v) (h .there))
-        (sym (pt .tag (h .t) (h .n) (h .Γ) (h .v) (h .table .framed) (h .there)) ∙ key) in
-        let fs = two-children (h .t) nx (h .table .follows) k (h .Γ) 101 (o .n) (o .us) (o .a) (o .b) (h .there ∙ ap (found (h .Γ)) (o .is)) in
-        record {
-          t = h .t;
-          n = h .n;
-          table = h .table;
-          Γ = h .Γ;
-          v = o .a;
-          w = o .b;
-          first = fs .0;
-          second = rw (ej (place-few (h .table) (fs .0))) (fs .1);
-        }
+    equation-here key = two-here s st nx k tag pt 101 key expression expression (λ x. refl) j ej
 
-    pub not-equal : tag ≡ 101 → (r : Decision) → DecidesTwo unequal s st nx (k + 1) j r → Decides negationOf s st nx k r
+    pub not-equal : tag ≡ 101 → (r : Decision) → DecidesTwo unequal s st nx (k + 1) j r → DecidesOne rewriteNotInner s st nx k r
     unfolding onTag lookup classOf formAt
-    not-equal key r d =
-        record {
-          means = λ t n Γ v tb f w Ξ kept.
-              let o = double 101 expression expression (λ x. refl) v (place-sorted s t st n (tb .framed) k Γ v f) (sym (pt .tag t n Γ v (tb .framed) f) ∙ key) in
-              let fs = two-children t nx (tb .follows) k Γ 101 (o .n) (o .us) (o .a) (o .b) (f ∙ ap (found Γ) (o .is)) in
-              rw (o .is) (d .means t n Γ (o .a) (o .b) tb (fs .0) (rw (ej (place-few tb (fs .0))) (fs .1)) w Ξ kept);
-        }
+    not-equal key = by-two s st nx k tag pt 101 key expression expression (λ x. refl) j ej (λ Γ. rewriteNotInner) unequal (λ Γ n us a b. refl)
 
-  pub not-none : (tag ≡ 610 → ⊥) → (tag ≡ 611 → ⊥) → (tag ≡ 701 → ⊥) → (tag ≡ 104 → ⊥) → (tag ≡ 106 → ⊥) → (tag ≡ 105 → ⊥) → (tag ≡ 103 → ⊥) → (tag ≡ 101 → ⊥)
-      → Decides negationOf s st nx k D.Rests
+  -- (The tag that is tested last comes first.)
+  pub not-none : Unlike tag (101 ∷ 103 ∷ 105 ∷ 106 ∷ 104 ∷ []) → DecidesOne rewriteNotInner s st nx k D.Rests
   unfolding onTag
-  not-none a b c d e f g h = by-rest negationOf s st nx k tag pt (λ Γ v. rest Γ v) D.Rests refl
+  not-none (((((none, le), ge), gt), lt), equal) = by-rest (λ Γ. rewriteNotInner) s st nx k tag pt (λ Γ v. rest v) D.Rests refl
     where
-      rest : (Γ : Ctx) (v : Tree) → tagOf v ≡ tag → negationOf Γ v ≡ same
-      rest Γ (node (head o n us) ks) z =
-          rw z (simp (ne-eqb tag 610 a, ne-eqb tag 611 b, ne-eqb tag 701 c, ne-eqb tag 104 d, ne-eqb tag 106 e, ne-eqb tag 105 f, ne-eqb tag 103 g, ne-eqb tag 101 h))
+      rest : (v : Tree) → tagOf v ≡ tag → rewriteNotInner v ≡ same
+      rest (node (head o n us) ks) z = rw z (simp (ne-eqb tag 104 le, ne-eqb tag 106 ge, ne-eqb tag 105 gt, ne-eqb tag 103 lt, ne-eqb tag 101 equal))
+
+-- ---- at the ¬ itself
+module _ (s st nx : List ℕ) (k tag : ℕ) (pt : TagPost s st k tag) where
+  pub not-other : (tag ≡ 701 → ⊥) → DecidesOne rewriteNot s st nx k D.Rests
+  unfolding rewriteNot
+  not-other = by-other (λ Γ. rewriteNot) s st nx k tag pt 701 (λ Γ us ks. with1 ks rewriteNotInner) (λ Γ v. refl)
+
+  module _ (key : tag ≡ 701) where
+    pub inner-here : Here s st nx k → Here s st nx (k + 1)
+    unfolding lookup classOf formAt
+    inner-here = here-child s st nx k tag pt 701 key predicate (λ x. refl)
+
+    pub of-inner : (r : Decision) → DecidesOne rewriteNotInner s st nx (k + 1) r → DecidesOne rewriteNot s st nx k r
+    unfolding rewriteNot onTag lookup classOf formAt
+    of-inner = by-child s st nx k tag pt 701 key predicate (λ x. refl) (λ Γ. rewriteNot) (λ Γ. rewriteNotInner) (λ Γ n us a. refl)

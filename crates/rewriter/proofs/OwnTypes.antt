@@ -17,7 +17,7 @@ use Rattle.frame.proofs.SameTrees.{same-tree}
 use Rattle.typing.specs.Typing.{element, typeOf}
 use Rattle.typing.specs.TypeExpression.{toExpression}
 use Rattle.rules.specs.Dispatch.{isOwnType}
-use Rattle.rewriter.proofs.RowTurns.{and-true}
+use Rattle.rewriter.proofs.Opposites.{and-true}
 
 pub express-type : (t : Ty) (Γ : Ctx) → typeOf (toExpression t) Γ ≡ pow t
 unfolding toExpression typeOf classOf lookup formAt

@@ -22,7 +22,7 @@ use Rattle.rules.proofs.Operands.{count-map}
 use Rattle.nav.specs.PlaceTables.{Table, Placed, TagPost, ChildrenPost}
 use Rattle.nav.proofs.Hops.{framed-few, Sorted, place-sorted}
 use Rattle.nav.proofs.SamePlaces.{only-child, two-children}
-use Rattle.rules.specs.Change.{Change, to, same, _orElse_, with2, joined}
+use Rattle.rules.specs.Change.{Change, to, same, _orElse_, onTag, with2, joined}
 use Rattle.emit.specs.Template.{filled}
 use Rattle.emit.specs.Programs.{template}
 use Rattle.rewriter.specs.Decision.{filling, takesBinders, hasBinders, Bound, joint, FixedMeans, eachFilled, EachMeans, Means}
@@ -140,6 +140,15 @@ module _ (rule : Ctx → Tree → Change) (s st nx : List ℕ) (k tag : ℕ) (pt
   pub by-rest : ((Γ : Ctx) (v : Tree) → tagOf v ≡ tag → rule Γ v ≡ same) → (r : Decision) → r ≡ D.Rests → Decides rule s st nx k r
   by-rest ans r er =
       record { means = λ t n Γ v tb f w Ξ kept. rw er (ans Γ v (sym (pt .tag t n Γ v (tb .framed) f))) }
+
+  -- the rule is one of another tag
+  pub by-other : (g : ℕ) (on : Ctx → List Ty → Forest → Change) → ((Γ : Ctx) (v : Tree) → rule Γ v ≡ onTag g v (on Γ)) → (tag ≡ g → ⊥)
+      → Decides rule s st nx k D.Rests
+  unfolding onTag
+  by-other g on is h = by-rest (λ Γ v z. is Γ v ∙ go (on Γ) v z) D.Rests refl
+    where
+      go : (f : List Ty → Forest → Change) (v : Tree) → tagOf v ≡ tag → onTag g v f ≡ same
+      go f (node (head o n us) ks) z = rw z (rw (ne-eqb tag g h))
 
   module _ (g : ℕ) (key : tag ≡ g) (place : ℕ) (bd : Bound place g) where
     tag-is : {t : Tree} {n : ℕ} {Γ : Ctx} {v : Tree} → Table s t st nx n → find t [] k ≡ found Γ v → tagOf v ≡ g

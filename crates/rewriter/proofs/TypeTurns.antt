@@ -1,4 +1,4 @@
--- The ways out of equals_type_at of src/equals.rt: a law for each place.
+-- The ways out of rewrite_equals_type of src/equals.rt: a law for each place.
 use mathlib.Core.Path.{_≡_, refl, sym, ap, _∙_}
 use mathlib.Core.List.{List, [], _∷_}
 use Prim.Native.Nat.{ℕ, _+_, _<_}

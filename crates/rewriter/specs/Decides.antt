@@ -5,17 +5,15 @@ use mathlib.Core.List.{List, [], _∷_}
 use Prim.Native.Nat.{ℕ, _+_}
 use lib.Dec.{eqb}
 use Rattle.frame.specs.Tags.{pick}
-use Rattle.frame.specs.Trees.{Tree, Forest, count, one}
-use Rattle.frame.specs.Operators.{#Not}
+use Rattle.frame.specs.Trees.{Tree, Forest, count}
 use Rattle.frame.specs.Sameness.{sameTree}
 use Rattle.frame.specs.Places.{Ctx, found, find, findIn}
-use Rattle.nav.specs.PlaceTables.{Table, TagPost}
+use Rattle.nav.specs.PlaceTables.{Framed, Table, TagPost}
 use Rattle.rules.specs.Change.{Change, contains}
 use Rattle.rules.specs.Simplify.{makeNeg}
 use Rattle.rewriter.specs.declared.decision.Decision.{Decision}
 use Rattle.rewriter.specs.declared.decision.Decision.the-variants as D
 use Rattle.rewriter.specs.Decision.{Means}
-use Rattle.rewriter.specs.RulesAt.{opposes}
 
 -- k is a place of some tree with these tables
 pub record Here (s st nx : List ℕ) (k : ℕ) : Type 0 where
@@ -42,6 +40,10 @@ pub record Decides (rule : Ctx → Tree → Change) (s st nx : List ℕ) (k : �
   pub means : (t : Tree) (n : ℕ) (Γ : Ctx) (v : Tree) → Table s t st nx n → find t [] k ≡ found Γ v
       → (w : Tree) (Ξ : Ctx) (kept : List ℕ) → Means t w Ξ kept r (rule Γ v)
 
+-- the same of a rule that does not ask for the context
+abbrev pub DecidesOne : (Tree → Change) → List ℕ → List ℕ → List ℕ → ℕ → Decision → Type 0
+DecidesOne rule = Decides (λ Γ. rule)
+
 -- the same of a rule on two trees in one context
 pub record DecidesPair (rule : Ctx → Tree → Tree → Change) (s st nx : List ℕ) (a b : ℕ) (r : Decision) : Type 0 where
   pub means : (t : Tree) (n : ℕ) (Γ : Ctx) (v w : Tree) → Table s t st nx n → find t [] a ≡ found Γ v → find t [] b ≡ found Γ w
@@ -60,9 +62,13 @@ abbrev pub Unlike : ℕ → List ℕ → Type 0
 Unlike tag [] = Unit {0}
 Unlike tag (g ∷ gs) = Unlike tag gs × (tag ≡ g → ⊥)
 
--- r says whether the tree at place a is the negation of that at place b
-pub record OpposesPost (s st nx : List ℕ) (a b : ℕ) (r : Bool) : Type 0 where
-  pub says : (t : Tree) (n : ℕ) (Γ : Ctx) (v w : Tree) → Table s t st nx n → find t [] a ≡ found Γ v → find t [] b ≡ found Γ w → r ≡ opposes v w
+-- r says whether the tree at place a is what f makes of the tree at place b
+pub record Compared (f : Tree → Tree) (s st : List ℕ) (a b : ℕ) (r : Bool) : Type 0 where
+  pub says : (t : Tree) (n : ℕ) (Γ Δ : Ctx) (v w : Tree) → Framed s t st n → find t [] a ≡ found Γ v → find t [] b ≡ found Δ w → r ≡ sameTree v (f w)
+
+-- the tree, or where `opposed` what `make_neg` makes of it
+abbrev pub orOpposite : Bool → Tree → Tree
+orOpposite opposed w = pick opposed (makeNeg w) w
 
 -- ¬ of the tree at place p, by its tag: what a negation negates, or a new negation
 abbrev pub negatedAt : ℕ → ℕ → ℕ → Decision
@@ -80,22 +86,11 @@ pub record InRow (s st nx : List ℕ) (c m w : ℕ) : Type 0 where
   pub v : Tree
   pub there : find t [] w ≡ found Γ v
 
--- r says whether the tree at place a is that at place b, or where `negated` its negation
-pub record MatchesPost (s st nx : List ℕ) (a b : ℕ) (negated r : Bool) : Type 0 where
-  pub says : (t : Tree) (n : ℕ) (Γ : Ctx) (v w : Tree) → Table s t st nx n → find t [] a ≡ found Γ v → find t [] b ≡ found Γ w
-      → r ≡ sameTree v (pick negated (one #Not w) w)
-
--- and whether it is among the trees in a row
-pub record ContainsPost (s st nx : List ℕ) (c m w : ℕ) (negated r : Bool) : Type 0 where
+-- r says whether the tree at place w, or where `opposed` its opposite, is among the trees in a row
+pub record ContainsPost (s st nx : List ℕ) (c m w : ℕ) (opposed r : Bool) : Type 0 where
   pub says : (t : Tree) (n : ℕ) (Γ : Ctx) (ks : Forest) (v : Tree) → Table s t st nx n
       → ((i : ℕ) (Ξ : Ctx) (x : Tree) → findIn ks Γ i ≡ found Ξ x → find t [] (c + i) ≡ found Ξ x)
-      → m ≡ count ks → find t [] w ≡ found Γ v → r ≡ contains (pick negated (one #Not v) v) ks
-
--- r says whether the negation of the tree at place w, with none of its own where it is a negation, is among the trees in a row
-pub record NegationInPost (s st nx : List ℕ) (c m w : ℕ) (r : Bool) : Type 0 where
-  pub says : (t : Tree) (n : ℕ) (Γ : Ctx) (ks : Forest) (v : Tree) → Table s t st nx n
-      → ((i : ℕ) (Ξ : Ctx) (x : Tree) → findIn ks Γ i ≡ found Ξ x → find t [] (c + i) ≡ found Ξ x)
-      → m ≡ count ks → find t [] w ≡ found Γ v → r ≡ contains (makeNeg v) ks
+      → m ≡ count ks → find t [] w ≡ found Γ v → r ≡ contains (orOpposite opposed v) ks
 
 abbrev pub isRests : Decision → Bool
 isRests D.Rests = true

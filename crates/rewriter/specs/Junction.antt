@@ -1,6 +1,5 @@
 -- ∧ and ∨ in code: what the functions of src/junction.rt ask and answer.
 use mathlib.Core.Path.{_≡_}
-use mathlib.Core.Bool.{Bool}
 use mathlib.Core.List.{List, []}
 use mathlib.Core.Logic.{_⊎_}
 use Prim.Native.Nat.{ℕ}
@@ -11,19 +10,13 @@ use Rattle.frame.specs.Trees.{head, Tree, node, Forest, nil, count}
 use Rattle.frame.specs.Tags.{pick}
 use Rattle.frame.specs.Operators.{#LAnd, #LOr, #BTrue, #BFalse}
 use Rattle.frame.specs.Places.{Ctx, under, found, find}
-use Rattle.frame.specs.Sameness.{sameTree}
-use Rattle.nav.specs.PlaceTables.{Framed, Table}
-use Rattle.rules.specs.Simplify.{makeNeg, Kept, kept, decided, scan, simplifyAssocPred}
+use Rattle.nav.specs.PlaceTables.{Table}
+use Rattle.rules.specs.Simplify.{Kept, kept, decided, scan, simplifyAssocPred}
 use Rattle.rewriter.specs.Decision.{At, Means}
 use Rattle.rewriter.specs.declared.decision.Decision.{Decision}
 use Rattle.rewriter.specs.declared.decision.Decision.the-variants as D
 use Rattle.rewriter.specs.declared.junction.Outcome.{Outcome}
 use Rattle.rewriter.specs.declared.junction.Outcome.the-variants.{Decided, Stay}
-
--- r: the tree at place a is the negation of the one at place b, as the source's `make_neg` builds it
-pub record OppositePost (s st : List ℕ) (a b : ℕ) (r : Bool) : Type 0 where
-  pub meets : (t : Tree) (n : ℕ) (Γ Δ : Ctx) (v w : Tree) → Framed s t st n → find t [] a ≡ found Γ v → find t [] b ≡ found Δ w
-      → r ≡ sameTree v (makeNeg w)
 
 -- at place k there is an ∧ or an ∨; the lent list has room for its children
 pub record JunctionPre (s st nx : List ℕ) (k : ℕ) (lent : List ℕ) : Type 0 where

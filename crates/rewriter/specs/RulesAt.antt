@@ -1,22 +1,25 @@
 -- The rules that are decided by places, at the trees whose tags they look at first.
 use Prim.Native.Nat.{ℕ}
-use mathlib.Core.Bool.{Bool, false, _&&_}
 use mathlib.Core.List.{List, [], _∷_}
-use lib.Dec.{eqb}
-use Rattle.frame.specs.Trees.{head, Tree, node, Forest, nil, cons, leaf, two}
+use Rattle.frame.specs.Trees.{Tree, leaf, two}
 use Rattle.frame.specs.Sameness.{sameTree}
-use Rattle.frame.specs.Operators.{#Equal, #SRel, #STRel, #SetMinus, #CProd, #DProd, #PProd, #DomRes, #DomSub, #RanRes, #RanSub, #UpTo, #RelImage, #BInter, #BComp, #FComp, #QUnion, #Not, #Partition, #Forall, #Exists, #BTrue, #BFalse, #LAnd}
+use Rattle.frame.specs.Operators.{#Equal, #SRel, #STRel, #SetMinus, #CProd, #DProd, #PProd, #DomRes, #DomSub, #RanRes, #RanSub, #UpTo, #RelImage, #BInter, #BComp, #FComp, #QUnion, #Not, #Finite, #Partition, #SubsetEq, #Forall, #Exists, #BTrue, #BFalse, #LAnd}
 use Rattle.frame.specs.Places.{Ctx}
-use Rattle.rules.specs.Change.{Change, to, _orElse_, when, isTag, onTag, unary, quantifier, contains}
-use Rattle.rules.specs.Simplify.{makeNeg, simplifyNot, simplifyForall, simplifyExists}
-use Rattle.rules.specs.Negation.{rewriteNotInner, rewritePartition}
-use Rattle.rules.specs.Finite.{finite, isProjection}
+use Rattle.rules.specs.Change.{Change, to, _orElse_, when, isTag, onTag, with1, with2, unary, binary, quantifier, contains}
+use Rattle.rules.specs.Simplify.{makeNeg, simplifyForall, simplifyExists}
+use Rattle.rules.specs.Negation.{rewriteNot, rewriteNotInner, rewritePartition}
+use Rattle.rules.specs.Finite.{finite, isProjection, rewriteFinite}
 use Rattle.rules.specs.EqualsType.{rewriteEqualsType}
-use Rattle.rules.specs.Dispatch.{isOwnType}
+use Rattle.rules.specs.Dispatch.{isOwnType, equalRules, subsetRules}
 
--- ¬ a: logic, then negation
-abbrev pub negationOf : Ctx → Tree → Change
-negationOf Γ a = simplifyNot a orElse rewriteNotInner a
+-- what dispatch asks where logic gives nothing
+abbrev pub afterLogic : Ctx → Tree → Change
+afterLogic Γ t =
+    rewriteNot t
+    orElse unary #Finite t (rewriteFinite Γ)
+    orElse onTag #Partition t (λ ts children. rewritePartition Γ children)
+    orElse binary #Equal t (equalRules Γ)
+    orElse binary #SubsetEq t (subsetRules Γ)
 
 -- ¬ a = b
 abbrev pub unequal : Tree → Tree → Change
@@ -41,15 +44,6 @@ forallOf Γ v = quantifier #Forall v simplifyForall
 
 abbrev pub existsOf : Ctx → Tree → Change
 existsOf Γ v = quantifier #Exists v simplifyExists
-
--- v is ¬ w
-abbrev pub soleSame : Forest → Tree → Bool
-soleSame nil w = false
-soleSame (cons a nil) w = sameTree a w
-soleSame (cons a (cons b ks)) w = false
-
-abbrev pub opposes : Tree → Tree → Bool
-opposes (node (head g n us) ks) w = eqb g #Not && soleSame ks w
 
 -- left ⇒ right: the first tests of simplifyImp, and the last; between them it looks among the operands of ∧ on the left
 abbrev pub impFirst : Tree → Tree → Change

@@ -1,30 +1,48 @@
-// Whether a tree, or its negation, is among trees in a row.
+// Whether a tree is another or its negation, and whether one is among trees in a row.
 use crate::decision::Decision;
 use nav::places::same_at;
-ghost use Rattle.rewriter.specs.Decides.{HereTwo, DecidesTwo, InRow, MatchesPost, ContainsPost, NegationInPost, isRests};
+use nav::places::tag_at;
 ghost use mathlib.Core.Path.{_≡_};
-ghost use Rattle.rules.specs.Simplify.{simplifyImp};
-ghost use Rattle.rewriter.specs.RulesAt.{impAnd};
+ghost use Rattle.frame.specs.Trees.{one};
+ghost use Rattle.frame.specs.Operators.{#Not};
+ghost use Rattle.nav.specs.PlaceTables.{BothPlaced};
+ghost use Rattle.rules.specs.Simplify.{makeNeg};
+ghost use Rattle.rewriter.specs.Decides.{Compared, orOpposite, InRow, ContainsPost, isRests};
 
-// Whether the tree at place a is the tree at place b, or where `negated` its negation.
-pub fn matches_at(
-    s: &[u8],
-    starts: &[u16; 2048],
-    nexts: &[u16; 2048],
-    a: usize,
-    b: usize,
-    negated: bool,
-) -> bool
-    requires { ⌜ HereTwo (now s) (now starts) (now nexts) a b ⌝ }
-    ensures { λ r. ⌜ MatchesPost (now (s .entry)) (now (starts .entry)) (now (nexts .entry)) a b negated r ⌝ }
+// Whether the predicate at place a is ¬ of the one at place b.
+pub fn negates(s: &[u8], starts: &[u16; 2048], a: usize, b: usize) -> bool
+    requires { ⌜ BothPlaced (now s) (now starts) a b ⌝ }
+    ensures { λ r. ⌜ Compared (one #Not) (now (s .entry)) (now (starts .entry)) a b r ⌝ }
 {
-    if negated {
-        return crate::logic::opposes_at(s, starts, nexts, a, b);
+    if tag_at(s, starts, a) != 701 {
+        return false;
+    }
+    same_at(s, starts, a + 1, b)
+}
+
+// Whether it is what `make_neg` makes of the one at place b: what ¬ stands before, or b under a ¬.
+pub fn opposite(s: &[u8], starts: &[u16; 2048], a: usize, b: usize) -> bool
+    requires { ⌜ BothPlaced (now s) (now starts) a b ⌝ }
+    ensures { λ r. ⌜ Compared makeNeg (now (s .entry)) (now (starts .entry)) a b r ⌝ }
+{
+    if tag_at(s, starts, b) == 701 {
+        return same_at(s, starts, a, b + 1);
+    }
+    negates(s, starts, a, b)
+}
+
+// Whether it is the one at place b, or where `opposed` its opposite.
+fn matches_at(s: &[u8], starts: &[u16; 2048], a: usize, b: usize, opposed: bool) -> bool
+    requires { ⌜ BothPlaced (now s) (now starts) a b ⌝ }
+    ensures { λ r. ⌜ Compared (orOpposite opposed) (now (s .entry)) (now (starts .entry)) a b r ⌝ }
+{
+    if opposed {
+        return opposite(s, starts, a, b);
     }
     same_at(s, starts, a, b)
 }
 
-// The same for the m trees in a row from place c on: one of them is it.
+// The same of the tree at place w and the m trees in a row from place c on: whether one of them is it.
 pub fn contains_in(
     s: &[u8],
     starts: &[u16; 2048],
@@ -32,64 +50,19 @@ pub fn contains_in(
     c: usize,
     m: usize,
     w: usize,
-    negated: bool,
+    opposed: bool,
 ) -> bool
     requires { ⌜ InRow (now s) (now starts) (now nexts) c m w ⌝ }
-    ensures { λ r. ⌜ ContainsPost (now (s .entry)) (now (starts .entry)) (now (nexts .entry)) c m w negated r ⌝ }
+    ensures { λ r. ⌜ ContainsPost (now (s .entry)) (now (starts .entry)) (now (nexts .entry)) c m w opposed r ⌝ }
 {
     if m == 0 {
         return false;
     }
-    if matches_at(s, starts, nexts, c, w, negated) {
+    if matches_at(s, starts, c, w, opposed) {
         return true;
     }
     let d = nav::places::next_at(nexts, c);
-    contains_in(s, starts, nexts, d, m - 1, w, negated)
-}
-
-// The same for the negation of the tree at place w: what it negates, or a new negation.
-pub fn negation_in(
-    s: &[u8],
-    starts: &[u16; 2048],
-    nexts: &[u16; 2048],
-    c: usize,
-    m: usize,
-    w: usize,
-) -> bool
-    requires { ⌜ InRow (now s) (now starts) (now nexts) c m w ⌝ }
-    ensures { λ r. ⌜ NegationInPost (now (s .entry)) (now (starts .entry)) (now (nexts .entry)) c m w r ⌝ }
-{
-    let tag = nav::places::tag_at(s, starts, w);
-    if tag == 701 {
-        return contains_in(s, starts, nexts, c, m, w + 1, false);
-    }
-    contains_in(s, starts, nexts, c, m, w, true)
-}
-
-// ⇒ of the predicates at places a and b, where the first is ∧: the second, or its negation, is among the operands.
-pub fn implication_and_at(
-    s: &[u8],
-    starts: &[u16; 2048],
-    nexts: &[u16; 2048],
-    a: usize,
-    b: usize,
-) -> Decision
-    requires { ⌜ HereTwo (now s) (now starts) (now nexts) a b ⌝ }
-    ensures { λ r. ⌜ DecidesTwo impAnd (now (s .entry)) (now (starts .entry)) (now (nexts .entry)) a b r ⌝ }
-{
-    let left = nav::places::tag_at(s, starts, a);
-    if left != 351 {
-        return Decision::Rests;
-    }
-    let m = nav::places::arity_at(s, starts, a);
-    let c = a + 1;
-    if contains_in(s, starts, nexts, c, m, b, false) {
-        return crate::operands::fixed(71, a, a, a);
-    }
-    if negation_in(s, starts, nexts, c, m, b) {
-        return crate::operands::fixed(72, a, a, a);
-    }
-    Decision::Rests
+    contains_in(s, starts, nexts, d, m - 1, w, opposed)
 }
 
 // Whether no rule applies.
@@ -114,26 +87,4 @@ pub fn rests(d: Decision) -> bool
         Decision::Apart { node: _, single: _ } => false,
         Decision::Within(_k) => false,
     }
-}
-
-// ⇒ of the predicates at places a and b.
-pub fn implication_at(
-    s: &[u8],
-    starts: &[u16; 2048],
-    nexts: &[u16; 2048],
-    a: usize,
-    b: usize,
-) -> Decision
-    requires { ⌜ HereTwo (now s) (now starts) (now nexts) a b ⌝ }
-    ensures { λ r. ⌜ DecidesTwo simplifyImp (now (s .entry)) (now (starts .entry)) (now (nexts .entry)) a b r ⌝ }
-{
-    let first = crate::logic::implication_first_at(s, starts, nexts, a, b);
-    if !rests(first) {
-        return first;
-    }
-    let within = implication_and_at(s, starts, nexts, a, b);
-    if !rests(within) {
-        return within;
-    }
-    crate::logic::implication_last_at(s, starts, nexts, a, b)
 }

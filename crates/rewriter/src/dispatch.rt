@@ -1,4 +1,4 @@
-// Which rule a node goes to, by its tag.
+// Which rules a node goes to: logic first, then those of its tag.
 use crate::decision::Decision;
 ghost use Rattle.rewriter.specs.Dispatching.{DispatchPre, DispatchPost};
 
@@ -13,19 +13,17 @@ pub fn decide(
     requires { ⌜ DispatchPre (now s) (now starts) (now nexts) k (now kept) ⌝ }
     ensures { λ r. ⌜ DispatchPost (now (s .entry)) (now (starts .entry)) (now (nexts .entry)) k (now (kept .exit)) r ⌝ }
 {
+    let logic = crate::node::simplify_predicate_node(s, starts, nexts, k, kept);
+    if !crate::contains::rests(logic) {
+        return logic;
+    }
     let tag = nav::places::tag_at(s, starts, k);
     let a = k + 1;
     let b = crate::operands::second_of(nexts, k);
     match tag {
-        351 => crate::junction::decide_junction(s, starts, nexts, k, kept),
-        352 => crate::junction::decide_junction(s, starts, nexts, k, kept),
-        251 => crate::contains::implication_at(s, starts, nexts, a, b),
-        252 => crate::logic::equivalence_at(s, starts, nexts, a, b),
-        851 => crate::quantified::forall_at(s, starts, nexts, k),
-        852 => crate::quantified::exists_at(s, starts, nexts, k),
-        701 => crate::negation::negation_at(s, starts, nexts, a),
-        620 => crate::finite::finite_at(s, starts, nexts, a),
-        901 => crate::quantified::partition_at(s, starts, nexts, k),
+        701 => crate::negation::rewrite_not(s, starts, nexts, k),
+        620 => crate::finite::rewrite_finite(s, starts, nexts, a),
+        901 => crate::quantified::rewrite_partition(s, starts, nexts, k),
         101 => crate::equality::equal_at(s, starts, nexts, a, b),
         111 => crate::equality::subset_at(s, starts, nexts, a, b),
         _ => Decision::Rests,

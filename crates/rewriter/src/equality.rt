@@ -18,7 +18,7 @@ pub fn subset_at(
     if nav::places::tag_at(s, starts, b) != 407 {
         return Decision::Rests;
     }
-    crate::equals::equals_empty_at(s, starts, nexts, a)
+    crate::equals::rewrite_equals_empty_set(s, starts, nexts, a)
 }
 
 // The sets at places a and b are equal: the empty rules on one of them, where the other is ∅. The right side is looked at first.
@@ -34,11 +34,11 @@ fn empty_rules_at(
 {
     let right = nav::places::tag_at(s, starts, b);
     if right == 407 {
-        return crate::equals::equals_empty_at(s, starts, nexts, a);
+        return crate::equals::rewrite_equals_empty_set(s, starts, nexts, a);
     }
     let left = nav::places::tag_at(s, starts, a);
     if left == 407 {
-        return crate::equals::equals_empty_at(s, starts, nexts, b);
+        return crate::equals::rewrite_equals_empty_set(s, starts, nexts, b);
     }
     Decision::Rests
 }
@@ -49,7 +49,7 @@ fn type_rule_at(s: &[u8], starts: &[u16; 2048], nexts: &[u16; 2048], a: usize, b
     ensures { λ r. ⌜ DecidesPair typeRight (now (s .entry)) (now (starts .entry)) (now (nexts .entry)) a b r ⌝ }
 {
     if crate::own_type::own_type_at(s, starts, nexts, b) {
-        return crate::equals::equals_type_at(s, starts, nexts, a);
+        return crate::equals::rewrite_equals_type(s, starts, nexts, a);
     }
     Decision::Rests
 }

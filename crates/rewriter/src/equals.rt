@@ -9,7 +9,12 @@ ghost use Rattle.rewriter.specs.Decides.{Here, Decides, ByTag, Unlike};
 ghost use Rattle.rewriter.specs.RulesAt.{lookedUp};
 
 // The set at place k equals the type expression of its elements.
-pub fn equals_type_at(s: &[u8], starts: &[u16; 2048], nexts: &[u16; 2048], k: usize) -> Decision
+pub fn rewrite_equals_type(
+    s: &[u8],
+    starts: &[u16; 2048],
+    nexts: &[u16; 2048],
+    k: usize,
+) -> Decision
     requires { ⌜ Here (now s) (now starts) (now nexts) k ⌝ }
     ensures { λ r. ⌜ Decides rewriteEqualsType (now (s .entry)) (now (starts .entry)) (now (nexts .entry)) k r ⌝ }
 {
@@ -60,7 +65,12 @@ fn empty_by_tag(tag: usize, k: usize) -> Decision
 }
 
 // The set at place k equals ∅. An intersection has a function of its own.
-pub fn equals_empty_at(s: &[u8], starts: &[u16; 2048], nexts: &[u16; 2048], k: usize) -> Decision
+pub fn rewrite_equals_empty_set(
+    s: &[u8],
+    starts: &[u16; 2048],
+    nexts: &[u16; 2048],
+    k: usize,
+) -> Decision
     requires { ⌜ Here (now s) (now starts) (now nexts) k ⌝ }
     ensures { λ r. ⌜ Decides rewriteEqualsEmptySet (now (s .entry)) (now (starts .entry)) (now (nexts .entry)) k r ⌝ }
 {

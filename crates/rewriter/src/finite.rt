@@ -45,7 +45,7 @@ fn finite_set_at(s: &[u8], starts: &[u16; 2048], nexts: &[u16; 2048], k: usize) 
 }
 
 // finite of the set at place k.
-pub fn finite_at(s: &[u8], starts: &[u16; 2048], nexts: &[u16; 2048], k: usize) -> Decision
+pub fn rewrite_finite(s: &[u8], starts: &[u16; 2048], nexts: &[u16; 2048], k: usize) -> Decision
     requires { ⌜ Here (now s) (now starts) (now nexts) k ⌝ }
     ensures { λ r. ⌜ Decides rewriteFinite (now (s .entry)) (now (starts .entry)) (now (nexts .entry)) k r ⌝ }
 {

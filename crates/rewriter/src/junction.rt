@@ -1,13 +1,12 @@
 // ∧ and ∨: which children stay. A neutral literal and a repeat go; a literal that decides, or a child beside its opposite,
 // makes the whole that literal.
 use crate::decision::Decision;
+use crate::operands::patterned;
 ghost use mathlib.Core.Path.{_≡_};
 ghost use Prim.Native.Nat.{_<_};
 ghost use mathlib.Core.Bool.{false};
 ghost use Rattle.frame.specs.Tags.{pick};
-ghost use Rattle.nav.specs.PlaceTables.{BothPlaced};
-ghost use Rattle.rewriter.specs.declared.decision.Decision.the-variants as D;
-ghost use Rattle.rewriter.specs.Junction.{OppositePost, JunctionPre, AbsorbPost, settled, JunctionPost};
+ghost use Rattle.rewriter.specs.Junction.{JunctionPre, AbsorbPost, settled, JunctionPost};
 
 // What a look at all children comes to: one of them decides, or the first entries of the lent list stay.
 pub enum Outcome {
@@ -19,20 +18,6 @@ fn wide16(x: u16) -> usize
     ensures { λ r. ⌜ (r ≡ x) × (r < 65536) ⌝ }
 {
     x as usize
-}
-
-// Whether the predicate at place a is what the negation of the one at place b comes to: what ¬ stands before, or b under a ¬.
-fn opposite(s: &[u8], starts: &[u16; 2048], a: usize, b: usize) -> bool
-    requires { ⌜ BothPlaced (now s) (now starts) a b ⌝ }
-    ensures { λ r. ⌜ OppositePost (now (s .entry)) (now (starts .entry)) a b r ⌝ }
-{
-    if nav::places::tag_at(s, starts, b) == 701 {
-        return nav::places::same_at(s, starts, a, b + 1);
-    }
-    if nav::places::tag_at(s, starts, a) != 701 {
-        return false;
-    }
-    nav::places::same_at(s, starts, a + 1, b)
 }
 
 // The first kept one that a child is compared with: a neutral literal goes whatever was kept, so it passes by all m.
@@ -75,7 +60,7 @@ fn absorb(
         let mut j = compared_from(fresh, m);
         while j < m {
             let p = wide16(kept[j]);
-            if opposite(s, starts, p, c) {
+            if crate::contains::opposite(s, starts, p, c) {
                 break 'all;
             }
             fresh = still(fresh, nav::places::same_at(s, starts, p, c));
@@ -95,32 +80,19 @@ fn absorb(
     }
 }
 
-// A right side of one operand, at place k.
-fn fixed(place: usize, pattern: usize, operand: usize, k: usize) -> Decision
-    ensures { λ r. ⌜ r ≡ D.Fixed place pattern operand operand k ⌝ }
-{
-    Decision::Fixed {
-        place: place,
-        pattern: pattern,
-        first: operand,
-        second: operand,
-        binder: k,
-    }
-}
-
 // What the outcome at place k comes to, of n children, where p is the place of the first that stays. The patterns are those of
 // the neutral literal and of the one that decides; the operand of neither is looked at.
 fn settle(x: Outcome, k: usize, n: usize, p: usize, neutral: usize, determinant: usize) -> Decision
     ensures { λ r. ⌜ r ≡ settled x k n p neutral determinant ⌝ }
 {
     match x {
-        Outcome::Decided => fixed(62, determinant, k, k),
+        Outcome::Decided => patterned(62, determinant, k, k),
         Outcome::Stay(m) => {
             if m == 0 {
-                return fixed(63, neutral, k, k);
+                return patterned(63, neutral, k, k);
             }
             if m == 1 {
-                return fixed(64, 64, p, k);
+                return patterned(64, 64, p, k);
             }
             if m == n {
                 return Decision::Rests;
@@ -131,7 +103,7 @@ fn settle(x: Outcome, k: usize, n: usize, p: usize, neutral: usize, determinant:
 }
 
 // The rule at an ∧ or an ∨. Patterns 1 and 2 are those of ⊤ and ⊥.
-pub fn decide_junction(
+pub fn simplify_assoc_pred(
     s: &[u8],
     starts: &[u16; 2048],
     nexts: &[u16; 2048],

@@ -1,40 +1,22 @@
-// ⇒ and ⇔ (66 to 81), on two operands.
+// ⇔ (75 to 81) and ¬ (82 to 84), and the negation of an operand.
+use crate::contains::negates;
 use crate::decision::Decision;
 use crate::operands::fixed;
+use crate::operands::patterned;
 use nav::places::same_at;
 use nav::places::tag_at;
 ghost use mathlib.Core.Path.{_≡_};
-ghost use Rattle.rules.specs.Simplify.{simplifyEqv};
-ghost use Rattle.rewriter.specs.RulesAt.{impFirst, impLast};
-ghost use Rattle.rewriter.specs.Decides.{Here, HereTwo, Decides, DecidesTwo, OpposesPost, negatedAt};
+ghost use Rattle.rules.specs.Simplify.{simplifyEqv, simplifyNot};
+ghost use Rattle.rewriter.specs.Decides.{Here, HereTwo, DecidesOne, DecidesTwo, negatedAt};
 ghost use Prim.Native.Nat.{_<_};
 
-// Whether the tree at place a is ¬ of the tree at place b.
-pub fn opposes_at(s: &[u8], starts: &[u16; 2048], nexts: &[u16; 2048], a: usize, b: usize) -> bool
-    requires { ⌜ HereTwo (now s) (now starts) (now nexts) a b ⌝ }
-    ensures { λ r. ⌜ OpposesPost (now (s .entry)) (now (starts .entry)) (now (nexts .entry)) a b r ⌝ }
-{
-    let tag = tag_at(s, starts, a);
-    if tag != 701 {
-        return false;
-    }
-    same_at(s, starts, a + 1, b)
-}
-
 // ¬ of the tree at place p, whose tag is given: what a negation negates, or a new negation.
-fn negated(place: usize, tag: usize, p: usize) -> Decision
+pub fn make_neg(place: usize, tag: usize, p: usize) -> Decision
     requires { ⌜ p < 2048 ⌝ }
     ensures { λ r. ⌜ r ≡ negatedAt place tag p ⌝ }
 {
     if tag == 701 {
-        let inner = p + 1;
-        return Decision::Fixed {
-            place: place,
-            pattern: 64,
-            first: inner,
-            second: inner,
-            binder: p,
-        };
+        return patterned(place, 64, p + 1, p);
     }
     fixed(place, p, p, p)
 }
@@ -62,67 +44,31 @@ pub fn equivalence_at(
         return fixed(77, a, a, a);
     }
     if right == 611 {
-        return negated(78, left, a);
+        return make_neg(78, left, a);
     }
     if left == 611 {
-        return negated(79, right, b);
+        return make_neg(79, right, b);
     }
-    if opposes_at(s, starts, nexts, b, a) {
+    if negates(s, starts, b, a) {
         return fixed(80, a, a, a);
     }
-    if opposes_at(s, starts, nexts, a, b) {
+    if negates(s, starts, a, b) {
         return fixed(81, a, a, a);
     }
     Decision::Rests
 }
 
-// ⇒ of the predicates at places a and b: ⊤, ⊥ and sameness.
-pub fn implication_first_at(
-    s: &[u8],
-    starts: &[u16; 2048],
-    nexts: &[u16; 2048],
-    a: usize,
-    b: usize,
-) -> Decision
-    requires { ⌜ HereTwo (now s) (now starts) (now nexts) a b ⌝ }
-    ensures { λ r. ⌜ DecidesTwo impFirst (now (s .entry)) (now (starts .entry)) (now (nexts .entry)) a b r ⌝ }
+// ¬ of the predicate at place k.
+pub fn negation_at(s: &[u8], starts: &[u16; 2048], nexts: &[u16; 2048], k: usize) -> Decision
+    requires { ⌜ Here (now s) (now starts) (now nexts) k ⌝ }
+    ensures { λ r. ⌜ DecidesOne simplifyNot (now (s .entry)) (now (starts .entry)) (now (nexts .entry)) k r ⌝ }
 {
-    let left = tag_at(s, starts, a);
-    let right = tag_at(s, starts, b);
-    if left == 610 {
-        return fixed(66, b, b, b);
+    let tag = tag_at(s, starts, k);
+    let nested = k + 1;
+    match tag {
+        610 => fixed(82, k, k, k),
+        611 => fixed(83, k, k, k),
+        701 => fixed(84, nested, nested, k),
+        _ => Decision::Rests,
     }
-    if left == 611 {
-        return fixed(67, a, a, a);
-    }
-    if right == 610 {
-        return fixed(68, a, a, a);
-    }
-    if right == 611 {
-        return negated(69, left, a);
-    }
-    if same_at(s, starts, a, b) {
-        return fixed(70, a, a, a);
-    }
-    Decision::Rests
-}
-
-// ⇒ where one side is ¬ of the other.
-pub fn implication_last_at(
-    s: &[u8],
-    starts: &[u16; 2048],
-    nexts: &[u16; 2048],
-    a: usize,
-    b: usize,
-) -> Decision
-    requires { ⌜ HereTwo (now s) (now starts) (now nexts) a b ⌝ }
-    ensures { λ r. ⌜ DecidesTwo impLast (now (s .entry)) (now (starts .entry)) (now (nexts .entry)) a b r ⌝ }
-{
-    if opposes_at(s, starts, nexts, a, b) {
-        return fixed(73, b, b, b);
-    }
-    if opposes_at(s, starts, nexts, b, a) {
-        return fixed(74, b, b, b);
-    }
-    Decision::Rests
 }

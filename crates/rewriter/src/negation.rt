@@ -1,8 +1,9 @@
-// ¬ by the tag of what is negated: logic (82 to 84), then the relational operators (16 to 23).
+// ¬ of an order or an equation (16 to 23). Logic has its own rules of ¬ (logic.rt).
 use crate::decision::Decision;
 use crate::operands::fixed;
-ghost use Rattle.rewriter.specs.Decides.{Here, HereTwo, Decides, DecidesTwo};
-ghost use Rattle.rewriter.specs.RulesAt.{negationOf, unequal};
+ghost use Rattle.rules.specs.Negation.{rewriteNot};
+ghost use Rattle.rewriter.specs.Decides.{Here, HereTwo, DecidesOne, DecidesTwo};
+ghost use Rattle.rewriter.specs.RulesAt.{unequal};
 
 // ¬ a = b, where a or b is TRUE or FALSE.
 fn unequal_at(s: &[u8], starts: &[u16; 2048], nexts: &[u16; 2048], a: usize, b: usize) -> Decision
@@ -26,22 +27,23 @@ fn unequal_at(s: &[u8], starts: &[u16; 2048], nexts: &[u16; 2048], a: usize, b: 
     Decision::Rests
 }
 
-// ¬ of the predicate at place k.
-pub fn negation_at(s: &[u8], starts: &[u16; 2048], nexts: &[u16; 2048], k: usize) -> Decision
+// ¬ at place k.
+pub fn rewrite_not(s: &[u8], starts: &[u16; 2048], nexts: &[u16; 2048], k: usize) -> Decision
     requires { ⌜ Here (now s) (now starts) (now nexts) k ⌝ }
-    ensures { λ r. ⌜ Decides negationOf (now (s .entry)) (now (starts .entry)) (now (nexts .entry)) k r ⌝ }
+    ensures { λ r. ⌜ DecidesOne rewriteNot (now (s .entry)) (now (starts .entry)) (now (nexts .entry)) k r ⌝ }
 {
-    let tag = nav::places::tag_at(s, starts, k);
-    let a = k + 1;
-    let b = crate::operands::second_of(nexts, k);
+    if nav::places::tag_at(s, starts, k) != 701 {
+        return Decision::Rests;
+    }
+    let inner = k + 1;
+    let tag = nav::places::tag_at(s, starts, inner);
+    let a = inner + 1;
+    let b = crate::operands::second_of(nexts, inner);
     match tag {
-        610 => fixed(82, k, k, k),
-        611 => fixed(83, k, k, k),
-        701 => fixed(84, a, a, k),
-        104 => fixed(16, a, b, k),
-        106 => fixed(17, a, b, k),
-        105 => fixed(18, a, b, k),
-        103 => fixed(19, a, b, k),
+        104 => fixed(16, a, b, inner),
+        106 => fixed(17, a, b, inner),
+        105 => fixed(18, a, b, inner),
+        103 => fixed(19, a, b, inner),
         101 => unequal_at(s, starts, nexts, a, b),
         _ => Decision::Rests,
     }

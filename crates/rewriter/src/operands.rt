@@ -20,6 +20,19 @@ pub fn fixed(place: usize, first: usize, second: usize, binder: usize) -> Decisi
     }
 }
 
+// Another pattern, on one operand.
+pub fn patterned(place: usize, pattern: usize, operand: usize, binder: usize) -> Decision
+    ensures { λ r. ⌜ r ≡ Fixed place pattern operand operand binder ⌝ }
+{
+    Decision::Fixed {
+        place: place,
+        pattern: pattern,
+        first: operand,
+        second: operand,
+        binder: binder,
+    }
+}
+
 // The place of the second child of the node at place k, if it has two: looked up before the tag is known.
 pub fn second_of(nexts: &[u16; 2048], k: usize) -> usize
     requires { ⌜ k < 2048 ⌝ }
@@ -29,17 +42,6 @@ pub fn second_of(nexts: &[u16; 2048], k: usize) -> usize
         return nav::places::next_at(nexts, k + 1);
     }
     0
-}
-
-// The place's pattern for each child of the node.
-pub fn each(place: usize, node: usize) -> Decision
-    ensures { λ r. ⌜ r ≡ Each place node node ⌝ }
-{
-    Decision::Each {
-        place: place,
-        node: node,
-        binder: node,
-    }
 }
 
 // An operator that takes any number of operands, at which the place wants just two; m is their number.
@@ -52,7 +54,7 @@ pub fn fixed_if_two(m: usize, place: usize, first: usize, second: usize, binder:
     Decision::Rests
 }
 
-// The same, with the binders of another node.
+// The place's pattern for each child of the node, with the binders of another.
 pub fn each_under(place: usize, node: usize, binder: usize) -> Decision
     ensures { λ r. ⌜ r ≡ Each place node binder ⌝ }
 {
@@ -61,4 +63,11 @@ pub fn each_under(place: usize, node: usize, binder: usize) -> Decision
         node: node,
         binder: binder,
     }
+}
+
+// The same, with the node's own binders.
+pub fn each(place: usize, node: usize) -> Decision
+    ensures { λ r. ⌜ r ≡ Each place node node ⌝ }
+{
+    each_under(place, node, node)
 }

@@ -6,7 +6,7 @@ ghost use Rattle.rewriter.specs.Decides.{Here, Decides};
 ghost use Rattle.rewriter.specs.RulesAt.{partitionOf, forallOf, existsOf};
 
 // partition at place k.
-pub fn partition_at(s: &[u8], starts: &[u16; 2048], nexts: &[u16; 2048], k: usize) -> Decision
+pub fn rewrite_partition(s: &[u8], starts: &[u16; 2048], nexts: &[u16; 2048], k: usize) -> Decision
     requires { ⌜ Here (now s) (now starts) (now nexts) k ⌝ }
     ensures { λ r. ⌜ Decides partitionOf (now (s .entry)) (now (starts .entry)) (now (nexts .entry)) k r ⌝ }
 {

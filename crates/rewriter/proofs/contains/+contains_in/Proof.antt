@@ -1,5 +1,5 @@
 use Rattle.rewriter.proofs.RowTurns.{contains-none, row-first, row-rest, contains-first, contains-more}
-use Rattle.rewriter.proofs.LogicTurns.{two-few}
+use Rattle.rewriter.proofs.LogicTurns.{both-placed, two-few}
 use native.Mathlib.Omega.{arith}
 use Prim.Native.Nat.{ℕ, _<_}
 use borrow.Fn.Kinds.{In}
@@ -43,7 +43,7 @@ contains-in-matches-at-requires : (t : ℕ) → contains-in-lts.Need-matches-at-
   contains-in-below t,
   contains-in.Post,
 ) (contains-in-at t) contains-in.Post
-contains-in-matches-at-requires t c κs = row-first _ _ _ _ _ _ (c .if1 .left) (c .before .before .pre .1)
+contains-in-matches-at-requires t c κs = both-placed (row-first _ _ _ _ _ _ (c .if1 .left) (c .before .before .pre .1))
 
 -- src/contains.rt:25:9
 contains-in-returns-2 : (t : ℕ) → contains-in-lts.Need-returns-2 (

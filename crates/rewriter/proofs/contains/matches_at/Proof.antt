@@ -1,28 +1,27 @@
-use Rattle.rewriter.proofs.RowTurns.{match-not, match-same}
-use Rattle.rewriter.proofs.LogicTurns.{both-placed}
+use Rattle.rewriter.proofs.RowTurns.{match-opposite, match-same}
 use borrow.Author.Needs.{needs}
 use Rattle.rewriter.proofs.contains.matches_at.Statement.{statement}
 use Rattle.rewriter.proofs.contains.matches_at.Tie as tie
 use Rattle.rewriter.proofs.contains.matches_at.Reads as reads
 use Rattle.rewriter.proofs.contains.matches_at.Lts as lts
 use Rattle.nav.proofs.places.same_at.Reads as same-at-reads
-use Rattle.rewriter.proofs.logic.opposes_at.Reads as opposes-at-reads
+use Rattle.rewriter.proofs.contains.opposite.Reads as opposite-reads
 
--- src/contains.rt:11:9
-opposes-at-requires : tie.Need-opposes-at-requires
-opposes-at-requires c κs = search needs
+-- src/contains.rt:40:9
+opposite-requires : tie.Need-opposite-requires
+opposite-requires c κs = search needs
 
--- src/contains.rt:11:9
+-- src/contains.rt:40:9
 returns : tie.Need-returns
-returns c = match-not _ _ _ _ _ _ _ (c .before .if1 .taken) (c .opposes-at .ensures)
+returns c = match-opposite _ _ _ _ _ _ (c .before .if1 .taken) (c .opposite .ensures)
 
--- src/contains.rt:13:5
+-- src/contains.rt:42:5
 same-at-requires : tie.Need-same-at-requires
-same-at-requires c κs = both-placed (c .before .before .pre)
+same-at-requires c κs = search needs
 
--- src/contains.rt:6:1
+-- src/contains.rt:35:1
 returns-2 : tie.Need-returns-2
-returns-2 c = match-same _ _ _ _ _ _ _ (c .before .if1 .left) (c .same-at .ensures)
+returns-2 c = match-same _ _ _ _ _ _ (c .before .if1 .left) (c .same-at .ensures)
 
 pub matches-at-spec : {M : Type 1} → statement M
-matches-at-spec = tie.close (tie.spec opposes-at-requires returns same-at-requires returns-2)
+matches-at-spec = tie.close (tie.spec opposite-requires returns same-at-requires returns-2)

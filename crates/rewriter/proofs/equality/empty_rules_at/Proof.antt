@@ -6,31 +6,31 @@ use Rattle.rewriter.proofs.equality.empty_rules_at.Tie as tie
 use Rattle.rewriter.proofs.equality.empty_rules_at.Reads as reads
 use Rattle.rewriter.proofs.equality.empty_rules_at.Lts as lts
 use Rattle.nav.proofs.places.tag_at.Reads as tag-at-reads
-use Rattle.rewriter.proofs.equals.equals_empty_at.Reads as equals-empty-at-reads
+use Rattle.rewriter.proofs.equals.rewrite_equals_empty_set.Reads as rewrite-equals-empty-set-reads
 
 -- src/equality.rt:35:9
 tag-at-requires : tie.Need-tag-at-requires
 tag-at-requires c κs = second-placed (c .before .pre)
 
 -- src/equality.rt:37:9
-equals-empty-at-requires : tie.Need-equals-empty-at-requires
-equals-empty-at-requires c κs = search needs
+rewrite-equals-empty-set-requires : tie.Need-rewrite-equals-empty-set-requires
+rewrite-equals-empty-set-requires c κs = search needs
 
 -- src/equality.rt:37:9
 returns : tie.Need-returns
-returns c = empty-right _ _ _ _ _ _ (c .before .before .tag-at .ensures) (c .before .if1 .taken) _ (c .equals-empty-at .ensures)
+returns c = empty-right _ _ _ _ _ _ (c .before .before .tag-at .ensures) (c .before .if1 .taken) _ (c .rewrite-equals-empty-set .ensures)
 
 -- src/equality.rt:39:9
 tag-at-requires-2 : tie.Need-tag-at-requires-2
 tag-at-requires-2 c κs = first-placed (c .before .before .before .pre)
 
 -- src/equality.rt:41:9
-equals-empty-at-requires-2 : tie.Need-equals-empty-at-requires-2
-equals-empty-at-requires-2 c κs = search needs
+rewrite-equals-empty-set-requires-2 : tie.Need-rewrite-equals-empty-set-requires-2
+rewrite-equals-empty-set-requires-2 c κs = search needs
 
 -- src/equality.rt:41:9
 returns-2 : tie.Need-returns-2
-returns-2 c = empty-left _ _ _ _ _ _ (c .before .before .before .before .tag-at .ensures) (c .before .before .before .if1 .left) _ (c .before .before .tag-at2 .ensures) (c .before .if2 .taken) _ (c .equals-empty-at2 .ensures)
+returns-2 c = empty-left _ _ _ _ _ _ (c .before .before .before .before .tag-at .ensures) (c .before .before .before .if1 .left) _ (c .before .before .tag-at2 .ensures) (c .before .if2 .taken) _ (c .rewrite-equals-empty-set2 .ensures)
 
 -- src/equality.rt:25:1
 returns-3 : tie.Need-returns-3
@@ -41,9 +41,9 @@ empty-rules-at-spec =
     tie.close
     (tie.spec
     tag-at-requires
-    equals-empty-at-requires
+    rewrite-equals-empty-set-requires
     returns
     tag-at-requires-2
-    equals-empty-at-requires-2
+    rewrite-equals-empty-set-requires-2
     returns-2
     returns-3)

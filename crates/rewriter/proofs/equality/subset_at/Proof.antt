@@ -6,7 +6,7 @@ use Rattle.rewriter.proofs.equality.subset_at.Tie as tie
 use Rattle.rewriter.proofs.equality.subset_at.Reads as reads
 use Rattle.rewriter.proofs.equality.subset_at.Lts as lts
 use Rattle.nav.proofs.places.tag_at.Reads as tag-at-reads
-use Rattle.rewriter.proofs.equals.equals_empty_at.Reads as equals-empty-at-reads
+use Rattle.rewriter.proofs.equals.rewrite_equals_empty_set.Reads as rewrite-equals-empty-set-reads
 
 -- src/equality.rt:18:8
 tag-at-requires : tie.Need-tag-at-requires
@@ -17,12 +17,12 @@ returns : tie.Need-returns
 returns c = within-none _ _ _ _ _ _ (c .before .tag-at .ensures) (c .if1 .taken)
 
 -- src/equality.rt:21:5
-equals-empty-at-requires : tie.Need-equals-empty-at-requires
-equals-empty-at-requires c κs = search needs
+rewrite-equals-empty-set-requires : tie.Need-rewrite-equals-empty-set-requires
+rewrite-equals-empty-set-requires c κs = search needs
 
 -- src/equality.rt:8:1
 returns-2 : tie.Need-returns-2
-returns-2 c = within-empty _ _ _ _ _ _ (c .before .before .tag-at .ensures) (c .before .if1 .left) _ (c .equals-empty-at .ensures)
+returns-2 c = within-empty _ _ _ _ _ _ (c .before .before .tag-at .ensures) (c .before .if1 .left) _ (c .rewrite-equals-empty-set .ensures)
 
 pub subset-at-spec : {M : Type 1} → statement M
-subset-at-spec = tie.close (tie.spec tag-at-requires returns equals-empty-at-requires returns-2)
+subset-at-spec = tie.close (tie.spec tag-at-requires returns rewrite-equals-empty-set-requires returns-2)

@@ -4,7 +4,7 @@ use Rattle.rewriter.proofs.equality.type_rule_at.Statement.{statement}
 use Rattle.rewriter.proofs.equality.type_rule_at.Tie as tie
 use Rattle.rewriter.proofs.equality.type_rule_at.Reads as reads
 use Rattle.rewriter.proofs.equality.type_rule_at.Lts as lts
-use Rattle.rewriter.proofs.equals.equals_type_at.Reads as equals-type-at-reads
+use Rattle.rewriter.proofs.equals.rewrite_equals_type.Reads as rewrite-equals-type-reads
 use Rattle.rewriter.proofs.own_type.own_type_at.Reads as own-type-at-reads
 
 -- src/equality.rt:57:8
@@ -12,12 +12,12 @@ own-type-at-requires : tie.Need-own-type-at-requires
 own-type-at-requires c κs = search needs
 
 -- src/equality.rt:58:9
-equals-type-at-requires : tie.Need-equals-type-at-requires
-equals-type-at-requires c κs = search needs
+rewrite-equals-type-requires : tie.Need-rewrite-equals-type-requires
+rewrite-equals-type-requires c κs = search needs
 
 -- src/equality.rt:58:9
 returns : tie.Need-returns
-returns c = type-right _ _ _ _ _ _ (c .before .before .own-type-at .ensures) (c .before .if1 .taken) _ (c .equals-type-at .ensures)
+returns c = type-right _ _ _ _ _ _ (c .before .before .own-type-at .ensures) (c .before .if1 .taken) _ (c .rewrite-equals-type .ensures)
 
 -- src/equality.rt:47:1
 returns-2 : tie.Need-returns-2
@@ -25,4 +25,4 @@ returns-2 c = type-none _ _ _ _ _ _ (c .before .own-type-at .ensures) (c .if1 .l
 
 pub type-rule-at-spec : {M : Type 1} → statement M
 type-rule-at-spec =
-    tie.close (tie.spec own-type-at-requires equals-type-at-requires returns returns-2)
+    tie.close (tie.spec own-type-at-requires rewrite-equals-type-requires returns returns-2)

@@ -17,7 +17,7 @@ use Rattle.nav.proofs.places.next_at.Reads as next-at-reads
 use Rattle.nav.proofs.places.same_at.Reads as same-at-reads
 use Rattle.nav.proofs.places.tag_at.Reads as tag-at-reads
 use Rattle.rewriter.proofs.junction.compared_from.Reads as compared-from-reads
-use Rattle.rewriter.proofs.junction.opposite.Reads as opposite-reads
+use Rattle.rewriter.proofs.contains.opposite.Reads as opposite-reads
 use Rattle.rewriter.proofs.junction.still.Reads as still-reads
 use Rattle.rewriter.proofs.junction.wide16.Reads as wide16-reads
 

@@ -5,35 +5,35 @@ use Rattle.rewriter.proofs.junction.settle.Statement.{statement}
 use Rattle.rewriter.proofs.junction.settle.Tie as tie
 use Rattle.rewriter.proofs.junction.settle.Reads as reads
 use Rattle.rewriter.proofs.junction.settle.Lts as lts
-use Rattle.rewriter.proofs.junction.fixed.Reads as fixed-reads
+use Rattle.rewriter.proofs.operands.patterned.Reads as patterned-reads
 
 -- src/junction.rt:117:29
 enum-told : tie.Need-enum-told
 enum-told c = search needs
 
 -- src/junction.rt:117:29
-fixed-requires : tie.Need-fixed-requires
-fixed-requires c κs = search needs
+patterned-requires : tie.Need-patterned-requires
+patterned-requires c κs = search needs
 
 -- src/junction.rt:118:23
 enum-known-x : tie.Need-enum-known-x
 enum-known-x c = search needs
 
 -- src/junction.rt:120:17
-fixed-requires-2 : tie.Need-fixed-requires-2
-fixed-requires-2 c κs = search needs
+patterned-requires-2 : tie.Need-patterned-requires-2
+patterned-requires-2 c κs = search needs
 
 -- src/junction.rt:120:17
 returns : tie.Need-returns
-returns c = c .fixed2 .ensures ∙ settled-none _ _ (c .before .before .before .x .given .1) _ _ _ _ _ (c .before .if1 .taken)
+returns c = c .patterned2 .ensures ∙ settled-none _ _ (c .before .before .before .x .given .1) _ _ _ _ _ (c .before .if1 .taken)
 
 -- src/junction.rt:123:17
-fixed-requires-3 : tie.Need-fixed-requires-3
-fixed-requires-3 c κs = search needs
+patterned-requires-3 : tie.Need-patterned-requires-3
+patterned-requires-3 c κs = search needs
 
 -- src/junction.rt:123:17
 returns-2 : tie.Need-returns-2
-returns-2 c = c .fixed3 .ensures ∙ settled-one _ _ (c .before .before .before .before .x .given .1) _ _ _ _ _ (c .before .if2 .taken)
+returns-2 c = c .patterned3 .ensures ∙ settled-one _ _ (c .before .before .before .before .x .given .1) _ _ _ _ _ (c .before .if2 .taken)
 
 -- src/junction.rt:126:17
 returns-3 : tie.Need-returns-3
@@ -41,7 +41,7 @@ returns-3 c = settled-all _ _ (c .before .before .before .before .x .given .1) _
 
 -- src/junction.rt:113:1
 returns-4 : tie.Need-returns-4
-returns-4 c = c .fixed .ensures ∙ settled-decided _ (c .before .enum-told .given .1) _ _ _ _ _
+returns-4 c = c .patterned .ensures ∙ settled-decided _ (c .before .enum-told .given .1) _ _ _ _ _
 
 -- src/junction.rt:113:1
 returns-5 : tie.Need-returns-5
@@ -52,11 +52,11 @@ settle-spec =
     tie.close
     (tie.spec
     enum-told
-    fixed-requires
+    patterned-requires
     enum-known-x
-    fixed-requires-2
+    patterned-requires-2
     returns
-    fixed-requires-3
+    patterned-requires-3
     returns-2
     returns-3
     returns-4

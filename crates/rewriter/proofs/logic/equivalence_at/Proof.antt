@@ -8,8 +8,8 @@ use Rattle.rewriter.proofs.logic.equivalence_at.Reads as reads
 use Rattle.rewriter.proofs.logic.equivalence_at.Lts as lts
 use Rattle.nav.proofs.places.same_at.Reads as same-at-reads
 use Rattle.nav.proofs.places.tag_at.Reads as tag-at-reads
-use Rattle.rewriter.proofs.logic.negated.Reads as negated-reads
-use Rattle.rewriter.proofs.logic.opposes_at.Reads as opposes-at-reads
+use Rattle.rewriter.proofs.logic.make_neg.Reads as make-neg-reads
+use Rattle.rewriter.proofs.contains.negates.Reads as negates-reads
 use Rattle.rewriter.proofs.operands.fixed.Reads as fixed-reads
 
 -- src/logic.rt:46:9
@@ -49,24 +49,24 @@ returns-3 : tie.Need-returns-3
 returns-3 c = out-77 _ _ _ _ _ _ _ (c .before .before .before .before .before .before .tag-at .ensures) (c .before .before .before .before .before .tag-at2 .ensures) (c .before .before .before .before .if1 .left) (c .before .before .before .if2 .left) _ (c .before .before .same-at .ensures) (c .before .if3 .taken) _ (c .fixed3 .ensures)
 
 -- src/logic.rt:58:9
-negated-requires : tie.Need-negated-requires
-negated-requires c κs = two-few (c .before .before .before .before .before .before .before .before .pre) .0
+make-neg-requires : tie.Need-make-neg-requires
+make-neg-requires c κs = two-few (c .before .before .before .before .before .before .before .before .pre) .0
 
 -- src/logic.rt:58:9
 returns-4 : tie.Need-returns-4
-returns-4 c = out-78 _ _ _ _ _ _ _ (c .before .before .before .before .before .before .before .tag-at .ensures) (c .before .before .before .before .before .before .tag-at2 .ensures) (c .before .before .before .before .before .if1 .left) (c .before .before .before .before .if2 .left) _ (c .before .before .before .same-at .ensures) (c .before .before .if3 .left) (c .before .if4 .taken) _ (c .negated .ensures)
+returns-4 c = out-78 _ _ _ _ _ _ _ (c .before .before .before .before .before .before .before .tag-at .ensures) (c .before .before .before .before .before .before .tag-at2 .ensures) (c .before .before .before .before .before .if1 .left) (c .before .before .before .before .if2 .left) _ (c .before .before .before .same-at .ensures) (c .before .before .if3 .left) (c .before .if4 .taken) _ (c .make-neg .ensures)
 
 -- src/logic.rt:61:9
-negated-requires-2 : tie.Need-negated-requires-2
-negated-requires-2 c κs = two-few (c .before .before .before .before .before .before .before .before .before .pre) .1
+make-neg-requires-2 : tie.Need-make-neg-requires-2
+make-neg-requires-2 c κs = two-few (c .before .before .before .before .before .before .before .before .before .pre) .1
 
 -- src/logic.rt:61:9
 returns-5 : tie.Need-returns-5
-returns-5 c = out-79 _ _ _ _ _ _ _ (c .before .before .before .before .before .before .before .before .tag-at .ensures) (c .before .before .before .before .before .before .before .tag-at2 .ensures) (c .before .before .before .before .before .before .if1 .left) (c .before .before .before .before .before .if2 .left) _ (c .before .before .before .before .same-at .ensures) (c .before .before .before .if3 .left) (c .before .before .if4 .left) (c .before .if5 .taken) _ (c .negated2 .ensures)
+returns-5 c = out-79 _ _ _ _ _ _ _ (c .before .before .before .before .before .before .before .before .tag-at .ensures) (c .before .before .before .before .before .before .before .tag-at2 .ensures) (c .before .before .before .before .before .before .if1 .left) (c .before .before .before .before .before .if2 .left) _ (c .before .before .before .before .same-at .ensures) (c .before .before .before .if3 .left) (c .before .before .if4 .left) (c .before .if5 .taken) _ (c .make-neg2 .ensures)
 
 -- src/logic.rt:63:8
-opposes-at-requires : tie.Need-opposes-at-requires
-opposes-at-requires c κs = turned (c .before .before .before .before .before .before .before .before .before .pre)
+negates-requires : tie.Need-negates-requires
+negates-requires c κs = both-placed (turned (c .before .before .before .before .before .before .before .before .before .pre))
 
 -- src/logic.rt:64:9
 fixed-requires-4 : tie.Need-fixed-requires-4
@@ -74,11 +74,11 @@ fixed-requires-4 c κs = search needs
 
 -- src/logic.rt:64:9
 returns-6 : tie.Need-returns-6
-returns-6 c = out-80 _ _ _ _ _ _ _ (c .before .before .before .before .before .before .before .before .before .before .tag-at .ensures) (c .before .before .before .before .before .before .before .before .before .tag-at2 .ensures) (c .before .before .before .before .before .before .before .before .if1 .left) (c .before .before .before .before .before .before .before .if2 .left) _ (c .before .before .before .before .before .before .same-at .ensures) (c .before .before .before .before .before .if3 .left) (c .before .before .before .before .if4 .left) (c .before .before .before .if5 .left) _ (c .before .before .opposes-at .ensures) (c .before .if6 .taken) _ (c .fixed4 .ensures)
+returns-6 c = out-80 _ _ _ _ _ _ _ (c .before .before .before .before .before .before .before .before .before .before .tag-at .ensures) (c .before .before .before .before .before .before .before .before .before .tag-at2 .ensures) (c .before .before .before .before .before .before .before .before .if1 .left) (c .before .before .before .before .before .before .before .if2 .left) _ (c .before .before .before .before .before .before .same-at .ensures) (c .before .before .before .before .before .if3 .left) (c .before .before .before .before .if4 .left) (c .before .before .before .if5 .left) _ (c .before .before .negates .ensures) (c .before .if6 .taken) _ (c .fixed4 .ensures)
 
 -- src/logic.rt:66:8
-opposes-at-requires-2 : tie.Need-opposes-at-requires-2
-opposes-at-requires-2 c κs = c .before .before .before .before .before .before .before .before .before .before .before .pre
+negates-requires-2 : tie.Need-negates-requires-2
+negates-requires-2 c κs = both-placed (c .before .before .before .before .before .before .before .before .before .before .before .pre)
 
 -- src/logic.rt:67:9
 fixed-requires-5 : tie.Need-fixed-requires-5
@@ -86,11 +86,11 @@ fixed-requires-5 c κs = search needs
 
 -- src/logic.rt:67:9
 returns-7 : tie.Need-returns-7
-returns-7 c = out-81 _ _ _ _ _ _ _ (c .before .before .before .before .before .before .before .before .before .before .before .before .tag-at .ensures) (c .before .before .before .before .before .before .before .before .before .before .before .tag-at2 .ensures) (c .before .before .before .before .before .before .before .before .before .before .if1 .left) (c .before .before .before .before .before .before .before .before .before .if2 .left) _ (c .before .before .before .before .before .before .before .before .same-at .ensures) (c .before .before .before .before .before .before .before .if3 .left) (c .before .before .before .before .before .before .if4 .left) (c .before .before .before .before .before .if5 .left) _ (c .before .before .before .before .opposes-at .ensures) (c .before .before .before .if6 .left) _ (c .before .before .opposes-at2 .ensures) (c .before .if7 .taken) _ (c .fixed5 .ensures)
+returns-7 c = out-81 _ _ _ _ _ _ _ (c .before .before .before .before .before .before .before .before .before .before .before .before .tag-at .ensures) (c .before .before .before .before .before .before .before .before .before .before .before .tag-at2 .ensures) (c .before .before .before .before .before .before .before .before .before .before .if1 .left) (c .before .before .before .before .before .before .before .before .before .if2 .left) _ (c .before .before .before .before .before .before .before .before .same-at .ensures) (c .before .before .before .before .before .before .before .if3 .left) (c .before .before .before .before .before .before .if4 .left) (c .before .before .before .before .before .if5 .left) _ (c .before .before .before .before .negates .ensures) (c .before .before .before .if6 .left) _ (c .before .before .negates2 .ensures) (c .before .if7 .taken) _ (c .fixed5 .ensures)
 
 -- src/logic.rt:42:1
 returns-8 : tie.Need-returns-8
-returns-8 c = eqv-none _ _ _ _ _ _ _ (c .before .before .before .before .before .before .before .before .before .before .before .tag-at .ensures) (c .before .before .before .before .before .before .before .before .before .before .tag-at2 .ensures) (c .before .before .before .before .before .before .before .before .before .if1 .left) (c .before .before .before .before .before .before .before .before .if2 .left) _ (c .before .before .before .before .before .before .before .same-at .ensures) (c .before .before .before .before .before .before .if3 .left) (c .before .before .before .before .before .if4 .left) (c .before .before .before .before .if5 .left) _ (c .before .before .before .opposes-at .ensures) (c .before .before .if6 .left) _ (c .before .opposes-at2 .ensures) (c .if7 .left)
+returns-8 c = eqv-none _ _ _ _ _ _ _ (c .before .before .before .before .before .before .before .before .before .before .before .tag-at .ensures) (c .before .before .before .before .before .before .before .before .before .before .tag-at2 .ensures) (c .before .before .before .before .before .before .before .before .before .if1 .left) (c .before .before .before .before .before .before .before .before .if2 .left) _ (c .before .before .before .before .before .before .before .same-at .ensures) (c .before .before .before .before .before .before .if3 .left) (c .before .before .before .before .before .if4 .left) (c .before .before .before .before .if5 .left) _ (c .before .before .before .negates .ensures) (c .before .before .if6 .left) _ (c .before .negates2 .ensures) (c .if7 .left)
 
 pub equivalence-at-spec : {M : Type 1} → statement M
 equivalence-at-spec =
@@ -105,14 +105,14 @@ equivalence-at-spec =
     same-at-requires
     fixed-requires-3
     returns-3
-    negated-requires
+    make-neg-requires
     returns-4
-    negated-requires-2
+    make-neg-requires-2
     returns-5
-    opposes-at-requires
+    negates-requires
     fixed-requires-4
     returns-6
-    opposes-at-requires-2
+    negates-requires-2
     fixed-requires-5
     returns-7
     returns-8)

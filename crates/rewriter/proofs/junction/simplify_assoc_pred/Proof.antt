@@ -1,0 +1,77 @@
+use Rattle.rewriter.proofs.JunctionMeans.{conj-done, disj-done}
+use Rattle.rewriter.proofs.JunctionTurns.{pre-placed}
+use borrow.Author.Needs.{needs}
+use Rattle.rewriter.proofs.junction.simplify_assoc_pred.Statement.{statement}
+use Rattle.rewriter.proofs.junction.simplify_assoc_pred.Tie as tie
+use Rattle.rewriter.proofs.junction.simplify_assoc_pred.Reads as reads
+use Rattle.rewriter.proofs.junction.simplify_assoc_pred.Lts as lts
+use Rattle.nav.proofs.places.arity_at.Reads as arity-at-reads
+use Rattle.nav.proofs.places.tag_at.Reads as tag-at-reads
+use Rattle.rewriter.proofs.junction.absorb.Reads as absorb-reads
+use Rattle.rewriter.proofs.junction.settle.Reads as settle-reads
+use Rattle.rewriter.proofs.junction.wide16.Reads as wide16-reads
+
+-- src/junction.rt:144:9
+arity-at-requires : tie.Need-arity-at-requires
+arity-at-requires c κs = pre-placed _ _ _ _ _ (c .before .pre) .0
+
+-- src/junction.rt:145:8
+tag-at-requires : tie.Need-tag-at-requires
+tag-at-requires c κs = pre-placed _ _ _ _ _ (c .before .before .pre) .0
+
+-- src/junction.rt:146:13
+absorb-requires : tie.Need-absorb-requires
+absorb-requires c κs = search needs
+
+-- src/junction.rt:147:39
+element-copy-out-wide16 : tie.Need-element-copy-out-wide16
+element-copy-out-wide16 c = search needs
+
+-- src/junction.rt:147:32
+wide16-requires : tie.Need-wide16-requires
+wide16-requires c κs = search needs
+
+-- src/junction.rt:147:9
+settle-requires : tie.Need-settle-requires
+settle-requires c κs = search needs
+
+-- src/junction.rt:147:9
+returns : tie.Need-returns
+returns c = conj-done _ _ _ _ _ (c .before .before .before .before .before .before .before .arity-at .ensures) _ (c .before .before .before .before .before .before .tag-at .ensures) _ _ _ (c .before .wide16 .ensures .0) _ (c .before .before .before .before .before .if1 .taken) (c .before .before .before .absorb .ensures) (c .settle .ensures)
+
+-- src/junction.rt:149:9
+absorb-requires-2 : tie.Need-absorb-requires-2
+absorb-requires-2 c κs = search needs
+
+-- src/junction.rt:150:28
+element-copy-out-wide16-2 : tie.Need-element-copy-out-wide16-2
+element-copy-out-wide16-2 c = search needs
+
+-- src/junction.rt:150:21
+wide16-requires-2 : tie.Need-wide16-requires-2
+wide16-requires-2 c κs = search needs
+
+-- src/junction.rt:150:5
+settle-requires-2 : tie.Need-settle-requires-2
+settle-requires-2 c κs = search needs
+
+-- src/junction.rt:134:1
+returns-2 : tie.Need-returns-2
+returns-2 c = disj-done _ _ _ _ _ (c .before .before .before .before .before .before .before .arity-at .ensures) _ (c .before .before .before .before .before .before .tag-at .ensures) _ _ _ (c .before .wide162 .ensures .0) _ (c .before .before .before .before .before .if1 .left) (c .before .before .before .absorb2 .ensures) (c .settle2 .ensures)
+
+pub simplify-assoc-pred-spec : {M : Type 1} → statement M
+simplify-assoc-pred-spec =
+    tie.close
+    (tie.spec
+    arity-at-requires
+    tag-at-requires
+    absorb-requires
+    element-copy-out-wide16
+    wide16-requires
+    settle-requires
+    returns
+    absorb-requires-2
+    element-copy-out-wide16-2
+    wide16-requires-2
+    settle-requires-2
+    returns-2)
