@@ -25,13 +25,6 @@ use Rattle.typing.specs.Claims.{Clash, TypeAt, givenMark, Says, by-mark,
 use Rattle.typing.proofs.Claims.{in-left, in-right, in-either, type-unique}
 
 -- ---- the table at first
-abbrev pub unclaimed : List ℕ
-unclaimed = replicate 65536 0
-
-unclaimed-length : length unclaimed ≡ 65536
-unclaimed-length = length-replicate {A = ℕ} 65536 0
-
--- for any length: at 65,536 the list would be written out
 zeros : (m n : ℕ) → _≡_ {A = ℕ} (getD (replicate m 0) n 0) 0
 zeros m n = go (ltb n m) refl
   where
@@ -39,12 +32,8 @@ zeros m n = go (ltb n m) refl
     go true e = getD-replicate m n 0 0 (ltb-true n m e)
     go false e = (let l : length {A = ℕ} (replicate m 0) ≤ n = rw (length-replicate {A = ℕ} m 0) (ltb-false n m e) in List·getD-eq-default {A = ℕ} (replicate m 0) 0 l)
 
-pub told-none : (s : List ℕ) → Told s unclaimed []
-told-none s = record {
-  size = unclaimed-length;
-  all = λ n t i. absurd i;
-  only = λ n h. absurd (h (zeros 65536 n));
-}
+pub told-none : (s : List ℕ) (m : ℕ) → Told s (replicate m 0) []
+told-none s m = record { all = λ n t i. absurd i; only = λ n h. absurd (h (zeros m n)) }
 
 pub ty-long : (t : Ty) → 1 ≤ length (encTy t)
 unfolding encTy
@@ -63,15 +52,14 @@ module _ (s table : List ℕ) (done : List Named) (h : Told s table done) (n : �
   here = in-right (named n t) done (named n t ∷ []) (inl refl)
 
   -- a number with no entry gets one that says its type
-  pub note-new : n < 65536 → getD table n 0 ≡ 0 → (v : ℕ) → Says s n v t → Told s (set table n v) with-it
+  pub note-new : n < length table → getD table n 0 ≡ 0 → (v : ℕ) → Says s n v t → Told s (set table n v) with-it
   note-new l z v a = record {
-    size = length-set table n v ∙ h .size;
     all = λ m u i. all-of m u (in-either (named m u) done (named n t ∷ []) i);
     only = λ m x. only-of m x (eqb m n) refl;
   }
     where
       same : getD (set table n v) n 0 ≡ v
-      same = getD-set-same table n v 0 (omega (arith, h .size))
+      same = getD-set-same table n v 0 l
 
       other : (m : ℕ) → (m ≡ n → ⊥) → getD (set table n v) m 0 ≡ getD table m 0
       other m d = getD-set-other table n m v 0 d
@@ -103,7 +91,6 @@ module _ (s table : List ℕ) (done : List Named) (h : Told s table done) (n : �
   -- a number whose entry says the same
   pub note-same : Says s n (getD table n 0) t → Told s table with-it
   note-same a = record {
-    size = h .size;
     all = λ m u i. all-of m u (in-either (named m u) done (named n t ∷ []) i);
     only = λ m x. (let w = h .only m x in (w .0, in-left (named m (w .0)) done (named n t ∷ []) (w .1), w .2));
   }
@@ -140,14 +127,14 @@ clash-more l m c = record {
 }
 
 pub noted-nil : (s table : List ℕ) → Noted s table table [] true
-noted-nil s table = record { by = λ done h. subst (λ (l : List Named). Told s table l) (sym (append-nil done)) h }
+noted-nil s table = record { size = refl; by = λ done h. subst (λ (l : List Named). Told s table l) (sym (append-nil done)) h }
 
 pub noted-then : (s t₀ t₁ t₂ : List ℕ) (xs ys : List Named) (r : Bool) → Noted s t₀ t₁ xs true → Noted s t₁ t₂ ys r → Noted s t₀ t₂ (xs ++ ys) r
-noted-then s t₀ t₁ t₂ xs ys true a b = record { by = λ done h. subst (λ (l : List Named). Told s t₂ l) (append-assoc done xs ys) (b .by (done ++ xs) (a .by done h)) }
-noted-then s t₀ t₁ t₂ xs ys false a b = record { by = λ done h. subst Clash (append-assoc done xs ys) (b .by (done ++ xs) (a .by done h)) }
+noted-then s t₀ t₁ t₂ xs ys true a b = record { size = b .size ∙ a .size; by = λ done h. subst (λ (l : List Named). Told s t₂ l) (append-assoc done xs ys) (b .by (done ++ xs) (a .by done h)) }
+noted-then s t₀ t₁ t₂ xs ys false a b = record { size = b .size ∙ a .size; by = λ done h. subst Clash (append-assoc done xs ys) (b .by (done ++ xs) (a .by done h)) }
 
 pub noted-early : (s t₀ t₁ : List ℕ) (xs ys : List Named) → Noted s t₀ t₁ xs false → Noted s t₀ t₁ (xs ++ ys) false
-noted-early s t₀ t₁ xs ys a = record { by = λ done h. subst Clash (append-assoc done xs ys) (clash-more (done ++ xs) ys (a .by done h)) }
+noted-early s t₀ t₁ xs ys a = record { size = a .size; by = λ done h. subst Clash (append-assoc done xs ys) (clash-more (done ++ xs) ys (a .by done h)) }
 
 pub noted-true : (s t₀ t₁ : List ℕ) (xs : List Named) (r : Bool) → Noted s t₀ t₁ xs r → r ≡ true → Noted s t₀ t₁ xs true
 noted-true s t₀ t₁ xs r a e = subst (λ (o : Bool). Noted s t₀ t₁ xs o) e a
@@ -272,34 +259,34 @@ module _ (s table : List ℕ) (n : ℕ) where
       go u (by-place p q e l a) = let x = a .span .long in let y = a .span .within in (omega arith, omega arith)
 
   module _ (p q : ℕ) where
-    pub name-new : n < 65536 → p < 4096 → getD table n 0 ≡ 0 → NamePost s n p q table (set table n (p + 1)) true
-    name-new l k z = record { by = λ t a. record { by = λ done h. note-new s table done h n t l z (p + 1) (by-place p q (omega arith) k a) } }
+    pub name-new : n < length table → p < 4096 → getD table n 0 ≡ 0 → NamePost s n p q table (set table n (p + 1)) true
+    name-new l k z = record { by = λ t a. record { size = length-set table n (p + 1); by = λ done h. note-new s table done h n t l z (p + 1) (by-place p q (omega arith) k a) } }
 
     pub name-mark : n < 65536 → getD table n 0 ≡ givenMark → (r : Bool) → PowerPost s p n r → NamePost s n p q table table r
-    name-mark l g true b = record { by = λ t a. record { by = λ done h. note-same s table done h n t (by-mark g (type-unique s p q (p + 4) t (pow (given n)) a (b .yes refl))) } }
-    name-mark l g false b = record { by = λ t a. record { by = λ done h. note-clash s table done h n t (λ z. let w : _≡_ {A = ℕ} 0 givenMark = sym z ∙ g in omega arith) (never t a) } }
+    name-mark l g true b = record { by = λ t a. record { size = refl; by = λ done h. note-same s table done h n t (by-mark g (type-unique s p q (p + 4) t (pow (given n)) a (b .yes refl))) } }
+    name-mark l g false b = record { by = λ t a. record { size = refl; by = λ done h. note-clash s table done h n t (λ z. let w : _≡_ {A = ℕ} 0 givenMark = sym z ∙ g in omega arith) (never t a) } }
       where
         never : (t : Ty) → TypeAt s p q t → Says s n (getD table n 0) t → ⊥
         never t a (by-mark e f) = b .not refl q (subst (TypeAt s p q) f a)
         never t a (by-place p' q' e l' a') = omega arith
 
     pub name-place : Held s table → (getD table n 0 ≡ 0 → ⊥) → (getD table n 0 ≡ givenMark → ⊥) → (v : ℕ) → v ≡ getD table n 0 → (r : Bool) → SameType s p q (v - 1) r → NamePost s n p q table table r
-    name-place hd z g v ev true b = record { by = λ t a. record { by = λ done h. note-same s table done h n t (by-place (v - 1) _ (omega arith) (entry-place hd z g v ev .1) (b .yes refl t a)) } }
-    name-place hd z g v ev false b = record { by = λ t a. record { by = λ done h. note-clash s table done h n t z (never t a) } }
+    name-place hd z g v ev true b = record { by = λ t a. record { size = refl; by = λ done h. note-same s table done h n t (by-place (v - 1) _ (omega arith) (entry-place hd z g v ev .1) (b .yes refl t a)) } }
+    name-place hd z g v ev false b = record { by = λ t a. record { size = refl; by = λ done h. note-clash s table done h n t z (never t a) } }
       where
         never : (t : Ty) → TypeAt s p q t → Says s n (getD table n 0) t → ⊥
         never t a (by-mark e f) = g e
         never t a (by-place p' q' e l' a') = let w : p' ≡ v - 1 = omega arith in b .not refl t q' a (subst (λ (i : ℕ). TypeAt s i q' t) w a')
 
-  pub given-new : n < 65536 → getD table n 0 ≡ 0 → GivenPost s n table (set table n givenMark) true
-  given-new l z = record { by = λ done h. note-new s table done h n (pow (given n)) l z givenMark (by-mark refl refl) }
+  pub given-new : n < length table → getD table n 0 ≡ 0 → GivenPost s n table (set table n givenMark) true
+  given-new l z = record { size = length-set table n givenMark; by = λ done h. note-new s table done h n (pow (given n)) l z givenMark (by-mark refl refl) }
 
   pub given-mark : getD table n 0 ≡ givenMark → GivenPost s n table table true
-  given-mark g = record { by = λ done h. note-same s table done h n (pow (given n)) (by-mark g refl) }
+  given-mark g = record { size = refl; by = λ done h. note-same s table done h n (pow (given n)) (by-mark g refl) }
 
   pub given-place : Held s table → (getD table n 0 ≡ 0 → ⊥) → (getD table n 0 ≡ givenMark → ⊥) → (v : ℕ) → v ≡ getD table n 0 → (r : Bool) → PowerPost s (v - 1) n r → GivenPost s n table table r
-  given-place hd z g v ev true b = record { by = λ done h. note-same s table done h n (pow (given n)) (by-place (v - 1) _ (omega arith) (entry-place hd z g v ev .1) (b .yes refl)) }
-  given-place hd z g v ev false b = record { by = λ done h. note-clash s table done h n (pow (given n)) z never }
+  given-place hd z g v ev true b = record { size = refl; by = λ done h. note-same s table done h n (pow (given n)) (by-place (v - 1) _ (omega arith) (entry-place hd z g v ev .1) (b .yes refl)) }
+  given-place hd z g v ev false b = record { size = refl; by = λ done h. note-clash s table done h n (pow (given n)) z never }
     where
       never : Says s n (getD table n 0) (pow (given n)) → ⊥
       never (by-mark e f) = g e

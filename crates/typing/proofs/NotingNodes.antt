@@ -1,12 +1,12 @@
 -- The claims of the nodes of a frame, noted from left to right: the ways out of note_nodes and names_ok.
--- Main results: node-now (what stands at the next node), nodes-end, nodes-types, nodes-other, nodes-clash, nodes-name,
--- names-answer.
+-- Main results: node-now (what stands at the next node), nodes-end, nodes-types, nodes-beyond, nodes-other, nodes-past,
+-- nodes-clash, nodes-name; names-agree, names-differ, names-decided.
 use mathlib.Core.Path.{_≡_, refl, sym, ap, ap₂, _∙_, subst}
 use mathlib.Core.Bool.{Bool, true, false}
 use mathlib.Core.List.{List, [], _∷_, _++_, append-assoc, append-nil}
 use Prim.Native.Nat.{ℕ, suc, _+_, _-_, _≤_, _<_}
 use native.Mathlib.Omega.{arith}
-use lib.ListN.{length, length-append}
+use lib.ListN.{length, length-append, replicate, length-replicate}
 use lib.Dec.{eqb}
 use borrow.Author.Tests.{ne-eqb, eq-eqb}
 use Rattle.frame.specs.Types.{Ty}
@@ -26,11 +26,13 @@ use Rattle.frame.proofs.View.{at-span, at-wf}
 use Rattle.typing.specs.Typing.{carriedTy}
 use Rattle.typing.specs.Members.{All}
 use Rattle.typing.specs.Identifiers.{identTag, Named, named, givensTys, identOf, namesAgree}
-use Rattle.typing.specs.Claims.{powers, claims, claimsIn, Clash, TypeAt, Told, Noted, Held, TypesAt, TypesAnswer, TypesPost, NamePost, Rest, NamesPost}
+use Rattle.typing.specs.Claims.{powers, claims, claimsIn, Clash, TypeAt, Told, Noted, Held, TypesAt, TypesAnswer, Short, TypesPost, NamePost, Rest, NamesAnswer, NamesPost}
 use Rattle.typing.specs.declared.identifiers.Noting.{Noting}
-use Rattle.typing.specs.declared.identifiers.Noting.the-variants.{Ends, Clashed}
+use Rattle.typing.specs.declared.identifiers.Noting.the-variants.{Ends, Clashed, Beyond}
+use Rattle.typing.specs.declared.identifiers.Names.{Names}
+use Rattle.typing.specs.declared.identifiers.Names.the-variants.{Agree, Differ, Undecided}
 use Rattle.typing.proofs.Claims.{agree-told, clash-disagree}
-use Rattle.typing.proofs.Noting.{told-none, unclaimed, noted-nil, noted-then, noted-early, noted-true, held-then}
+use Rattle.typing.proofs.Noting.{told-none, noted-nil, noted-then, noted-early, noted-true, held-then}
 use Rattle.typing.proofs.NotingTypes.{Some}
 
 -- ---- forests joined
@@ -239,7 +241,7 @@ ident-none g n us d = rw (ne-eqb g identTag d)
 ident-some : (g n : ℕ) (us : List Ty) → g ≡ identTag → identOf g n us ≡ named n (carriedTy us) ∷ []
 ident-some g n us e = rw (eq-eqb g identTag e)
 
-pub nodes-end : (s : List ℕ) (at : ℕ) (table : List ℕ) → length s ≤ at → NamesPost s at table table true
+pub nodes-end : (s : List ℕ) (at : ℕ) (table : List ℕ) → length s ≤ at → NamesPost s at table table Agree
 unfolding claims enc
 nodes-end s at table l = record { by = go }
   where
@@ -247,32 +249,43 @@ nodes-end s at table l = record { by = go }
     go nil es a = noted-nil s table
     go (cons t ts) es a = absurd (omega (arith, a .span .long, length-append (enc t) (encs ts), enc-long t))
 
+answer-then : (s t₀ t₁ t₂ : List ℕ) (xs ys : List Named) (b : Names) → Noted s t₀ t₁ xs true → NamesAnswer s t₁ t₂ ys b → NamesAnswer s t₀ t₂ (xs ++ ys) b
+answer-then s t₀ t₁ t₂ xs ys Agree a c = noted-then s t₀ t₁ t₂ xs ys true a c
+answer-then s t₀ t₁ t₂ xs ys Differ a c = noted-then s t₀ t₁ t₂ xs ys false a c
+answer-then s t₀ t₁ t₂ xs ys Undecided a c = rw (← (a .size)) c
+
 module _ (s : List ℕ) (at : ℕ) (l : at < length s) (tag form w x m : ℕ) (d : Seen s at tag form w x m) (t₀ t₁ : List ℕ) (r : Noting)
     (p : TypesPost s (at + 2 + w) m t₀ t₁ r) where
   -- the claims of the node and of what comes after it
-  told-now : (t : List ℕ) (b : Bool) → ((ts : Forest) (v : Now s at ts tag w x m) → Noted s t₀ t (powers (givensTys (v .us)) ++ (identOf tag (v .n) (v .us) ++ claimsIn (append (v .ks) (v .later)))) b)
+  told-now : (t : List ℕ) (b : Names) → ((ts : Forest) (v : Now s at ts tag w x m) → NamesAnswer s t₀ t (powers (givensTys (v .us)) ++ (identOf tag (v .n) (v .us) ++ claimsIn (append (v .ks) (v .later)))) b)
       → NamesPost s at t₀ t b
   told-now t b f = record {
     by = λ ts es a. (let v = node-now s at ts es l a tag form w x m d in
-        subst (λ (i : List Named). Noted s t₀ t i b) (sym (ap claimsIn (v .is) ∙ claims-now tag (v .n) (v .us) (v .ks) (v .later))) (f ts v));
+        subst (λ (i : List Named). NamesAnswer s t₀ t i b) (sym (ap claimsIn (v .is) ∙ claims-now tag (v .n) (v .us) (v .ks) (v .later))) (f ts v));
   }
 
-  pub nodes-types : r ≡ Clashed → NamesPost s at t₀ t₁ false
-  nodes-types er = told-now t₁ false (λ ts v. noted-early s t₀ t₁ (powers (givensTys (v .us))) (identOf tag (v .n) (v .us) ++ claimsIn (append (v .ks) (v .later))) (subst (TypesAnswer s t₀ t₁ (v .us) (v .end)) er (p .by (v .us) (v .end) (v .types))))
+  pub nodes-beyond : r ≡ Beyond → NamesPost s at t₀ t₁ Undecided
+  nodes-beyond er = told-now t₁ Undecided (λ ts v. subst (TypesAnswer s t₀ t₁ (v .us) (v .end)) er (p .by (v .us) (v .end) (v .types)))
+
+  pub nodes-types : r ≡ Clashed → NamesPost s at t₀ t₁ Differ
+  nodes-types er = told-now t₁ Differ (λ ts v. noted-early s t₀ t₁ (powers (givensTys (v .us))) (identOf tag (v .n) (v .us) ++ claimsIn (append (v .ks) (v .later))) (subst (TypesAnswer s t₀ t₁ (v .us) (v .end)) er (p .by (v .us) (v .end) (v .types))))
 
   module _ (q : ℕ) (er : r ≡ Ends q) where
-    types-then : (t : List ℕ) (b : Bool)
-        → ((ts : Forest) (v : Now s at ts tag w x m) → q ≡ v .end → Noted s t₁ t (identOf tag (v .n) (v .us) ++ claimsIn (append (v .ks) (v .later))) b) → NamesPost s at t₀ t b
+    types-then : (t : List ℕ) (b : Names)
+        → ((ts : Forest) (v : Now s at ts tag w x m) → q ≡ v .end → NamesAnswer s t₁ t (identOf tag (v .n) (v .us) ++ claimsIn (append (v .ks) (v .later))) b) → NamesPost s at t₀ t b
     types-then t b f =
         told-now t b (λ ts v. let o = ends s at l tag form w x m d t₀ t₁ r p q er ts v in
-        noted-then s t₀ t₁ t (powers (givensTys (v .us))) (identOf tag (v .n) (v .us) ++ claimsIn (append (v .ks) (v .later))) b (o .1) (f ts v (o .0)))
+        answer-then s t₀ t₁ t (powers (givensTys (v .us))) (identOf tag (v .n) (v .us) ++ claimsIn (append (v .ks) (v .later))) b (o .1) (f ts v (o .0)))
 
     at-end : (ts : Forest) (v : Now s at ts tag w x m) → q ≡ v .end → Rest s q (append (v .ks) (v .later)) (v .sorts)
     at-end ts v e = subst (λ (i : ℕ). Rest s i (append (v .ks) (v .later)) (v .sorts)) (sym e) (v .after)
 
-    pub nodes-other : (tag ≡ identTag → ⊥) → (t₂ : List ℕ) (b : Bool) → NamesPost s q t₁ t₂ b → NamesPost s at t₀ t₂ b
+    pub nodes-other : (tag ≡ identTag → ⊥) → (t₂ : List ℕ) (b : Names) → NamesPost s q t₁ t₂ b → NamesPost s at t₀ t₂ b
     nodes-other ne t₂ b rest =
         types-then t₂ b (λ ts v e. rw (ident-none tag (v .n) (v .us) ne) (rest .by (append (v .ks) (v .later)) (v .sorts) (at-end ts v e)))
+
+    pub nodes-past : tag ≡ identTag → length t₁ ≤ x → NamesPost s at t₀ t₁ Undecided
+    nodes-past is k = types-then t₁ Undecided (λ ts v e. let o = v .name is .1 in omega arith)
 
     module _ (is : tag ≡ identTag) (t₂ : List ℕ) (fits : Bool) (own : NamePost s x (at + 2 + w) q t₁ t₂ fits) where
       own-claim : (ts : Forest) (v : Now s at ts tag w x m) → q ≡ v .end → Noted s t₁ t₂ (identOf tag (v .n) (v .us)) fits
@@ -281,9 +294,9 @@ module _ (s : List ℕ) (at : ℕ) (l : at < length s) (tag form w x m : ℕ) (d
           let a : TypeAt s (at + 2 + w) q (carriedTy (v .us)) = subst (λ (i : ℕ). TypeAt s (at + 2 + w) i (carriedTy (v .us))) (sym e) (o .2) in
           rw (ident-some tag (v .n) (v .us) is) (subst (λ (i : ℕ). Noted s t₁ t₂ (named i (carriedTy (v .us)) ∷ []) fits) (o .0) (own .by (carriedTy (v .us)) a))
 
-      pub nodes-clash : fits ≡ false → NamesPost s at t₀ t₂ false
+      pub nodes-clash : fits ≡ false → NamesPost s at t₀ t₂ Differ
       nodes-clash f =
-          types-then t₂ false (λ ts v e. noted-early s t₁ t₂ (identOf tag (v .n) (v .us)) (claimsIn (append (v .ks) (v .later)))
+          types-then t₂ Differ (λ ts v e. noted-early s t₁ t₂ (identOf tag (v .n) (v .us)) (claimsIn (append (v .ks) (v .later)))
           (subst (λ (b : Bool). Noted s t₁ t₂ (identOf tag (v .n) (v .us)) b) f (own-claim ts v e)))
 
       -- the table after the identifier's own claim
@@ -294,9 +307,9 @@ module _ (s : List ℕ) (at : ℕ) (l : at < length s) (tag form w x m : ℕ) (d
           held-then s t₁ t₂ (identOf tag (v .n) (v .us)) (left-held s at l tag form w x m d t₀ t₁ r p q er h a)
           (subst (λ (b : Bool). Noted s t₁ t₂ (identOf tag (v .n) (v .us)) b) f (own-claim (a .0) v (o .0)))
 
-      pub nodes-name : fits ≡ true → (t₃ : List ℕ) (b : Bool) → NamesPost s q t₂ t₃ b → NamesPost s at t₀ t₃ b
+      pub nodes-name : fits ≡ true → (t₃ : List ℕ) (b : Names) → NamesPost s q t₂ t₃ b → NamesPost s at t₀ t₃ b
       nodes-name f t₃ b rest =
-          types-then t₃ b (λ ts v e. noted-then s t₁ t₂ t₃ (identOf tag (v .n) (v .us)) (claimsIn (append (v .ks) (v .later))) b
+          types-then t₃ b (λ ts v e. answer-then s t₁ t₂ t₃ (identOf tag (v .n) (v .us)) (claimsIn (append (v .ks) (v .later))) b
           (subst (λ (c : Bool). Noted s t₁ t₂ (identOf tag (v .n) (v .us)) c) f (own-claim ts v e)) (rest .by (append (v .ks) (v .later)) (v .sorts) (at-end ts v e)))
 
 -- ---- names_ok
@@ -304,13 +317,17 @@ pub frame-rest : (s : List ℕ) → Bytes s → (t : Tree) → IsAt s predicate 
 unfolding enc
 frame-rest s bs t a = record { span = rw append-nil (at-span s bs predicate 0 t (length s) a); wf = (at-wf s bs predicate 0 t (length s) a, tt) }
 
-pub names-answer : (s : List ℕ) → Bytes s → (table : List ℕ) (r : Bool) → NamesPost s 0 unclaimed table r → (t : Tree) → IsAt s predicate 0 t (length s) → r ≡ namesAgree t
-unfolding claims
-names-answer s bs table r p t a = go r (p .by (cons t nil) (predicate ∷ []) (frame-rest s bs t a))
-  where
-    one : claims t ++ [] ≡ claims t
-    one = append-nil (claims t)
+-- a table with no claims at first
+module _ (s : List ℕ) (bs : Bytes s) (m : ℕ) (table : List ℕ) (r : Names) (p : NamesPost s 0 (replicate m 0) table r) (t : Tree) (a : IsAt s predicate 0 t (length s)) where
+  answer : NamesAnswer s (replicate m 0) table (claims t) r
+  unfolding claims
+  answer = subst (λ (l : List Named). NamesAnswer s (replicate m 0) table l r) (append-nil (claims t)) (p .by (cons t nil) (predicate ∷ []) (frame-rest s bs t a))
 
-    go : (b : Bool) → Noted s unclaimed table (claimsIn (cons t nil)) b → b ≡ namesAgree t
-    go true n = sym (agree-told s table t (subst (Told s table) one (n .by [] (told-none s))))
-    go false n = sym (clash-disagree t (subst Clash one (n .by [] (told-none s))))
+  pub names-agree : r ≡ Agree → true ≡ namesAgree t
+  names-agree e = let n = subst (NamesAnswer s (replicate m 0) table (claims t)) e answer in sym (agree-told s table t (n .by [] (told-none s m)))
+
+  pub names-differ : r ≡ Differ → false ≡ namesAgree t
+  names-differ e = let n = subst (NamesAnswer s (replicate m 0) table (claims t)) e answer in sym (clash-disagree t (n .by [] (told-none s m)))
+
+  pub names-decided : 65536 ≤ m → r ≡ Undecided → ⊥
+  names-decided l e = let n = subst (NamesAnswer s (replicate m 0) table (claims t)) e answer in omega (arith, length-replicate {A = ℕ} m 0)

@@ -1,6 +1,6 @@
 -- The given sets in types, noted from left to right: the ways out of note_types.
--- Main results: types-room, types-step (what the first byte says), types-end, types-clash, types-given, types-pow,
--- types-prod, types-leaf.
+-- Main results: types-room, types-step (what the first byte says), types-end, types-beyond, types-clash, types-given,
+-- types-pow, types-prod, types-leaf.
 use mathlib.Core.Path.{_≡_, refl, sym, ap, _∙_, subst}
 use mathlib.Core.Bool.{Bool, true, false}
 use mathlib.Core.List.{List, [], _∷_, _++_, append-assoc, append-nil}
@@ -16,9 +16,9 @@ use Rattle.frame.proofs.Spans.{span-first}
 use Rattle.frame.proofs.Numbers.{number-back, number-two}
 use Rattle.typing.specs.Members.{All}
 use Rattle.typing.specs.Identifiers.{Named, named, givensTy, givensTys}
-use Rattle.typing.specs.Claims.{powers, Noted, Held, GivenPost, TypesAt, TypesAnswer, TypesPost}
+use Rattle.typing.specs.Claims.{powers, Noted, Held, Short, GivenPost, TypesAt, TypesAnswer, TypesPost}
 use Rattle.typing.specs.declared.identifiers.Noting.{Noting}
-use Rattle.typing.specs.declared.identifiers.Noting.the-variants.{Ends, Clashed}
+use Rattle.typing.specs.declared.identifiers.Noting.the-variants.{Ends, Clashed, Beyond}
 use Rattle.typing.proofs.Noting.{ty-long, noted-nil, noted-then, noted-early, held-then}
 
 -- ---- types in a row
@@ -121,6 +121,7 @@ module _ (s : List ℕ) (at m : ℕ) (z : m ≡ 0 → ⊥) where
 answer-as : (s t₀ t₁ : List ℕ) (us vs : List Ty) (q : ℕ) → givensTys us ≡ givensTys vs → (r : Noting) → TypesAnswer s t₀ t₁ us q r → TypesAnswer s t₀ t₁ vs q r
 answer-as s t₀ t₁ us vs q e (Ends p) a = (a .0, subst (λ (l : List ℕ). Noted s t₀ t₁ (powers l) true) e (a .1))
 answer-as s t₀ t₁ us vs q e Clashed a = subst (λ (l : List ℕ). Noted s t₀ t₁ (powers l) false) e a
+answer-as s t₀ t₁ us vs q e Beyond a = a
 
 answer-for : (s t₀ t₁ : List ℕ) (us vs : List Ty) (q : ℕ) (r : Noting) → us ≡ vs → TypesAnswer s t₀ t₁ vs q r → TypesAnswer s t₀ t₁ us q r
 answer-for s t₀ t₁ us vs q r e a = answer-as s t₀ t₁ vs us q (ap givensTys (sym e)) r a
@@ -129,6 +130,7 @@ answer-given : (s t₀ t₁ t₂ : List ℕ) (n : ℕ) (us : List Ty) (q : ℕ) 
 unfolding powers givensTys givensTy
 answer-given s t₀ t₁ t₂ n us q g (Ends p) a = (a .0, noted-then s t₀ t₁ t₂ (powers (n ∷ [])) (powers (givensTys us)) true g (a .1))
 answer-given s t₀ t₁ t₂ n us q g Clashed a = noted-then s t₀ t₁ t₂ (powers (n ∷ [])) (powers (givensTys us)) false g a
+answer-given s t₀ t₁ t₂ n us q g Beyond a = rw (← (g .size)) a
 
 clash-given : (s t₀ t₁ : List ℕ) (n : ℕ) (us : List Ty) (q : ℕ) → GivenPost s n t₀ t₁ false → TypesAnswer s t₀ t₁ (given n ∷ us) q Clashed
 unfolding powers givensTys givensTy
@@ -153,6 +155,9 @@ types-end s at m table z = record { by = go }
     go : (us : List Ty) (q : ℕ) → TypesAt s at m us q → TypesAnswer s table table us q (Ends at)
     go [] q a = (omega (arith, a .span .long), noted-nil s table)
     go (u ∷ us) q a = absurd (omega (arith, a .many))
+
+pub types-beyond : (s : List ℕ) (at m : ℕ) (table : List ℕ) → Short table → TypesPost s at m table table Beyond
+types-beyond s at m table l = record { by = λ us q a. l }
 
 module _ (s : List ℕ) (at m : ℕ) (z : m ≡ 0 → ⊥) (t₀ : List ℕ) where
   pub types-clash : getD s at 0 ≡ 2 → (n : ℕ) (t₁ : List ℕ) (fits : Bool) → GivenPost s n t₀ t₁ fits → fits ≡ false

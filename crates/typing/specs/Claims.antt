@@ -15,7 +15,9 @@ use Rattle.frame.specs.Spans.{Spans}
 use Rattle.typing.specs.Members.{In, All}
 use Rattle.typing.specs.Identifiers.{Named, named, givensTys, identOf}
 use Rattle.typing.specs.declared.identifiers.Noting.{Noting}
-use Rattle.typing.specs.declared.identifiers.Noting.the-variants.{Ends, Clashed}
+use Rattle.typing.specs.declared.identifiers.Noting.the-variants.{Ends, Clashed, Beyond}
+use Rattle.typing.specs.declared.identifiers.Names.{Names}
+use Rattle.typing.specs.declared.identifiers.Names.the-variants.{Agree, Differ, Undecided}
 
 -- what given sets claim
 unfoldable pub powers : List ℕ → List Named
@@ -40,7 +42,7 @@ pub record Clash (l : List Named) : Type 0 where
   pub second : In (named number other) l
   pub differ : one ≡ other → ⊥
 
--- ---- the table of claims: an entry for each identifier number
+-- ---- the table of claims: an entry for each identifier number below its length
 -- the bytes of the type u, from p up to q
 pub record TypeAt (s : List ℕ) (p q : ℕ) (u : Ty) : Type 0 where
   pub span : Spans s p q (encTy u)
@@ -57,13 +59,13 @@ pub data Says (s : List ℕ) (n v : ℕ) (u : Ty) : Type 0 where
 
 -- the table holds these claims, and no others
 pub record Told (s table : List ℕ) (done : List Named) : Type 0 where
-  pub size : length table ≡ 65536
   pub all : (n : ℕ) (t : Ty) → In (named n t) done → Says s n (getD table n 0) t
   pub only : (n : ℕ) → (getD table n 0 ≡ 0 → ⊥) → (u : Ty) × In (named n u) done × Says s n (getD table n 0) u
 
 -- ---- contracts
 -- the table before and after these claims were noted; false where one of them clashed
 pub record Noted (s : List ℕ) (before after : List ℕ) (new : List Named) (r : Bool) : Type 0 where
+  pub size : length after ≡ length before
   pub by : (done : List Named) → Told s before done → pick {X = Type 0} r (Told s after (done ++ new)) (Clash (done ++ new))
 
 -- whether the type at p is the power of the given set n
@@ -96,10 +98,15 @@ pub record TypesAt (s : List ℕ) (at m : ℕ) (us : List Ty) (q : ℕ) : Type 0
 pub record NamePost (s : List ℕ) (n p q : ℕ) (before after : List ℕ) (r : Bool) : Type 0 where
   pub by : (t : Ty) → TypeAt s p q t → Noted s before after (named n t ∷ []) r
 
+-- a number has no entry: so the table is not one of all two-byte numbers
+abbrev pub Short : List ℕ → Type 0
+Short table = length table < 65536
+
 -- how the types' given sets were noted
 abbrev pub TypesAnswer : List ℕ → List ℕ → List ℕ → List Ty → ℕ → Noting → Type 0
 TypesAnswer s before after us q (Ends p) = (p ≡ q) × Noted s before after (powers (givensTys us)) true
 TypesAnswer s before after us q Clashed = Noted s before after (powers (givensTys us)) false
+TypesAnswer s before after us q Beyond = Short before
 
 pub record TypesPost (s : List ℕ) (at m : ℕ) (before after : List ℕ) (r : Noting) : Type 0 where
   pub by : (us : List Ty) (q : ℕ) → TypesAt s at m us q → TypesAnswer s before after us q r
@@ -113,5 +120,11 @@ pub record Rest (s : List ℕ) (at : ℕ) (ts : Forest) (es : List Sort) : Type 
   pub span : Spans s at (length s) (encs ts)
   pub wf : Wfs ts es
 
-pub record NamesPost (s : List ℕ) (at : ℕ) (before after : List ℕ) (r : Bool) : Type 0 where
-  pub by : (ts : Forest) (es : List Sort) → Rest s at ts es → Noted s before after (claimsIn ts) r
+-- how claims were noted
+abbrev pub NamesAnswer : List ℕ → List ℕ → List ℕ → List Named → Names → Type 0
+NamesAnswer s before after new Agree = Noted s before after new true
+NamesAnswer s before after new Differ = Noted s before after new false
+NamesAnswer s before after new Undecided = Short before
+
+pub record NamesPost (s : List ℕ) (at : ℕ) (before after : List ℕ) (r : Names) : Type 0 where
+  pub by : (ts : Forest) (es : List Sort) → Rest s at ts es → NamesAnswer s before after (claimsIn ts) r

@@ -1,6 +1,7 @@
 // Number 9 (document 01: "One identifier number has two types, or is the number of a given set in some type of the tree and
 // its type isn't the power of that set."). Nodes stand in prefix order, and so do the parts of a type: the frame is gone
-// through once from left to right, and a table holds what has been claimed of each identifier number.
+// through once from left to right, and a table holds what has been claimed of each identifier number. A frame with a number
+// beyond the table is gone through again with a table of all numbers.
 ghost use mathlib.Core.Path.{_≡_};
 ghost use Prim.Native.Nat.{ℕ, _+_, _-_, _≤_, _<_};
 ghost use mathlib.Core.List.{List};
@@ -19,10 +20,19 @@ const IDENTIFIER: usize = 1;
 // and 0 where nothing has been claimed.
 const GIVEN: u16 = 5000;
 
-// What noting the given sets of types finds: where the types end, or that a number has been claimed with another type.
+// What noting the given sets of types finds: where the types end, that a number has been claimed with another type, or that
+// the table has no entry for a number.
 enum Noting {
     Ends(usize),
     Clashed,
+    Beyond,
+}
+
+// Whether the names agree; undecided if the table has no entry for a number.
+enum Names {
+    Agree,
+    Differ,
+    Undecided,
 }
 
 fn wide_entry(x: u16) -> usize
@@ -75,8 +85,8 @@ pub fn is_power(s: &[u8], p: usize, n: usize) -> bool
 }
 
 // An identifier n whose type stands from p up to q.
-fn note_identifier(s: &[u8], n: usize, p: usize, q: usize, table: &mut [u16; 65536]) -> bool
-    requires { ⌜ (n < 65536) × Held (now s) (now table) × ((t : Ty) × TypeAt (now s) p q t) ⌝ }
+fn note_identifier(s: &[u8], n: usize, p: usize, q: usize, table: &mut [u16]) -> bool
+    requires { ⌜ (n < 65536) × (n < length (now table)) × Held (now s) (now table) × ((t : Ty) × TypeAt (now s) p q t) ⌝ }
     ensures { λ r. ⌜ NamePost (now (s .entry)) n p q (now (table .entry)) (now (table .exit)) r ⌝ }
 {
     let entry = table[n];
@@ -91,8 +101,8 @@ fn note_identifier(s: &[u8], n: usize, p: usize, q: usize, table: &mut [u16; 655
 }
 
 // A given set n in some type: its number is an identifier's of one type only, the power of that set.
-fn note_given(s: &[u8], n: usize, table: &mut [u16; 65536]) -> bool
-    requires { ⌜ (n < 65536) × Held (now s) (now table) ⌝ }
+fn note_given(s: &[u8], n: usize, table: &mut [u16]) -> bool
+    requires { ⌜ (n < 65536) × (n < length (now table)) × Held (now s) (now table) ⌝ }
     ensures { λ r. ⌜ GivenPost (now (s .entry)) n (now (table .entry)) (now (table .exit)) r ⌝ }
 {
     let entry = table[n];
@@ -107,7 +117,7 @@ fn note_given(s: &[u8], n: usize, table: &mut [u16; 65536]) -> bool
 }
 
 // The given sets in m types that stand at `at`.
-fn note_types(s: &[u8], at: usize, m: usize, table: &mut [u16; 65536]) -> Noting
+fn note_types(s: &[u8], at: usize, m: usize, table: &mut [u16]) -> Noting
     requires { ⌜ Held (now s) (now table) × ((us : List Ty) × (q : ℕ) × TypesAt (now s) at m us q) ⌝ }
     ensures { λ r. ⌜ TypesPost (now (s .entry)) at m (now (table .entry)) (now (table .exit)) r ⌝ }
 {
@@ -118,6 +128,9 @@ fn note_types(s: &[u8], at: usize, m: usize, table: &mut [u16; 65536]) -> Noting
     match b {
         2 => {
             let n = frame::tags::wide(s[at + 1]) * 256 + frame::tags::wide(s[at + 2]);
+            if table.len() <= n {
+                return Noting::Beyond;
+            }
             let fits = note_given(s, n, table);
             if !fits {
                 return Noting::Clashed;
@@ -131,12 +144,12 @@ fn note_types(s: &[u8], at: usize, m: usize, table: &mut [u16; 65536]) -> Noting
 }
 
 // The nodes from `at` to the end of the frame. A node's children are the next nodes, so no list of open nodes is kept.
-fn note_nodes(s: &[u8], at: usize, table: &mut [u16; 65536]) -> bool
+fn note_nodes(s: &[u8], at: usize, table: &mut [u16]) -> Names
     requires { ⌜ Held (now s) (now table) × ((ts : Forest) × (es : List Sort) × Rest (now s) at ts es) ⌝ }
     ensures { λ r. ⌜ NamesPost (now (s .entry)) at (now (table .entry)) (now (table .exit)) r ⌝ }
 {
     if s.len() <= at {
-        return true;
+        return Names::Agree;
     }
     let tag = frame::reading::number(s, at, 2);
     let form = frame::tags::form_of(tag);
@@ -145,14 +158,18 @@ fn note_nodes(s: &[u8], at: usize, table: &mut [u16; 65536]) -> bool
     let m = frame::tags::types_of(form, x);
     let a = note_types(s, at + 2 + w, m, table);
     match a {
-        Noting::Clashed => false,
+        Noting::Clashed => Names::Differ,
+        Noting::Beyond => Names::Undecided,
         Noting::Ends(p) => {
             if tag != IDENTIFIER {
                 return note_nodes(s, p, table);
             }
+            if table.len() <= x {
+                return Names::Undecided;
+            }
             let fits = note_identifier(s, x, at + 2 + w, p, table);
             if !fits {
-                return false;
+                return Names::Differ;
             }
             note_nodes(s, p, table)
         }
@@ -161,10 +178,29 @@ fn note_nodes(s: &[u8], at: usize, table: &mut [u16; 65536]) -> bool
 
 // Whether the names of a frame's tree agree. The table has an entry for each two-byte number: so the time grows with the
 // frame alone, whichever numbers it has.
-pub fn names_ok(s: &[u8]) -> bool
+fn names_in_full(s: &[u8]) -> bool
     requires { ⌜ (length (now s) ≤ frameLimit) × ((t : Tree) × IsAt (now s) predicate 0 t (length (now s))) ⌝ }
     ensures { λ r. ⌜ ((t : Tree) → IsAt (now (s .entry)) predicate 0 t (length (now (s .entry))) → r ≡ namesAgree t) ⌝ }
 {
     let mut table = [0u16; 65536];
-    note_nodes(s, 0, &mut table)
+    let a = note_nodes(s, 0, &mut table);
+    match a {
+        Names::Agree => true,
+        Names::Differ => false,
+        Names::Undecided => false,
+    }
+}
+
+// The same. Nearly all frames have small numbers only, and a small table is cleared in less time than such a frame is read.
+pub fn names_ok(s: &[u8]) -> bool
+    requires { ⌜ (length (now s) ≤ frameLimit) × ((t : Tree) × IsAt (now s) predicate 0 t (length (now s))) ⌝ }
+    ensures { λ r. ⌜ ((t : Tree) → IsAt (now (s .entry)) predicate 0 t (length (now (s .entry))) → r ≡ namesAgree t) ⌝ }
+{
+    let mut table = [0u16; 256];
+    let a = note_nodes(s, 0, &mut table);
+    match a {
+        Names::Agree => true,
+        Names::Differ => false,
+        Names::Undecided => names_in_full(s),
+    }
 }

@@ -1,10 +1,11 @@
-use borrow.Author.Tests.{not-true, not-false}
-use Prim.Native.Nat.{_+_, _-_, _*_}
-use lib.ListN.{length}
-use mathlib.Core.Path.{refl, ap₂}
-use native.Mathlib.Omega.{arith}
+use borrow.Author.Needs.{needs}
+use Rattle.typing.proofs.NotingTypes.{some-room, some-given, some-pow, some-prod, some-leaf, types-end, types-beyond, types-clash, types-given, types-pow, types-prod, types-leaf}
 use Rattle.typing.proofs.Noting.{noted-true, held-then}
-use Rattle.typing.proofs.NotingTypes.{some-room, some-given, some-pow, some-prod, some-leaf, types-end, types-clash, types-given, types-pow, types-prod, types-leaf}
+use native.Mathlib.Omega.{arith}
+use mathlib.Core.Path.{refl, ap₂}
+use lib.ListN.{length}
+use Prim.Native.Nat.{_+_, _-_, _*_}
+use borrow.Author.Tests.{not-true, not-false}
 use Prim.Native.Nat.{ℕ, _<_}
 use borrow.Fn.Kinds.{In}
 use borrow.Fn.PlainCycle.{Measures, is, falls, and}
@@ -27,7 +28,7 @@ abbrev note-types-below : ℕ → In 2 note-types-kinds.ps
 note-types-below t =
     and 2 note-types-kinds.ps (falls 2 note-types-kinds.ps _<_ μ-note-types t) note-types.Pre
 
--- src/identifiers.rt:109:9
+-- src/identifiers.rt:125:9
 note-types-returns : (t : ℕ) → note-types-lts.Need-returns (
   wide-reads.Asked,
   wide-reads.Learnt,
@@ -38,7 +39,7 @@ note-types-returns : (t : ℕ) → note-types-lts.Need-returns (
 ) (note-types-at t) note-types.Post
 note-types-returns t c = types-end _ _ _ _ (c .if1 .taken)
 
--- src/identifiers.rt:111:13
+-- src/identifiers.rt:127:13
 note-types-shared-slice-read-b : (t : ℕ) → note-types-lts.Need-shared-slice-read-b (
   wide-reads.Asked,
   wide-reads.Learnt,
@@ -47,9 +48,9 @@ note-types-shared-slice-read-b : (t : ℕ) → note-types-lts.Need-shared-slice-
   note-types-below t,
   note-types.Post,
 ) (note-types-at t) note-types.Post
-note-types-shared-slice-read-b t c = omega (arith, some-room _ _ _ (c .before .before .before .pre .1 .1))
+note-types-shared-slice-read-b t c = omega (arith, some-room _ _ _ (c .before .before .before .before .pre .1 .1))
 
--- src/identifiers.rt:114:41
+-- src/identifiers.rt:130:41
 note-types-add-wide : (t : ℕ) → note-types-lts.Need-add-wide (
   wide-reads.Asked,
   wide-reads.Learnt,
@@ -58,9 +59,9 @@ note-types-add-wide : (t : ℕ) → note-types-lts.Need-add-wide (
   note-types-below t,
   note-types.Post,
 ) (note-types-at t) note-types.Post
-note-types-add-wide t c = omega (arith, some-room _ _ _ (c .before .before .before .before .pre .1 .1))
+note-types-add-wide t c = omega (arith, some-room _ _ _ (c .before .before .before .before .before .pre .1 .1))
 
--- src/identifiers.rt:114:39
+-- src/identifiers.rt:130:39
 note-types-shared-slice-read-wide : (t : ℕ) → note-types-lts.Need-shared-slice-read-wide (
   wide-reads.Asked,
   wide-reads.Learnt,
@@ -69,9 +70,9 @@ note-types-shared-slice-read-wide : (t : ℕ) → note-types-lts.Need-shared-sli
   note-types-below t,
   note-types.Post,
 ) (note-types-at t) note-types.Post
-note-types-shared-slice-read-wide t c = omega (arith, some-given _ _ _ (c .before .before .before .if1 .left) (c .before .match .keys1) (c .before .before .before .before .before .pre .1 .1) .0)
+note-types-shared-slice-read-wide t c = omega (arith, some-given _ _ _ (c .before .before .before .if1 .left) (c .before .match .keys1) (c .before .before .before .before .before .before .pre .1 .1) .0)
 
--- src/identifiers.rt:114:21
+-- src/identifiers.rt:130:21
 note-types-wide-requires : (t : ℕ) → note-types-lts.Need-wide-requires (
   wide-reads.Asked,
   wide-reads.Learnt,
@@ -82,7 +83,7 @@ note-types-wide-requires : (t : ℕ) → note-types-lts.Need-wide-requires (
 ) (note-types-at t) note-types.Post
 note-types-wide-requires t c κs = tt
 
--- src/identifiers.rt:114:21
+-- src/identifiers.rt:130:21
 note-types-mul-n : (t : ℕ) → note-types-lts.Need-mul-n (
   wide-reads.Asked,
   wide-reads.Learnt,
@@ -93,7 +94,7 @@ note-types-mul-n : (t : ℕ) → note-types-lts.Need-mul-n (
 ) (note-types-at t) note-types.Post
 note-types-mul-n t c = omega arith
 
--- src/identifiers.rt:114:78
+-- src/identifiers.rt:130:78
 note-types-add-wide-2 : (t : ℕ) → note-types-lts.Need-add-wide-2 (
   wide-reads.Asked,
   wide-reads.Learnt,
@@ -102,9 +103,9 @@ note-types-add-wide-2 : (t : ℕ) → note-types-lts.Need-add-wide-2 (
   note-types-below t,
   note-types.Post,
 ) (note-types-at t) note-types.Post
-note-types-add-wide-2 t c = omega (arith, some-room _ _ _ (c .before .before .before .before .before .before .pre .1 .1))
+note-types-add-wide-2 t c = omega (arith, some-room _ _ _ (c .before .before .before .before .before .before .before .pre .1 .1))
 
--- src/identifiers.rt:114:76
+-- src/identifiers.rt:130:76
 note-types-shared-slice-read-wide-2 : (t : ℕ) → note-types-lts.Need-shared-slice-read-wide-2 (
   wide-reads.Asked,
   wide-reads.Learnt,
@@ -113,9 +114,9 @@ note-types-shared-slice-read-wide-2 : (t : ℕ) → note-types-lts.Need-shared-s
   note-types-below t,
   note-types.Post,
 ) (note-types-at t) note-types.Post
-note-types-shared-slice-read-wide-2 t c = omega (arith, some-given _ _ _ (c .before .before .before .before .before .if1 .left) (c .before .before .before .match .keys1) (c .before .before .before .before .before .before .before .pre .1 .1) .0)
+note-types-shared-slice-read-wide-2 t c = omega (arith, some-given _ _ _ (c .before .before .before .before .before .if1 .left) (c .before .before .before .match .keys1) (c .before .before .before .before .before .before .before .before .pre .1 .1) .0)
 
--- src/identifiers.rt:114:58
+-- src/identifiers.rt:130:58
 note-types-wide-requires-2 : (t : ℕ) → note-types-lts.Need-wide-requires-2 (
   wide-reads.Asked,
   wide-reads.Learnt,
@@ -126,7 +127,7 @@ note-types-wide-requires-2 : (t : ℕ) → note-types-lts.Need-wide-requires-2 (
 ) (note-types-at t) note-types.Post
 note-types-wide-requires-2 t c κs = tt
 
--- src/identifiers.rt:114:21
+-- src/identifiers.rt:130:21
 note-types-add-n : (t : ℕ) → note-types-lts.Need-add-n (
   wide-reads.Asked,
   wide-reads.Learnt,
@@ -137,18 +138,7 @@ note-types-add-n : (t : ℕ) → note-types-lts.Need-add-n (
 ) (note-types-at t) note-types.Post
 note-types-add-n t c = omega arith
 
--- src/identifiers.rt:115:17
-note-types-note-given-requires : (t : ℕ) → note-types-lts.Need-note-given-requires (
-  wide-reads.Asked,
-  wide-reads.Learnt,
-  note-given-reads.Asked,
-  note-given-reads.Learnt,
-  note-types-below t,
-  note-types.Post,
-) (note-types-at t) note-types.Post
-note-types-note-given-requires t c κs = (omega arith, c .before .before .before .before .before .before .before .before .before .pre .1 .0)
-
--- src/identifiers.rt:117:17
+-- src/identifiers.rt:132:17
 note-types-returns-2 : (t : ℕ) → note-types-lts.Need-returns-2 (
   wide-reads.Asked,
   wide-reads.Learnt,
@@ -157,9 +147,42 @@ note-types-returns-2 : (t : ℕ) → note-types-lts.Need-returns-2 (
   note-types-below t,
   note-types.Post,
 ) (note-types-at t) note-types.Post
-note-types-returns-2 t c = types-clash _ _ _ (c .before .before .before .before .before .before .before .before .before .if1 .left) _ (c .before .before .before .before .before .before .before .match .keys1) _ _ _ (c .before .note-given .ensures) (not-true _ (c .if2 .taken)) (ap₂ (λ (a b : ℕ). a * 256 + b) (c .before .before .before .before .before .wide .ensures .0) (c .before .before .before .wide2 .ensures .0))
+note-types-returns-2 t c = types-beyond _ _ _ _ (omega arith)
 
--- src/identifiers.rt:119:27
+-- src/identifiers.rt:134:17
+note-types-note-given-requires : (t : ℕ) → note-types-lts.Need-note-given-requires (
+  wide-reads.Asked,
+  wide-reads.Learnt,
+  note-given-reads.Asked,
+  note-given-reads.Learnt,
+  note-types-below t,
+  note-types.Post,
+) (note-types-at t) note-types.Post
+note-types-note-given-requires t c κs = (omega arith, omega arith, c .before .before .before .before .before .before .before .before .before .before .before .pre .1 .0)
+
+-- src/identifiers.rt:136:17
+note-types-same-length : (t : ℕ) → note-types-lts.Need-same-length (
+  wide-reads.Asked,
+  wide-reads.Learnt,
+  note-given-reads.Asked,
+  note-given-reads.Learnt,
+  note-types-below t,
+  note-types.Post,
+) (note-types-at t) note-types.Post
+note-types-same-length t c = search needs
+
+-- src/identifiers.rt:136:17
+note-types-returns-3 : (t : ℕ) → note-types-lts.Need-returns-3 (
+  wide-reads.Asked,
+  wide-reads.Learnt,
+  note-given-reads.Asked,
+  note-given-reads.Learnt,
+  note-types-below t,
+  note-types.Post,
+) (note-types-at t) note-types.Post
+note-types-returns-3 t c = types-clash _ _ _ (c .before .before .before .before .before .before .before .before .before .before .before .before .if1 .left) _ (c .before .before .before .before .before .before .before .before .before .before .match .keys1) _ _ _ (c .before .before .before .note-given .ensures) (not-true _ (c .if3 .taken)) (ap₂ (λ (a b : ℕ). a * 256 + b) (c .before .before .before .before .before .before .before .before .wide .ensures .0) (c .before .before .before .before .before .before .wide2 .ensures .0))
+
+-- src/identifiers.rt:138:27
 note-types-add-note-types : (t : ℕ) → note-types-lts.Need-add-note-types (
   wide-reads.Asked,
   wide-reads.Learnt,
@@ -168,9 +191,9 @@ note-types-add-note-types : (t : ℕ) → note-types-lts.Need-add-note-types (
   note-types-below t,
   note-types.Post,
 ) (note-types-at t) note-types.Post
-note-types-add-note-types t c = omega (arith, some-given _ _ _ (c .before .before .before .before .before .before .before .before .before .if1 .left) (c .before .before .before .before .before .before .before .match .keys1) (c .before .before .before .before .before .before .before .before .before .before .before .pre .1 .1) .0)
+note-types-add-note-types t c = omega (arith, some-given _ _ _ (c .before .before .before .before .before .before .before .before .before .before .before .before .if1 .left) (c .before .before .before .before .before .before .before .before .before .before .match .keys1) (c .before .before .before .before .before .before .before .before .before .before .before .before .before .before .before .pre .1 .1) .0)
 
--- src/identifiers.rt:119:35
+-- src/identifiers.rt:138:35
 note-types-sub-note-types : (t : ℕ) → note-types-lts.Need-sub-note-types (
   wide-reads.Asked,
   wide-reads.Learnt,
@@ -181,7 +204,7 @@ note-types-sub-note-types : (t : ℕ) → note-types-lts.Need-sub-note-types (
 ) (note-types-at t) note-types.Post
 note-types-sub-note-types t c = omega arith
 
--- src/identifiers.rt:119:13
+-- src/identifiers.rt:138:13
 note-types-note-types-requires : (t : ℕ) → note-types-lts.Need-note-types-requires (
   wide-reads.Asked,
   wide-reads.Learnt,
@@ -190,9 +213,9 @@ note-types-note-types-requires : (t : ℕ) → note-types-lts.Need-note-types-re
   note-types-below t,
   note-types.Post,
 ) (note-types-at t) note-types.Post
-note-types-note-types-requires t c κs = let h = c .before .before .before .before .before .before .before .before .before .before .before .before .pre .1 .0 in (omega (arith, some-room _ _ _ (c .before .before .before .before .before .before .before .before .before .before .before .before .pre .1 .1)), (held-then _ _ _ _ h (noted-true _ _ _ _ _ (c .before .before .note-given .ensures) (not-false _ (c .before .if2 .left))), some-given _ _ _ (c .before .before .before .before .before .before .before .before .before .before .if1 .left) (c .before .before .before .before .before .before .before .before .match .keys1) (c .before .before .before .before .before .before .before .before .before .before .before .before .pre .1 .1) .1))
+note-types-note-types-requires t c κs = let h = c .before .before .before .before .before .before .before .before .before .before .before .before .before .before .before .before .pre .1 .0 in (omega (arith, some-room _ _ _ (c .before .before .before .before .before .before .before .before .before .before .before .before .before .before .before .before .pre .1 .1)), (held-then _ _ _ _ h (noted-true _ _ _ _ _ (c .before .before .before .before .note-given .ensures) (not-false _ (c .before .if3 .left))), some-given _ _ _ (c .before .before .before .before .before .before .before .before .before .before .before .before .before .if1 .left) (c .before .before .before .before .before .before .before .before .before .before .before .match .keys1) (c .before .before .before .before .before .before .before .before .before .before .before .before .before .before .before .before .pre .1 .1) .1))
 
--- src/identifiers.rt:121:28
+-- src/identifiers.rt:140:28
 note-types-add-note-types-2 : (t : ℕ) → note-types-lts.Need-add-note-types-2 (
   wide-reads.Asked,
   wide-reads.Learnt,
@@ -201,9 +224,9 @@ note-types-add-note-types-2 : (t : ℕ) → note-types-lts.Need-add-note-types-2
   note-types-below t,
   note-types.Post,
 ) (note-types-at t) note-types.Post
-note-types-add-note-types-2 t c = omega (arith, some-room _ _ _ (c .before .before .before .before .pre .1 .1))
+note-types-add-note-types-2 t c = omega (arith, some-room _ _ _ (c .before .before .before .before .before .pre .1 .1))
 
--- src/identifiers.rt:121:14
+-- src/identifiers.rt:140:14
 note-types-note-types-requires-2 : (t : ℕ) → note-types-lts.Need-note-types-requires-2 (
   wide-reads.Asked,
   wide-reads.Learnt,
@@ -212,9 +235,9 @@ note-types-note-types-requires-2 : (t : ℕ) → note-types-lts.Need-note-types-
   note-types-below t,
   note-types.Post,
 ) (note-types-at t) note-types.Post
-note-types-note-types-requires-2 t c κs = (omega (arith, some-room _ _ _ (c .before .before .before .before .before .pre .1 .1)), (c .before .before .before .before .before .pre .1 .0, some-pow _ _ _ (c .before .before .before .if1 .left) (c .before .match .keys2) (c .before .before .before .before .before .pre .1 .1)))
+note-types-note-types-requires-2 t c κs = (omega (arith, some-room _ _ _ (c .before .before .before .before .before .before .pre .1 .1)), (c .before .before .before .before .before .before .pre .1 .0, some-pow _ _ _ (c .before .before .before .if1 .left) (c .before .match .keys2) (c .before .before .before .before .before .before .pre .1 .1)))
 
--- src/identifiers.rt:122:28
+-- src/identifiers.rt:141:28
 note-types-add-note-types-3 : (t : ℕ) → note-types-lts.Need-add-note-types-3 (
   wide-reads.Asked,
   wide-reads.Learnt,
@@ -223,9 +246,9 @@ note-types-add-note-types-3 : (t : ℕ) → note-types-lts.Need-add-note-types-3
   note-types-below t,
   note-types.Post,
 ) (note-types-at t) note-types.Post
-note-types-add-note-types-3 t c = omega (arith, some-room _ _ _ (c .before .before .before .before .pre .1 .1))
+note-types-add-note-types-3 t c = omega (arith, some-room _ _ _ (c .before .before .before .before .before .pre .1 .1))
 
--- src/identifiers.rt:122:36
+-- src/identifiers.rt:141:36
 note-types-add-note-types-4 : (t : ℕ) → note-types-lts.Need-add-note-types-4 (
   wide-reads.Asked,
   wide-reads.Learnt,
@@ -234,9 +257,9 @@ note-types-add-note-types-4 : (t : ℕ) → note-types-lts.Need-add-note-types-4
   note-types-below t,
   note-types.Post,
 ) (note-types-at t) note-types.Post
-note-types-add-note-types-4 t c = omega (arith, some-room _ _ _ (c .before .before .before .before .pre .1 .1))
+note-types-add-note-types-4 t c = omega (arith, some-room _ _ _ (c .before .before .before .before .before .pre .1 .1))
 
--- src/identifiers.rt:122:14
+-- src/identifiers.rt:141:14
 note-types-note-types-requires-3 : (t : ℕ) → note-types-lts.Need-note-types-requires-3 (
   wide-reads.Asked,
   wide-reads.Learnt,
@@ -245,9 +268,9 @@ note-types-note-types-requires-3 : (t : ℕ) → note-types-lts.Need-note-types-
   note-types-below t,
   note-types.Post,
 ) (note-types-at t) note-types.Post
-note-types-note-types-requires-3 t c κs = (omega (arith, some-room _ _ _ (c .before .before .before .before .before .pre .1 .1)), (c .before .before .before .before .before .pre .1 .0, some-prod _ _ _ (c .before .before .before .if1 .left) (c .before .match .keys3) (c .before .before .before .before .before .pre .1 .1)))
+note-types-note-types-requires-3 t c κs = (omega (arith, some-room _ _ _ (c .before .before .before .before .before .before .pre .1 .1)), (c .before .before .before .before .before .before .pre .1 .0, some-prod _ _ _ (c .before .before .before .if1 .left) (c .before .match .keys3) (c .before .before .before .before .before .before .pre .1 .1)))
 
--- src/identifiers.rt:123:28
+-- src/identifiers.rt:142:28
 note-types-add-note-types-5 : (t : ℕ) → note-types-lts.Need-add-note-types-5 (
   wide-reads.Asked,
   wide-reads.Learnt,
@@ -256,9 +279,9 @@ note-types-add-note-types-5 : (t : ℕ) → note-types-lts.Need-add-note-types-5
   note-types-below t,
   note-types.Post,
 ) (note-types-at t) note-types.Post
-note-types-add-note-types-5 t c = omega (arith, some-room _ _ _ (c .before .before .before .before .pre .1 .1))
+note-types-add-note-types-5 t c = omega (arith, some-room _ _ _ (c .before .before .before .before .before .pre .1 .1))
 
--- src/identifiers.rt:123:36
+-- src/identifiers.rt:142:36
 note-types-sub-note-types-2 : (t : ℕ) → note-types-lts.Need-sub-note-types-2 (
   wide-reads.Asked,
   wide-reads.Learnt,
@@ -269,7 +292,7 @@ note-types-sub-note-types-2 : (t : ℕ) → note-types-lts.Need-sub-note-types-2
 ) (note-types-at t) note-types.Post
 note-types-sub-note-types-2 t c = omega arith
 
--- src/identifiers.rt:123:14
+-- src/identifiers.rt:142:14
 note-types-note-types-requires-4 : (t : ℕ) → note-types-lts.Need-note-types-requires-4 (
   wide-reads.Asked,
   wide-reads.Learnt,
@@ -278,10 +301,10 @@ note-types-note-types-requires-4 : (t : ℕ) → note-types-lts.Need-note-types-
   note-types-below t,
   note-types.Post,
 ) (note-types-at t) note-types.Post
-note-types-note-types-requires-4 t c κs = (omega (arith, some-room _ _ _ (c .before .before .before .before .before .pre .1 .1)), (c .before .before .before .before .before .pre .1 .0, some-leaf _ _ _ (c .before .before .before .if1 .left) (c .before .match .rest .0 .0 .1) (c .before .match .rest .0 .1) (c .before .match .rest .1) (c .before .before .before .before .before .pre .1 .1)))
+note-types-note-types-requires-4 t c κs = (omega (arith, some-room _ _ _ (c .before .before .before .before .before .before .pre .1 .1)), (c .before .before .before .before .before .before .pre .1 .0, some-leaf _ _ _ (c .before .before .before .if1 .left) (c .before .match .rest .0 .0 .1) (c .before .match .rest .0 .1) (c .before .match .rest .1) (c .before .before .before .before .before .before .pre .1 .1)))
 
--- src/identifiers.rt:104:1
-note-types-returns-3 : (t : ℕ) → note-types-lts.Need-returns-3 (
+-- src/identifiers.rt:120:1
+note-types-same-length-2 : (t : ℕ) → note-types-lts.Need-same-length-2 (
   wide-reads.Asked,
   wide-reads.Learnt,
   note-given-reads.Asked,
@@ -289,9 +312,9 @@ note-types-returns-3 : (t : ℕ) → note-types-lts.Need-returns-3 (
   note-types-below t,
   note-types.Post,
 ) (note-types-at t) note-types.Post
-note-types-returns-3 t c = types-given _ _ _ (c .before .before .before .before .before .before .before .before .before .before .before .if1 .left) _ _ _ (c .before .before .before .before .before .before .before .before .before .match .keys1) _ _ _ (c .before .before .before .note-given .ensures) (not-false _ (c .before .before .if2 .left)) (ap₂ (λ (a b : ℕ). a * 256 + b) (c .before .before .before .before .before .before .before .wide .ensures .0) (c .before .before .before .before .before .wide2 .ensures .0)) (c .note-types .ensures)
+note-types-same-length-2 t c = search needs
 
--- src/identifiers.rt:104:1
+-- src/identifiers.rt:120:1
 note-types-returns-4 : (t : ℕ) → note-types-lts.Need-returns-4 (
   wide-reads.Asked,
   wide-reads.Learnt,
@@ -300,9 +323,20 @@ note-types-returns-4 : (t : ℕ) → note-types-lts.Need-returns-4 (
   note-types-below t,
   note-types.Post,
 ) (note-types-at t) note-types.Post
-note-types-returns-4 t c = types-pow _ _ _ (c .before .before .before .before .if1 .left) _ _ _ (c .before .before .match .keys2) (c .note-types2 .ensures)
+note-types-returns-4 t c = types-given _ _ _ (c .before .before .before .before .before .before .before .before .before .before .before .before .before .before .before .before .if1 .left) _ _ _ (c .before .before .before .before .before .before .before .before .before .before .before .before .before .before .match .keys1) _ _ _ (c .before .before .before .before .before .before .before .note-given .ensures) (not-false _ (c .before .before .before .before .if3 .left)) (ap₂ (λ (a b : ℕ). a * 256 + b) (c .before .before .before .before .before .before .before .before .before .before .before .before .wide .ensures .0) (c .before .before .before .before .before .before .before .before .before .before .wide2 .ensures .0)) (c .before .before .note-types .ensures)
 
--- src/identifiers.rt:104:1
+-- src/identifiers.rt:120:1
+note-types-same-length-3 : (t : ℕ) → note-types-lts.Need-same-length-3 (
+  wide-reads.Asked,
+  wide-reads.Learnt,
+  note-given-reads.Asked,
+  note-given-reads.Learnt,
+  note-types-below t,
+  note-types.Post,
+) (note-types-at t) note-types.Post
+note-types-same-length-3 t c = search needs
+
+-- src/identifiers.rt:120:1
 note-types-returns-5 : (t : ℕ) → note-types-lts.Need-returns-5 (
   wide-reads.Asked,
   wide-reads.Learnt,
@@ -311,9 +345,20 @@ note-types-returns-5 : (t : ℕ) → note-types-lts.Need-returns-5 (
   note-types-below t,
   note-types.Post,
 ) (note-types-at t) note-types.Post
-note-types-returns-5 t c = types-prod _ _ _ (c .before .before .before .before .if1 .left) _ _ _ (c .before .before .match .keys3) (c .note-types3 .ensures)
+note-types-returns-5 t c = types-pow _ _ _ (c .before .before .before .before .before .before .if1 .left) _ _ _ (c .before .before .before .before .match .keys2) (c .before .before .note-types2 .ensures)
 
--- src/identifiers.rt:104:1
+-- src/identifiers.rt:120:1
+note-types-same-length-4 : (t : ℕ) → note-types-lts.Need-same-length-4 (
+  wide-reads.Asked,
+  wide-reads.Learnt,
+  note-given-reads.Asked,
+  note-given-reads.Learnt,
+  note-types-below t,
+  note-types.Post,
+) (note-types-at t) note-types.Post
+note-types-same-length-4 t c = search needs
+
+-- src/identifiers.rt:120:1
 note-types-returns-6 : (t : ℕ) → note-types-lts.Need-returns-6 (
   wide-reads.Asked,
   wide-reads.Learnt,
@@ -322,7 +367,29 @@ note-types-returns-6 : (t : ℕ) → note-types-lts.Need-returns-6 (
   note-types-below t,
   note-types.Post,
 ) (note-types-at t) note-types.Post
-note-types-returns-6 t c = types-leaf _ _ _ (c .before .before .before .before .if1 .left) _ _ _ (c .before .before .match .rest .0 .0 .1) (c .before .before .match .rest .0 .1) (c .before .before .match .rest .1) (c .note-types4 .ensures)
+note-types-returns-6 t c = types-prod _ _ _ (c .before .before .before .before .before .before .if1 .left) _ _ _ (c .before .before .before .before .match .keys3) (c .before .before .note-types3 .ensures)
+
+-- src/identifiers.rt:120:1
+note-types-same-length-5 : (t : ℕ) → note-types-lts.Need-same-length-5 (
+  wide-reads.Asked,
+  wide-reads.Learnt,
+  note-given-reads.Asked,
+  note-given-reads.Learnt,
+  note-types-below t,
+  note-types.Post,
+) (note-types-at t) note-types.Post
+note-types-same-length-5 t c = search needs
+
+-- src/identifiers.rt:120:1
+note-types-returns-7 : (t : ℕ) → note-types-lts.Need-returns-7 (
+  wide-reads.Asked,
+  wide-reads.Learnt,
+  note-given-reads.Asked,
+  note-given-reads.Learnt,
+  note-types-below t,
+  note-types.Post,
+) (note-types-at t) note-types.Post
+note-types-returns-7 t c = types-leaf _ _ _ (c .before .before .before .before .before .before .if1 .left) _ _ _ (c .before .before .before .before .match .rest .0 .0 .1) (c .before .before .before .before .match .rest .0 .1) (c .before .before .before .before .match .rest .1) (c .before .before .note-types4 .ensures)
 
 pub +note-types-spec : {M : Type 1} → statement M
 +note-types-spec = close μ-note-types λ t. note-types-lts.spec (
@@ -345,8 +412,10 @@ pub +note-types-spec : {M : Type 1} → statement M
     (note-types-shared-slice-read-wide-2 t)
     (note-types-wide-requires-2 t)
     (note-types-add-n t)
-    (note-types-note-given-requires t)
     (note-types-returns-2 t)
+    (note-types-note-given-requires t)
+    (note-types-same-length t)
+    (note-types-returns-3 t)
     (note-types-add-note-types t)
     (note-types-sub-note-types t)
     (note-types-note-types-requires t)
@@ -358,7 +427,11 @@ pub +note-types-spec : {M : Type 1} → statement M
     (note-types-add-note-types-5 t)
     (note-types-sub-note-types-2 t)
     (note-types-note-types-requires-4 t)
-    (note-types-returns-3 t)
+    (note-types-same-length-2 t)
     (note-types-returns-4 t)
+    (note-types-same-length-3 t)
     (note-types-returns-5 t)
+    (note-types-same-length-4 t)
     (note-types-returns-6 t)
+    (note-types-same-length-5 t)
+    (note-types-returns-7 t)

@@ -1,18 +1,59 @@
+use Rattle.typing.proofs.NotingNodes.{frame-rest, names-agree, names-differ}
 use Rattle.typing.proofs.Noting.{told-none}
-use Rattle.typing.proofs.NotingNodes.{frame-rest, names-answer}
+use borrow.Author.Needs.{needs}
 use Rattle.typing.proofs.identifiers.names_ok.Statement.{statement}
 use Rattle.typing.proofs.identifiers.names_ok.Tie as tie
 use Rattle.typing.proofs.identifiers.names_ok.Reads as reads
 use Rattle.typing.proofs.identifiers.names_ok.Lts as lts
+use Rattle.typing.proofs.identifiers.names_in_full.Reads as names-in-full-reads
 use Rattle.typing.proofs.identifiers.note_nodes.Reads as note-nodes-reads
 
--- src/identifiers.rt:168:5
-note-nodes-requires : tie.Need-note-nodes-requires
-note-nodes-requires c κs = (record { fits = c .before .before .pre .0; done = _; told = told-none _ }, (_, _, frame-rest _ (λ i. c .before .shared-slice-known .given i .fits) (c .before .before .pre .1 .0) (c .before .before .pre .1 .1)))
+-- src/identifiers.rt:200:30
+slice-aggregate-note-nodes : tie.Need-slice-aggregate-note-nodes
+slice-aggregate-note-nodes c = search needs
 
--- src/identifiers.rt:163:1
+-- src/identifiers.rt:200:9
+note-nodes-requires : tie.Need-note-nodes-requires
+note-nodes-requires c κs = (record { fits = c .before .before .pre .0; done = _; told = told-none _ 256 }, (_, _, frame-rest _ (λ i. c .before .shared-slice-known .given i .fits) (c .before .before .pre .1 .0) (c .before .before .pre .1 .1)))
+
+-- src/identifiers.rt:202:25
+enum-told : tie.Need-enum-told
+enum-told c = search needs
+
+-- src/identifiers.rt:203:26
+enum-told-2 : tie.Need-enum-told-2
+enum-told-2 c = search needs
+
+-- src/identifiers.rt:204:29
+enum-told-3 : tie.Need-enum-told-3
+enum-told-3 c = search needs
+
+-- src/identifiers.rt:204:29
+names-in-full-requires : tie.Need-names-in-full-requires
+names-in-full-requires c κs = search needs
+
+-- src/identifiers.rt:195:1
 returns : tie.Need-returns
-returns c = names-answer _ (λ i. c .before .before .shared-slice-known .given i .fits) _ _ (c .note-nodes .ensures)
+returns c = λ t a. names-agree _ (λ i. c .before .before .before .before .before .shared-slice-known .given i .fits) 256 _ _ (c .before .before .before .note-nodes .ensures) t a (c .enum-told .given .1)
+
+-- src/identifiers.rt:195:1
+returns-2 : tie.Need-returns-2
+returns-2 c = λ t a. names-differ _ (λ i. c .before .before .before .before .before .shared-slice-known .given i .fits) 256 _ _ (c .before .before .before .note-nodes .ensures) t a (c .enum-told2 .given .1)
+
+-- src/identifiers.rt:195:1
+returns-3 : tie.Need-returns-3
+returns-3 c = c .names-in-full .ensures
 
 pub names-ok-spec : {M : Type 1} → statement M
-names-ok-spec = tie.close (tie.spec note-nodes-requires returns)
+names-ok-spec =
+    tie.close
+    (tie.spec
+    slice-aggregate-note-nodes
+    note-nodes-requires
+    enum-told
+    enum-told-2
+    enum-told-3
+    names-in-full-requires
+    returns
+    returns-2
+    returns-3)

@@ -8,54 +8,59 @@ use Rattle.typing.proofs.identifiers.note_given.Lts as lts
 use Rattle.typing.proofs.identifiers.is_power.Reads as is-power-reads
 use Rattle.typing.proofs.identifiers.wide_entry.Reads as wide-entry-reads
 
--- src/identifiers.rt:92:17
+-- src/identifiers.rt:108:17
 mul-entry : tie.Need-mul-entry
 mul-entry c = search needs
 
--- src/identifiers.rt:92:17
-element-copy-out-entry : tie.Need-element-copy-out-entry
-element-copy-out-entry c = search needs
+-- src/identifiers.rt:108:17
+slice-read-entry : tie.Need-slice-read-entry
+slice-read-entry c = search needs
 
--- src/identifiers.rt:94:9
+-- src/identifiers.rt:110:9
 mul-table : tie.Need-mul-table
 mul-table c = search needs
 
--- src/identifiers.rt:94:9
-element-write-table : tie.Need-element-write-table
-element-write-table c = search needs
+-- src/identifiers.rt:110:9
+slice-write-table : tie.Need-slice-write-table
+slice-write-table c = search needs
 
--- src/identifiers.rt:95:9
+-- src/identifiers.rt:111:9
+same-length : tie.Need-same-length
+same-length c = search needs
+
+-- src/identifiers.rt:111:9
 returns : tie.Need-returns
-returns c = given-new _ _ _ (c .before .before .before .pre .0) (c .if1 .taken)
+returns c = given-new _ _ _ (c .before .before .before .before .pre .1) (c .if1 .taken)
 
--- src/identifiers.rt:98:9
+-- src/identifiers.rt:114:9
 returns-2 : tie.Need-returns-2
 returns-2 c = given-mark _ _ _ (c .if2 .taken)
 
--- src/identifiers.rt:100:17
+-- src/identifiers.rt:116:17
 wide-entry-requires : tie.Need-wide-entry-requires
 wide-entry-requires c κs = search needs
 
--- src/identifiers.rt:100:17
+-- src/identifiers.rt:116:17
 sub-is-power : tie.Need-sub-is-power
 sub-is-power c = search needs
 
--- src/identifiers.rt:100:5
+-- src/identifiers.rt:116:5
 is-power-requires : tie.Need-is-power-requires
-is-power-requires c κs = (entry-place _ _ _ (c .before .before .before .before .before .pre .1) (c .before .before .if1 .left) (c .before .if2 .left) _ (c .wide-entry .ensures) .0, c .before .before .before .before .before .pre .1 .fits, c .before .before .before .before .before .pre .0)
+is-power-requires c κs = (entry-place _ _ _ (c .before .before .before .before .before .before .pre .2) (c .before .before .if1 .left) (c .before .if2 .left) _ (c .wide-entry .ensures) .0, c .before .before .before .before .before .before .pre .2 .fits, c .before .before .before .before .before .before .pre .0)
 
--- src/identifiers.rt:88:1
+-- src/identifiers.rt:104:1
 returns-3 : tie.Need-returns-3
-returns-3 c = given-place _ _ _ (c .before .before .before .before .before .before .pre .1) (c .before .before .before .if1 .left) (c .before .before .if2 .left) _ (c .before .wide-entry .ensures) _ (c .is-power .ensures)
+returns-3 c = given-place _ _ _ (c .before .before .before .before .before .before .before .pre .2) (c .before .before .before .if1 .left) (c .before .before .if2 .left) _ (c .before .wide-entry .ensures) _ (c .is-power .ensures)
 
 pub note-given-spec : {M : Type 1} → statement M
 note-given-spec =
     tie.close
     (tie.spec
     mul-entry
-    element-copy-out-entry
+    slice-read-entry
     mul-table
-    element-write-table
+    slice-write-table
+    same-length
     returns
     returns-2
     wide-entry-requires

@@ -9,68 +9,73 @@ use Rattle.typing.proofs.identifiers.is_power.Reads as is-power-reads
 use Rattle.typing.proofs.identifiers.same_type.Reads as same-type-reads
 use Rattle.typing.proofs.identifiers.wide_entry.Reads as wide-entry-reads
 
--- src/identifiers.rt:76:17
+-- src/identifiers.rt:92:17
 mul-entry : tie.Need-mul-entry
 mul-entry c = search needs
 
--- src/identifiers.rt:76:17
-element-copy-out-entry : tie.Need-element-copy-out-entry
-element-copy-out-entry c = search needs
+-- src/identifiers.rt:92:17
+slice-read-entry : tie.Need-slice-read-entry
+slice-read-entry c = search needs
 
--- src/identifiers.rt:78:21
+-- src/identifiers.rt:94:21
 add-table : tie.Need-add-table
-add-table c = let l = type-room _ _ _ (c .before .before .before .pre .1 .fits) (c .before .before .before .pre .2) in omega arith
+add-table c = let l = type-room _ _ _ (c .before .before .before .before .pre .2 .fits) (c .before .before .before .before .pre .3) in omega arith
 
--- src/identifiers.rt:78:20
+-- src/identifiers.rt:94:20
 cast-table : tie.Need-cast-table
-cast-table c = let l = type-room _ _ _ (c .before .before .before .pre .1 .fits) (c .before .before .before .pre .2) in omega arith
+cast-table c = let l = type-room _ _ _ (c .before .before .before .before .pre .2 .fits) (c .before .before .before .before .pre .3) in omega arith
 
--- src/identifiers.rt:78:9
+-- src/identifiers.rt:94:9
 mul-table : tie.Need-mul-table
 mul-table c = search needs
 
--- src/identifiers.rt:78:9
-element-write-table : tie.Need-element-write-table
-element-write-table c = search needs
+-- src/identifiers.rt:94:9
+slice-write-table : tie.Need-slice-write-table
+slice-write-table c = search needs
 
--- src/identifiers.rt:79:9
+-- src/identifiers.rt:95:9
+same-length : tie.Need-same-length
+same-length c = search needs
+
+-- src/identifiers.rt:95:9
 returns : tie.Need-returns
-returns c = let l = type-room _ _ _ (c .before .before .before .pre .1 .fits) (c .before .before .before .pre .2) in name-new _ _ _ _ _ (c .before .before .before .pre .0) (l .2) (c .if1 .taken)
+returns c = let l = type-room _ _ _ (c .before .before .before .before .pre .2 .fits) (c .before .before .before .before .pre .3) in name-new _ _ _ _ _ (c .before .before .before .before .pre .1) (l .2) (c .if1 .taken)
 
--- src/identifiers.rt:82:9
+-- src/identifiers.rt:98:9
 is-power-requires : tie.Need-is-power-requires
-is-power-requires c κs = let l = type-room _ _ _ (c .before .before .before .before .pre .1 .fits) (c .before .before .before .before .pre .2) in (omega arith, c .before .before .before .before .pre .1 .fits, c .before .before .before .before .pre .0)
+is-power-requires c κs = let l = type-room _ _ _ (c .before .before .before .before .before .pre .2 .fits) (c .before .before .before .before .before .pre .3) in (omega arith, c .before .before .before .before .before .pre .2 .fits, c .before .before .before .before .before .pre .0)
 
--- src/identifiers.rt:82:9
+-- src/identifiers.rt:98:9
 returns-2 : tie.Need-returns-2
-returns-2 c = name-mark _ _ _ _ _ (c .before .before .before .before .before .pre .0) (c .before .if2 .taken) _ (c .is-power .ensures)
+returns-2 c = name-mark _ _ _ _ _ (c .before .before .before .before .before .before .pre .0) (c .before .if2 .taken) _ (c .is-power .ensures)
 
--- src/identifiers.rt:84:24
+-- src/identifiers.rt:100:24
 wide-entry-requires : tie.Need-wide-entry-requires
 wide-entry-requires c κs = search needs
 
--- src/identifiers.rt:84:24
+-- src/identifiers.rt:100:24
 sub-same-type : tie.Need-sub-same-type
 sub-same-type c = search needs
 
--- src/identifiers.rt:84:5
+-- src/identifiers.rt:100:5
 same-type-requires : tie.Need-same-type-requires
-same-type-requires c κs = let l = type-room _ _ _ (c .before .before .before .before .before .pre .1 .fits) (c .before .before .before .before .before .pre .2) in (l .0, l .1, entry-place _ _ _ (c .before .before .before .before .before .pre .1) (c .before .before .if1 .left) (c .before .if2 .left) _ (c .wide-entry .ensures) .0, c .before .before .before .before .before .pre .1 .fits)
+same-type-requires c κs = let l = type-room _ _ _ (c .before .before .before .before .before .before .pre .2 .fits) (c .before .before .before .before .before .before .pre .3) in (l .0, l .1, entry-place _ _ _ (c .before .before .before .before .before .before .pre .2) (c .before .before .if1 .left) (c .before .if2 .left) _ (c .wide-entry .ensures) .0, c .before .before .before .before .before .before .pre .2 .fits)
 
--- src/identifiers.rt:72:1
+-- src/identifiers.rt:88:1
 returns-3 : tie.Need-returns-3
-returns-3 c = name-place _ _ _ _ _ (c .before .before .before .before .before .before .pre .1) (c .before .before .before .if1 .left) (c .before .before .if2 .left) _ (c .before .wide-entry .ensures) _ (c .same-type .ensures)
+returns-3 c = name-place _ _ _ _ _ (c .before .before .before .before .before .before .before .pre .2) (c .before .before .before .if1 .left) (c .before .before .if2 .left) _ (c .before .wide-entry .ensures) _ (c .same-type .ensures)
 
 pub note-identifier-spec : {M : Type 1} → statement M
 note-identifier-spec =
     tie.close
     (tie.spec
     mul-entry
-    element-copy-out-entry
+    slice-read-entry
     add-table
     cast-table
     mul-table
-    element-write-table
+    slice-write-table
+    same-length
     returns
     is-power-requires
     returns-2
