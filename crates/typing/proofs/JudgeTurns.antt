@@ -1,22 +1,22 @@
 -- The ways out of `judge_types`: the rule of a class at the types of the operands, step by step.
--- Main results: pair-pattern .. result-pattern (the code's patterns are those of the class); paired-by, fitted-by, lasted-by,
+-- Main results: pairs-pre; paired-by, fitted-by, lasted-by,
 -- done-by (what is known after each call), with what the calls ask for; judge-unpaired, judge-first-off, judge-last-off,
 -- judge-over, judge-typed (the answers).
-use mathlib.Core.Path.{_≡_, refl, sym, ap, _∙_, subst, subst₂}
+use mathlib.Core.Path.{_≡_, refl, sym, ap, _∙_, subst}
 use mathlib.Core.Bool.{Bool, true, false, _&&_}
 use mathlib.Core.List.{List, []}
-use Prim.Native.Nat.{ℕ, _+_, _-_, _*_, _≤_}
+use Prim.Native.Nat.{ℕ, _+_, _-_, _≤_}
 use native.Mathlib.Omega.{arith}
-use lib.ListN.{length, getD, drop}
+use lib.ListN.{length}
 use lib.Dec.{leb}
 use borrow.Author.Tests.{leb-true, leb-false, le-leb, lt-leb}
 use Rattle.frame.specs.Types.{Ty}
-use Rattle.frame.specs.Tags.{pick, Class}
+use Rattle.frame.specs.Tags.{pick}
 use Rattle.frame.specs.Spans.{Spans}
-use Rattle.typing.specs.Patterns.{Matched, fits, differs, matches, Rule, ruleAt, Judged, typed, wrong, completed, allBound, filled, pairsFit, lastOnes, thenMatched, ends, judge, cut}
-use Rattle.typing.specs.RuleNumbers.{ruleNumber}
+use Rattle.typing.specs.Patterns.{Matched, fits, differs, matches, Rule, Judged, typed, wrong, completed, allBound, filled, pairsFit, lastOnes, thenMatched, ends, judge}
+use Rattle.typing.specs.RuleNumbers.{Packed}
 use Rattle.typing.specs.Buffers.{Copied, Apart}
-use Rattle.typing.specs.PatternPosts.{RowAt, Slots, EnvAt, Kept, MatchPre, Matching, MatchPost, Pairing, PairsPost, FillPre, Filling, FillPost, JudgePre, Judging, JudgePost}
+use Rattle.typing.specs.PatternPosts.{RowAt, Slots, EnvAt, Kept, MatchPre, Matching, MatchPost, PairsPre, Pairing, PairsPost, FillPre, Filling, FillPost, JudgePre, Judging, JudgePost}
 use Rattle.typing.specs.declared.patterns.Typed.the-variants as T
 use Rattle.typing.specs.declared.patterns.Fit.{Fit}
 use Rattle.typing.specs.declared.patterns.Fit.the-variants as F
@@ -24,23 +24,11 @@ use Rattle.typing.specs.declared.patterns.Pairs.{Pairs}
 use Rattle.typing.specs.declared.patterns.Pairs.the-variants as P
 use Rattle.typing.specs.declared.patterns.Filled.{Filled}
 use Rattle.typing.specs.declared.patterns.Filled.the-variants as L
-use Rattle.typing.proofs.TagRules.{rows, patterns, row-rule}
 use Rattle.typing.proofs.BufferLaws.{copied-span, apart-down}
 use Rattle.typing.proofs.PairTurns.{env-empty}
 
--- ---- the patterns that the code finds
-module _ (c : Class) (r : ℕ) (er : r ≡ ruleNumber c) (x : ℕ) where
-  pub pair-pattern : x ≡ getD rows (r * 4) 0 → cut (drop x patterns) ≡ ruleAt c .pair
-  pair-pattern e = ap (λ (i : ℕ). cut (drop i patterns)) (e ∙ ap (λ (k : ℕ). getD rows (k * 4) 0) er) ∙ ap (λ (ρ : Rule). ρ .pair) (row-rule c)
-
-  pub first-pattern : x ≡ getD rows (r * 4 + 1) 0 → cut (drop x patterns) ≡ ruleAt c .first
-  first-pattern e = ap (λ (i : ℕ). cut (drop i patterns)) (e ∙ ap (λ (k : ℕ). getD rows (k * 4 + 1) 0) er) ∙ ap (λ (ρ : Rule). ρ .first) (row-rule c)
-
-  pub last-pattern : x ≡ getD rows (r * 4 + 2) 0 → cut (drop x patterns) ≡ ruleAt c .last
-  last-pattern e = ap (λ (i : ℕ). cut (drop i patterns)) (e ∙ ap (λ (k : ℕ). getD rows (k * 4 + 2) 0) er) ∙ ap (λ (ρ : Rule). ρ .last) (row-rule c)
-
-  pub result-pattern : x ≡ getD rows (r * 4 + 3) 0 → cut (drop x patterns) ≡ ruleAt c .result
-  result-pattern e = ap (λ (i : ℕ). cut (drop i patterns)) (e ∙ ap (λ (k : ℕ). getD rows (k * 4 + 3) 0) er) ∙ ap (λ (ρ : Rule). ρ .result) (row-rule c)
+pub pairs-pre : (ps : List ℕ) (p : ℕ) → Packed ps p → {o : List ℕ} {from n : ℕ} {s e : List ℕ} → Slots s e → JudgePre o from n → PairsPre p o from n s e
+pairs-pre ps p pk sl h = record { ps = ps; packed = pk; us = h .ts; row = h .row; slots = sl }
 
 -- ---- one answer each
 paired-of : (b : Bool) (o : List ℕ) (n : ℕ) (ts : List Ty) (s e : List ℕ) (p : ℕ) → Pairing b o n ts s e (P.Last p) → (b ≡ true) × RowAt o p n (lastOnes ts) × Slots s e
@@ -93,25 +81,25 @@ pub record Lasted (R : Rule) (o : List ℕ) (from n : ℕ) (s e : List ℕ) (j :
 pub record Done (R : Rule) (o : List ℕ) (from n : ℕ) (o₁ : List ℕ) (m : ℕ) : Type 0 where
   pub answer : (ts : List Ty) → RowAt o from n ts → (xs : List ℕ) × (judge R ts ≡ typed xs) × (m ≡ n + length xs) × Spans o₁ n m xs × Kept o o₁ n
 
-pairing : (qs : List ℕ) {o : List ℕ} {from n : ℕ} {s₀ e₀ s₁ e₁ : List ℕ} (sl : Slots s₀ e₀) {x : Pairs} {ps : List ℕ} → ps ≡ qs → PairsPost ps o from n s₀ e₀ s₁ e₁ x → (ts : List Ty) (y : Pairs) → RowAt o from n ts → x ≡ y → Pairing (pairsFit qs ts) o n ts s₁ e₁ y
-pairing qs {o} {n = n} {s₁ = s₁} {e₁ = e₁} sl z post ts y row ex = subst₂ (λ (q : List ℕ) (w : Pairs). Pairing (pairsFit q ts) o n ts s₁ e₁ w) z ex (post .answer ts row sl)
+pairing : (ps : List ℕ) {o : List ℕ} {from n : ℕ} {s₀ e₀ s₁ e₁ : List ℕ} (sl : Slots s₀ e₀) {x : Pairs} → PairsPost ps o from n s₀ e₀ s₁ e₁ x → (ts : List Ty) (y : Pairs) → RowAt o from n ts → x ≡ y → Pairing (pairsFit ps ts) o n ts s₁ e₁ y
+pairing ps {o} {n = n} {s₁ = s₁} {e₁ = e₁} sl post ts y row ex = subst (λ (w : Pairs). Pairing (pairsFit ps ts) o n ts s₁ e₁ w) ex (post .answer ts row sl)
 
--- ---- the ways out; `ps` are the code's patterns, those of the rule by `z`
+-- ---- the ways out
 module _ {R : Rule} {o : List ℕ} {from n : ℕ} where
   turned-down : ((ts : List Ty) → RowAt o from n ts → judge R ts ≡ wrong) → (p : List ℕ) → JudgePost R o from n p T.Bad
   turned-down f p = record { answer = λ ts row. subst (λ (j : Judged). Judging j o from p T.Bad) (sym (f ts row)) refl }
 
-  module _ {s₀ e₀ s₁ e₁ : List ℕ} (sl : Slots s₀ e₀) {x : Pairs} {ps : List ℕ} (z : ps ≡ R .pair) (post : PairsPost ps o from n s₀ e₀ s₁ e₁ x) where
+  module _ {s₀ e₀ s₁ e₁ : List ℕ} (sl : Slots s₀ e₀) {x : Pairs} (post : PairsPost (R .pair) o from n s₀ e₀ s₁ e₁ x) where
     pub judge-unpaired : x ≡ P.Differ → (p : List ℕ) → JudgePost R o from n p T.Bad
     unfolding judge
     judge-unpaired ex =
-        turned-down (λ ts row. ap (λ (b : Bool). pick b (ends R ts) wrong) (unpaired-of (pairsFit (R .pair) ts) o n ts s₁ e₁ (pairing (R .pair) sl z post ts P.Differ row ex)))
+        turned-down (λ ts row. ap (λ (b : Bool). pick b (ends R ts) wrong) (unpaired-of (pairsFit (R .pair) ts) o n ts s₁ e₁ (pairing (R .pair) sl post ts P.Differ row ex)))
 
     pub paired-by : {last : ℕ} → x ≡ P.Last last → Paired R o from n s₁ e₁ last
     unfolding judge
     paired-by {last} ex =
         record {
-          answer = λ ts row. (let f = paired-of (pairsFit (R .pair) ts) o n ts s₁ e₁ last (pairing (R .pair) sl z post ts (P.Last last) row ex) in
+          answer = λ ts row. (let f = paired-of (pairsFit (R .pair) ts) o n ts s₁ e₁ last (pairing (R .pair) sl post ts (P.Last last) row ex) in
               (ap (λ (b : Bool). pick b (ends R ts) wrong) (f .0), f .1, f .2));
         }
 
@@ -119,10 +107,10 @@ module _ {R : Rule} {o : List ℕ} {from n : ℕ} where
     pub first-pre : JudgePre o from n → MatchPre o from n s₁ e₁ 0
     first-pre p = record { us = p .ts; ρ = []; row = p .row; env = env-empty o n s₁ e₁ (known .answer (p .ts) (p .row) .2); count = refl }
 
-    module _ {s₂ e₂ : List ℕ} {x : Fit} {ps : List ℕ} (z : ps ≡ R .first) (post : MatchPost ps o from n s₁ e₁ 0 s₂ e₂ x) where
+    module _ {s₂ e₂ : List ℕ} {x : Fit} (post : MatchPost (R .first) o from n s₁ e₁ 0 s₂ e₂ x) where
       firstly : (ts : List Ty) (y : Fit) → RowAt o from n ts → x ≡ y → Matching (matches (R .first) ts []) o n s₂ e₂ y
       firstly ts y row ex =
-          subst₂ (λ (q : List ℕ) (w : Fit). Matching (matches q ts []) o n s₂ e₂ w) z ex (post .answer ts [] row (env-empty o n s₁ e₁ (known .answer ts row .2)) refl)
+          subst (λ (w : Fit). Matching (matches (R .first) ts []) o n s₂ e₂ w) ex (post .answer ts [] row (env-empty o n s₁ e₁ (known .answer ts row .2)) refl)
 
       -- what is left of the rule once the first operand has answered
       first-are : (ts : List Ty) (w : Matched) → RowAt o from n ts → matches (R .first) ts [] ≡ w → judge R ts ≡ thenMatched w (λ ρ. thenMatched (matches (R .last) (lastOnes ts) ρ) (λ σ. completed (R .result) σ))
@@ -142,11 +130,11 @@ module _ {R : Rule} {o : List ℕ} {from n : ℕ} where
     pub last-pre : JudgePre o from n → MatchPre o last n s₂ e₂ k
     last-pre p = let f = known .answer (p .ts) (p .row) in record { us = lastOnes (p .ts); ρ = f .0; row = f .2; env = f .3; count = f .4 }
 
-    module _ {s₃ e₃ : List ℕ} {x : Fit} {ps : List ℕ} (z : ps ≡ R .last) (post : MatchPost ps o last n s₂ e₂ k s₃ e₃ x) where
+    module _ {s₃ e₃ : List ℕ} {x : Fit} (post : MatchPost (R .last) o last n s₂ e₂ k s₃ e₃ x) where
       lastly : (ts : List Ty) (y : Fit) (row : RowAt o from n ts) → x ≡ y → Matching (matches (R .last) (lastOnes ts) (known .answer ts row .0)) o n s₃ e₃ y
       lastly ts y row ex =
           let f = known .answer ts row in
-          subst₂ (λ (q : List ℕ) (w : Fit). Matching (matches q (lastOnes ts) (f .0)) o n s₃ e₃ w) z ex (post .answer (lastOnes ts) (f .0) (f .2) (f .3) (f .4))
+          subst (λ (w : Fit). Matching (matches (R .last) (lastOnes ts) (f .0)) o n s₃ e₃ w) ex (post .answer (lastOnes ts) (f .0) (f .2) (f .3) (f .4))
 
       -- with the variables of the first
       last-are : (ts : List Ty) (w : Matched) (row : RowAt o from n ts) → matches (R .last) (lastOnes ts) (known .answer ts row .0) ≡ w → judge R ts ≡ thenMatched w (λ σ. completed (R .result) σ)
@@ -166,14 +154,14 @@ module _ {R : Rule} {o : List ℕ} {from n : ℕ} where
     pub fill-pre : JudgePre o from n → FillPre o n (n + 64) s₃ e₃ j
     fill-pre p = let f = known .answer (p .ts) (p .row) in record { ρ = f .0; env = f .2; count = f .3; room = (omega arith, p .room) }
 
-    module _ {o₁ : List ℕ} {x : Filled} {ps : List ℕ} (z : ps ≡ R .result) (post : FillPost ps o n (n + 64) s₃ e₃ j o₁ x) where
+    module _ {o₁ : List ℕ} {x : Filled} (post : FillPost (R .result) o n (n + 64) s₃ e₃ j o₁ x) where
       abbrev test : List Ty → Bool
       test σ = allBound (R .result) σ && leb (n + length (filled (R .result) σ)) (n + 64)
 
       filling : (ts : List Ty) (y : Filled) (row : RowAt o from n ts) → x ≡ y → Filling (test (known .answer ts row .0)) (filled (R .result) (known .answer ts row .0)) o n o₁ y
       filling ts y row ex =
           let f = known .answer ts row in
-          subst₂ (λ (q : List ℕ) (w : Filled). Filling (allBound q (f .0) && leb (n + length (filled q (f .0))) (n + 64)) (filled q (f .0)) o n o₁ w) z ex (post .answer (f .0) (f .2) (f .3))
+          subst (λ (w : Filled). Filling (test (f .0)) (filled (R .result) (f .0)) o n o₁ w) ex (post .answer (f .0) (f .2) (f .3))
 
       fill-are : (ts : List Ty) (b : Bool) (row : RowAt o from n ts) → test (known .answer ts row .0) ≡ b → judge R ts ≡ pick b (typed (filled (R .result) (known .answer ts row .0))) wrong
       fill-are ts b row e =

@@ -1,16 +1,16 @@
 -- The ways out of `match_pattern`: at each, what the code found is what `matches` says.
--- Main results: row-view, row-first (types in a row), the laws fit-end .. fit-new (one for each way out).
+-- Main results: packed-end, by-symbol (the pattern of a word); row-none .. row-type (types in a row); the laws fit-end .. next-same
+-- (one for each way out).
 use mathlib.Core.Path.{_≡_, refl, sym, ap, ap₂, _∙_, subst, subst₂, subst₃}
 use mathlib.Core.Bool.{Bool, true, false, _&&_}
 use mathlib.Core.List.{List, [], _∷_, _++_, append-assoc}
-use Prim.Native.Nat.{ℕ, zero, suc, _+_, _-_, _≤_, _<_}
+use Prim.Native.Nat.{ℕ, zero, suc, _+_, _-_, _/_, _%_, _≤_, _<_}
 use native.Mathlib.Omega.{arith}
-use native.Mathlib.Numerals.{add-one}
-use lib.ListN.{length, take, drop, getD, set, length-append, length-set, drop-of-length-le, take-append-drop}
-use lib.Seq.{drop-cons, getD-set-same, getD-set-other, length-take-le}
+use lib.ListN.{length, take, drop, getD, set, length-append, length-set, take-append-drop}
+use lib.Seq.{getD-set-same, getD-set-other, length-take-le}
 use borrow.Author.Count.{below-more}
 use lib.Dec.{ltb, leb, eqb}
-use borrow.Author.Tests.{lt-ltb, le-ltb, eq-eqb, ne-eqb}
+use borrow.Author.Tests.{lt-ltb, le-ltb, eqb-true, eqb-false, eq-eqb, ne-eqb}
 use Rattle.frame.specs.Types.{Ty, bool, int, given, pow, prod}
 use Rattle.frame.specs.Tags.{pick}
 use Rattle.frame.specs.Encoding.{encTy, encTys}
@@ -19,10 +19,11 @@ use Rattle.frame.specs.WellFormed.{TyWf}
 use Rattle.frame.specs.Spans.{Spans}
 use Rattle.frame.proofs.Spans.{span-first, span-left, span-right}
 use Rattle.frame.proofs.ReadTypes.{ty-prefix}
-use Rattle.frame.proofs.SameTrees.{same-ty, same-ty-refl}
+use Rattle.frame.proofs.SameTrees.{both-true, same-ty, same-ty-refl}
 use Rattle.frame.proofs.Inversion.{true-not}
 use Rattle.typing.specs.Typing.{ty}
-use Rattle.typing.specs.Patterns.{symbolOf, partsOf, Matched, fits, differs, atVariable, atSymbol, matches, cut}
+use Rattle.typing.specs.Patterns.{symbolOf, partsOf, Matched, fits, differs, atVariable, atSymbol, matches}
+use Rattle.typing.specs.RuleNumbers.{packs, Packed}
 use Rattle.typing.specs.Buffers.{TypeAt, EndOf, Alike, SameBytes}
 use Rattle.typing.specs.PatternPosts.{TysFit, RowAt, Slots, EnvAt, MatchPre, Matching, MatchPost}
 use Rattle.typing.specs.declared.patterns.Fit.{Fit}
@@ -30,18 +31,25 @@ use Rattle.typing.specs.declared.patterns.Fit.the-variants as F
 use Rattle.typing.proofs.BufferLaws.{span-get, span-by, type-some}
 use Rattle.typing.proofs.Same.{same-ty-of}
 
--- ---- the pattern
-pub cut-past : (P : List ℕ) (i : ℕ) → length P ≤ i → cut (drop i P) ≡ []
-cut-past P i h = ap cut (drop-of-length-le P h)
+-- ---- the pattern of a word
+none-else : (x y : Bool) → pick x false y ≡ true → (x ≡ false) × (y ≡ true)
+none-else true y e = true-not e
+none-else false y e = (refl, e)
 
-cut-here : (P : List ℕ) (i : ℕ) → i < length P → cut (drop i P) ≡ pick (eqb (getD P i 0) 2) [] (getD P i 0 ∷ cut (drop (i + 1) P))
-cut-here P i h = ap cut (drop-cons P i 0 h) ∙ ap (λ (j : ℕ). pick (eqb (getD P i 0) 2) [] (getD P i 0 ∷ cut (drop j P))) (sym (add-one i))
+-- its first symbol, and the word of the others
+pub packed-cons : (b : ℕ) (ps : List ℕ) (p : ℕ) → Packed (b ∷ ps) p → (p % 16 ≡ b) × (b ≡ 2 → ⊥) × Packed ps (p / 16)
+packed-cons b ps p h =
+    let parts = both-true (eqb (p % 16) b) (pick (eqb b 2) false (packs ps (p / 16))) h in
+    let q = none-else (eqb b 2) (packs ps (p / 16)) (parts .1) in
+    (eqb-true (p % 16) b (parts .0), eqb-false b 2 (q .0), q .1)
 
-pub cut-end : (P : List ℕ) (i : ℕ) → i < length P → (b : ℕ) → b ≡ getD P i 0 → b ≡ 2 → cut (drop i P) ≡ []
-cut-end P i h b e z = cut-here P i h ∙ rw (eq-eqb (getD P i 0) 2 (sym e ∙ z))
+pub packed-end : (ps : List ℕ) (p : ℕ) → Packed ps p → p % 16 ≡ 2 → ps ≡ []
+packed-end [] p h z = refl
+packed-end (b ∷ ps) p h z = let c = packed-cons b ps p h in absurd (c .1 (sym (c .0) ∙ z))
 
-pub cut-on : (P : List ℕ) (i : ℕ) → i < length P → (b : ℕ) → b ≡ getD P i 0 → (b ≡ 2 → ⊥) → cut (drop i P) ≡ b ∷ cut (drop (i + 1) P)
-cut-on P i h b e z = cut-here P i h ∙ rw (ne-eqb (getD P i 0) 2 (λ w. z (e ∙ w))) (ap (λ (x : ℕ). x ∷ cut (drop (i + 1) P)) (sym e))
+pub by-symbol : (p b : ℕ) → b ≡ p % 16 → (b ≡ 2 → ⊥) → (X : List ℕ → Type 0) → ((qs : List ℕ) → Packed qs (p / 16) → X (b ∷ qs)) → (ps : List ℕ) → Packed ps p → X ps
+by-symbol p b eb z X f [] h = absurd (z (eb ∙ eqb-true (p % 16) 2 h))
+by-symbol p b eb z X f (d ∷ ps) h = let c = packed-cons d ps p h in subst (λ (x : ℕ). X (x ∷ ps)) (eb ∙ c .0) (f ps (c .2))
 
 -- ---- types in a row
 pub row-none : (types : List ℕ) (at n : ℕ) (us : List Ty) → RowAt types at n us → n ≤ at → us ≡ []
@@ -196,137 +204,138 @@ pub record Next (ps : List ℕ) (us ρ : List Ty) (qs types : List ℕ) (at n : 
 pub next-pre : {ps : List ℕ} {us ρ : List Ty} {qs types : List ℕ} {at n : ℕ} {s e : List ℕ} {k : ℕ} → Next ps us ρ qs types at n s e k → MatchPre types at n s e k
 next-pre x = record { us = x .types-left; ρ = x .bound; row = x .row; env = x .env; count = x .count }
 
-module _ (P : List ℕ) (i : ℕ) (types : List ℕ) (at n : ℕ) (s e : List ℕ) (k : ℕ) where
+module _ (p : ℕ) (types : List ℕ) (at n : ℕ) (s e : List ℕ) (k : ℕ) where
   abbrev Post : List ℕ → List ℕ → Fit → Type 0
-  Post s₁ e₁ r = MatchPost (cut (drop i P)) types at n s e k s₁ e₁ r
+  Post s₁ e₁ r = (ps : List ℕ) → Packed ps p → MatchPost ps types at n s e k s₁ e₁ r
 
-  stops : cut (drop i P) ≡ [] → Post s e (F.Fits k)
+  pub fit-end : p % 16 ≡ 2 → Post s e (F.Fits k)
   unfolding matches
-  stops z = record { answer = λ us ρ row env c. subst (λ (ps : List ℕ). Matching (matches ps us ρ) types n s e (F.Fits k)) (sym z) (ap F.Fits (sym c), env) }
+  fit-end z ps pk =
+      record { answer = λ us ρ row env c. subst (λ (qs : List ℕ). Matching (matches qs us ρ) types n s e (F.Fits k)) (sym (packed-end ps p pk z)) (ap F.Fits (sym c), env) }
 
-  pub fit-past : length P ≤ i → Post s e (F.Fits k)
-  fit-past h = stops (cut-past P i h)
+  module _ (b : ℕ) (eb : b ≡ p % 16) (z : b ≡ 2 → ⊥) where
+    off : ((rest : List ℕ) (us ρ : List Ty) → RowAt types at n us → EnvAt types n s e ρ → length ρ ≡ k → matches (b ∷ rest) us ρ ≡ differs) → Post s e F.Differs
+    off f =
+        by-symbol p b eb z (λ ps. MatchPost ps types at n s e k s e F.Differs)
+        (λ rest pk. record { answer = λ us ρ row env c. subst (λ (m : Matched). Matching m types n s e F.Differs) (sym (f rest us ρ row env c)) refl })
 
-  module _ (h : i < length P) (b : ℕ) (eb : b ≡ getD P i 0) where
-    pub fit-end : b ≡ 2 → Post s e (F.Fits k)
-    fit-end z = stops (cut-end P i h b eb z)
+    pub fit-none : n ≤ at → Post s e F.Differs
+    unfolding matches
+    fit-none l = off (λ rest us ρ row env c. ap (λ (vs : List Ty). matches (b ∷ rest) vs ρ) (row-none types at n us row l))
 
-    module _ (z : b ≡ 2 → ⊥) where
-      abbrev rest : List ℕ
-      rest = cut (drop (i + 1) P)
+    module _ (l : at < n) where
+      -- the first type of the row
+      firstly : (X : List Ty → Type 0) → ((t : Ty) (vs : List Ty) → RowAt types at n (t ∷ vs) → X (t ∷ vs)) → (us : List Ty) → RowAt types at n us → X us
+      firstly X f us row =
+          let v = row-some types at n us row l in
+          subst X (sym (v .2)) (f (v .0) (v .1) (subst (RowAt types at n) (v .2) row))
 
-      off : ((us ρ : List Ty) → RowAt types at n us → EnvAt types n s e ρ → length ρ ≡ k → matches (b ∷ rest) us ρ ≡ differs) → Post s e F.Differs
-      off f = record { answer = λ us ρ row env c. subst (λ (m : Matched). Matching m types n s e F.Differs) (sym (ap (λ (ps : List ℕ). matches ps us ρ) (cut-on P i h b eb z) ∙ f us ρ row env c)) refl }
+      pub first-type : (us ρ : List Ty) → RowAt types at n us → EnvAt types n s e ρ → length ρ ≡ k → TypeAt types at
+      first-type us ρ row env c = firstly (λ vs. TypeAt types at) (λ t vs r. row-type types at n t vs r) us row
 
-      pub fit-none : n ≤ at → Post s e F.Differs
-      unfolding matches
-      fit-none l = off (λ us ρ row env c. ap (λ (vs : List Ty). matches (b ∷ rest) vs ρ) (row-none types at n us row l))
+      pub first-past : (q : ℕ) → EndOf types at q → (us : List Ty) → RowAt types at n us → at < q
+      first-past q en us row =
+          firstly (λ vs. at < q) (λ t vs r. omega (arith, en .is t (at + length (encTy t)) (row-first types at n t vs r), type-some t)) us row
 
-      module _ (l : at < n) where
-        -- the first type of the row
-        firstly : (X : List Ty → Type 0) → ((t : Ty) (vs : List Ty) → RowAt types at n (t ∷ vs) → X (t ∷ vs)) → (us : List Ty) → RowAt types at n us → X us
-        firstly X f us row =
-            let v = row-some types at n us row l in
-            subst X (sym (v .2)) (f (v .0) (v .1) (subst (RowAt types at n) (v .2) row))
+      off-first : ((rest : List ℕ) (t : Ty) (vs ρ : List Ty) → RowAt types at n (t ∷ vs) → EnvAt types n s e ρ → length ρ ≡ k → matches (b ∷ rest) (t ∷ vs) ρ ≡ differs) → Post s e F.Differs
+      off-first f = off (λ rest us ρ row env c. firstly (λ vs. matches (b ∷ rest) vs ρ ≡ differs) (λ t vs r. f rest t vs ρ r env c) us row)
 
-        pub first-type : (us ρ : List Ty) → RowAt types at n us → EnvAt types n s e ρ → length ρ ≡ k → TypeAt types at
-        first-type us ρ row env c = firstly (λ vs. TypeAt types at) (λ t vs r. row-type types at n t vs r) us row
+      pub fit-other : b < 5 → (getD types at 0 ≡ b → ⊥) → Post s e F.Differs
+      fit-other m ne = off-first (λ rest t vs ρ row env c. off-fixed b rest t vs ρ m (fixed-off types at n t vs row b m ne))
 
-        off-first : ((t : Ty) (vs ρ : List Ty) → RowAt types at n (t ∷ vs) → EnvAt types n s e ρ → length ρ ≡ k → matches (b ∷ rest) (t ∷ vs) ρ ≡ differs) → Post s e F.Differs
-        off-first f = off (λ us ρ row env c. firstly (λ vs. matches (b ∷ rest) vs ρ ≡ differs) (λ t vs r. f t vs ρ r env c) us row)
+      pub fit-large : 9 ≤ b → Post s e F.Differs
+      fit-large m = off-first (λ rest t vs ρ row env c. no-symbol b rest t vs ρ m)
 
-        pub fit-other : b < 5 → (getD types at 0 ≡ b → ⊥) → Post s e F.Differs
-        fit-other m ne = off-first (λ t vs ρ row env c. off-fixed b rest t vs ρ m (fixed-off types at n t vs row b m ne))
+      -- what goes on
+      on-first : (at₁ : ℕ) (s₁ e₁ : List ℕ) (k₁ : ℕ)
+          → ((rest : List ℕ) (t : Ty) (vs ρ : List Ty) → RowAt types at n (t ∷ vs) → EnvAt types n s e ρ → length ρ ≡ k → Next (b ∷ rest) (t ∷ vs) ρ rest types at₁ n s₁ e₁ k₁)
+          → (rest : List ℕ) (us ρ : List Ty) → RowAt types at n us → EnvAt types n s e ρ → length ρ ≡ k → Next (b ∷ rest) us ρ rest types at₁ n s₁ e₁ k₁
+      on-first at₁ s₁ e₁ k₁ f rest us ρ row env c = firstly (λ vs. Next (b ∷ rest) vs ρ rest types at₁ n s₁ e₁ k₁) (λ t vs r. f rest t vs ρ r env c) us row
 
-        pub fit-large : 9 ≤ b → Post s e F.Differs
-        fit-large m = off-first (λ t vs ρ row env c. no-symbol b rest t vs ρ m)
+      pub goes-on : (at₁ : ℕ) (s₁ e₁ : List ℕ) (k₁ : ℕ)
+          → ((rest : List ℕ) (us ρ : List Ty) → RowAt types at n us → EnvAt types n s e ρ → length ρ ≡ k → Next (b ∷ rest) us ρ rest types at₁ n s₁ e₁ k₁)
+          → (s₂ e₂ : List ℕ) (r : Fit) → ((rest : List ℕ) → Packed rest (p / 16) → MatchPost rest types at₁ n s₁ e₁ k₁ s₂ e₂ r) → Post s₂ e₂ r
+      goes-on at₁ s₁ e₁ k₁ f s₂ e₂ r after =
+          by-symbol p b eb z (λ ps. MatchPost ps types at n s e k s₂ e₂ r)
+          (λ rest pk. record {
+            answer = λ us ρ row env c. (let x = f rest us ρ row env c in
+                subst (λ (m : Matched). Matching m types n s₂ e₂ r) (sym (x .same)) (after rest pk .answer (x .types-left) (x .bound) (x .row) (x .env) (x .count)));
+          })
 
-        -- what goes on
-        on-first : (at₁ : ℕ) (s₁ e₁ : List ℕ) (k₁ : ℕ)
-            → ((t : Ty) (vs ρ : List Ty) → RowAt types at n (t ∷ vs) → EnvAt types n s e ρ → length ρ ≡ k → Next (b ∷ rest) (t ∷ vs) ρ rest types at₁ n s₁ e₁ k₁)
-            → (us ρ : List Ty) → RowAt types at n us → EnvAt types n s e ρ → length ρ ≡ k → Next (b ∷ rest) us ρ rest types at₁ n s₁ e₁ k₁
-        on-first at₁ s₁ e₁ k₁ f us ρ row env c = firstly (λ vs. Next (b ∷ rest) vs ρ rest types at₁ n s₁ e₁ k₁) (λ t vs r. f t vs ρ r env c) us row
+      pub next-fixed : b < 5 → getD types at 0 ≡ b → (rest : List ℕ) (us ρ : List Ty) → RowAt types at n us → EnvAt types n s e ρ → length ρ ≡ k → Next (b ∷ rest) us ρ rest types (at + 1) n s e k
+      next-fixed m eq =
+          on-first (at + 1) s e k (λ rest t vs ρ row env c. (let f = fixed-row types at n t vs row b m z eq in
+          record { types-left = partsOf t ++ vs; bound = ρ; same = on-fixed b rest t vs ρ m (f .0); row = f .1; env = env; count = c }))
 
-        pub goes-on : (at₁ : ℕ) (s₁ e₁ : List ℕ) (k₁ : ℕ)
-            → ((us ρ : List Ty) → RowAt types at n us → EnvAt types n s e ρ → length ρ ≡ k → Next (b ∷ rest) us ρ rest types at₁ n s₁ e₁ k₁)
-            → (s₂ e₂ : List ℕ) (r : Fit) → MatchPost rest types at₁ n s₁ e₁ k₁ s₂ e₂ r → Post s₂ e₂ r
-        goes-on at₁ s₁ e₁ k₁ f s₂ e₂ r p =
-            record {
-              answer = λ us ρ row env c. (let x = f us ρ row env c in
-                  subst (λ (m : Matched). Matching m types n s₂ e₂ r) (sym (ap (λ (ps : List ℕ). matches ps us ρ) (cut-on P i h b eb z) ∙ x .same))
-                  (p .answer (x .types-left) (x .bound) (x .row) (x .env) (x .count)));
-            }
+      module _ (lo : 5 ≤ b) (hi : b < 9) where
+        pub fit-gap : k < b - 5 → Post s e F.Differs
+        fit-gap m = off-first (λ rest t vs ρ row env c. off-new b rest t vs ρ lo hi (omega arith))
 
-        pub next-fixed : b < 5 → getD types at 0 ≡ b → (us ρ : List Ty) → RowAt types at n us → EnvAt types n s e ρ → length ρ ≡ k → Next (b ∷ rest) us ρ rest types (at + 1) n s e k
-        next-fixed m eq =
-            on-first (at + 1) s e k (λ t vs ρ row env c. (let f = fixed-row types at n t vs row b m z eq in
-            record { types-left = partsOf t ++ vs; bound = ρ; same = on-fixed b rest t vs ρ m (f .0); row = f .1; env = env; count = c }))
+        module _ (v : ℕ) (ev : v ≡ b - 5) where
+          pub next-new : v ≡ k → (q : ℕ) → EndOf types at q → (rest : List ℕ) (us ρ : List Ty) → RowAt types at n us → EnvAt types n s e ρ → length ρ ≡ k
+              → Next (b ∷ rest) us ρ rest types q n (set s v at) (set e v q) (k + 1)
+          next-new m q en =
+              on-first q (set s v at) (set e v q) (k + 1) (λ rest t vs ρ row env c. (
+              let eq = en .is t (at + length (encTy t)) (row-first types at n t vs row) in
+              let w = row-within types at n t vs row in
+              record {
+                types-left = vs;
+                bound = ρ ++ (t ∷ []);
+                same = on-new b rest t vs ρ lo hi (omega arith);
+                row = subst (λ (x : ℕ). RowAt types x n vs) (sym eq) (row-rest types at n t vs row);
+                env = env-new types n s e ρ env v (omega arith) (omega arith) t (row .fit .0) at q (subst (λ (x : ℕ). Spans types at x (encTy t)) (sym eq) (row-first types at n t vs row)) (omega arith);
+                count = omega (arith, length-append ρ (t ∷ []), c);
+              }))
 
-        module _ (lo : 5 ≤ b) (hi : b < 9) where
-          pub fit-gap : k < b - 5 → Post s e F.Differs
-          fit-gap m = off-first (λ t vs ρ row env c. off-new b rest t vs ρ lo hi (omega arith))
+          -- a variable that is bound
+          module _ (m : v < k) (from to : ℕ) (ef : from ≡ getD s v 0) (et : to ≡ getD e v 0) where
+            bound-span : (ρ : List Ty) → EnvAt types n s e ρ → length ρ ≡ k → Spans types from to (encTy (ty (b - 5) ρ)) × (to ≤ n)
+            bound-span ρ env c =
+                let a = env .spans v (omega (arith, c)) in
+                (subst₃ (λ (x y i : ℕ). Spans types x y (encTy (ty i ρ))) (sym ef) (sym et) ev a, omega (arith, et, env .low v (omega (arith, c))))
 
-          module _ (v : ℕ) (ev : v ≡ b - 5) where
-            pub next-new : v ≡ k → (p : ℕ) → EndOf types at p → (us ρ : List Ty) → RowAt types at n us → EnvAt types n s e ρ → length ρ ≡ k
-                → Next (b ∷ rest) us ρ rest types p n (set s v at) (set e v p) (k + 1)
-            next-new m p en =
-                on-first p (set s v at) (set e v p) (k + 1) (λ t vs ρ row env c. (
-                let q = en .is t (at + length (encTy t)) (row-first types at n t vs row) in
+            pub fit-long : n - at < to - from → Post s e F.Differs
+            fit-long q =
+                off-first (λ rest t vs ρ row env c. off-bound b rest t vs ρ lo hi (omega arith)
+                (λ eq. (let a = bound-span ρ env c .0 in
                 let w = row-within types at n t vs row in
+                let y = ap (λ (x : Ty). length (encTy x)) eq in
+                omega (arith, a .long))))
+
+            pub fit-differ : (x : Bool) → SameBytes types from at (to - from) x → x ≡ false → Post s e F.Differs
+            fit-differ x sb ex =
+                off-first (λ rest t vs ρ row env c. off-bound b rest t vs ρ lo hi (omega arith)
+                (λ eq. (let a = bound-span ρ env c .0 in
+                let f = row-first types at n t vs row in
+                sb .differ ex (λ j h₁. (let y : j < length (encTy (ty (b - 5) ρ)) = omega (arith, a .long) in
+                let y₂ : j < length (encTy t) = subst (λ (u : Ty). j < length (encTy u)) (sym eq) y in
+                span-get a j y ∙ ap (λ (u : Ty). getD (encTy u) j 0) (sym eq) ∙ sym (span-get f j y₂))))))
+
+            pub next-same : to - from ≤ n - at → (x : Bool) → SameBytes types from at (to - from) x → x ≡ true
+                → (rest : List ℕ) (us ρ : List Ty) → RowAt types at n us → EnvAt types n s e ρ → length ρ ≡ k → Next (b ∷ rest) us ρ rest types (at + (to - from)) n s e k
+            next-same q x sb ex =
+                on-first (at + (to - from)) s e k (λ rest t vs ρ row env c. (
+                let a = bound-span ρ env c .0 in
+                let u = ty (b - 5) ρ in
+                let w = row-within types at n t vs row in
+                let g : Spans types at (at + (to - from)) (encTy u) =
+                span-by types at (at + (to - from)) (encTy u) (omega (arith, a .long)) (omega arith)
+                (λ j h₁. sym (sb .same ex j (omega (arith, a .long))) ∙ span-get a j h₁) in
+                let eq : t ≡ u = same-row types at n t vs row u (fit-at (b - 5) ρ (env .fit)) (at + (to - from)) g (omega arith) in
+                let y = ap (λ (x : Ty). length (encTy x)) eq in
                 record {
                   types-left = vs;
-                  bound = ρ ++ (t ∷ []);
-                  same = on-new b rest t vs ρ lo hi (omega arith);
-                  row = subst (λ (x : ℕ). RowAt types x n vs) (sym q) (row-rest types at n t vs row);
-                  env = env-new types n s e ρ env v (omega arith) (omega arith) t (row .fit .0) at p (subst (λ (x : ℕ). Spans types at x (encTy t)) (sym q) (row-first types at n t vs row)) (omega arith);
-                  count = omega (arith, length-append ρ (t ∷ []), c);
+                  bound = ρ;
+                  same = on-bound b rest t vs ρ lo hi (omega arith) eq;
+                  row = subst (λ (x : ℕ). RowAt types x n vs) (omega (arith, a .long)) (row-rest types at n t vs row);
+                  env = env;
+                  count = c;
                 }))
-
-            -- a variable that is bound
-            module _ (m : v < k) (from to : ℕ) (ef : from ≡ getD s v 0) (et : to ≡ getD e v 0) where
-              bound-span : (ρ : List Ty) → EnvAt types n s e ρ → length ρ ≡ k → Spans types from to (encTy (ty (b - 5) ρ)) × (to ≤ n)
-              bound-span ρ env c =
-                  let a = env .spans v (omega (arith, c)) in
-                  (subst₃ (λ (x y i : ℕ). Spans types x y (encTy (ty i ρ))) (sym ef) (sym et) ev a, omega (arith, et, env .low v (omega (arith, c))))
-
-              pub fit-long : n - at < to - from → Post s e F.Differs
-              fit-long q =
-                  off-first (λ t vs ρ row env c. off-bound b rest t vs ρ lo hi (omega arith)
-                  (λ eq. (let a = bound-span ρ env c .0 in
-                  let w = row-within types at n t vs row in
-                  let y = ap (λ (x : Ty). length (encTy x)) eq in
-                  omega (arith, a .long))))
-
-              pub fit-differ : (x : Bool) → SameBytes types from at (to - from) x → x ≡ false → Post s e F.Differs
-              fit-differ x sb ex =
-                  off-first (λ t vs ρ row env c. off-bound b rest t vs ρ lo hi (omega arith)
-                  (λ eq. (let a = bound-span ρ env c .0 in
-                  let f = row-first types at n t vs row in
-                  sb .differ ex (λ j h₁. (let y : j < length (encTy (ty (b - 5) ρ)) = omega (arith, a .long) in
-                  let y₂ : j < length (encTy t) = subst (λ (u : Ty). j < length (encTy u)) (sym eq) y in
-                  span-get a j y ∙ ap (λ (u : Ty). getD (encTy u) j 0) (sym eq) ∙ sym (span-get f j y₂))))))
-
-              pub next-same : to - from ≤ n - at → (x : Bool) → SameBytes types from at (to - from) x → x ≡ true
-                  → (us ρ : List Ty) → RowAt types at n us → EnvAt types n s e ρ → length ρ ≡ k → Next (b ∷ rest) us ρ rest types (at + (to - from)) n s e k
-              next-same q x sb ex =
-                  on-first (at + (to - from)) s e k (λ t vs ρ row env c. (
-                  let a = bound-span ρ env c .0 in
-                  let u = ty (b - 5) ρ in
-                  let w = row-within types at n t vs row in
-                  let g : Spans types at (at + (to - from)) (encTy u) =
-                  span-by types at (at + (to - from)) (encTy u) (omega (arith, a .long)) (omega arith)
-                  (λ j h₁. sym (sb .same ex j (omega (arith, a .long))) ∙ span-get a j h₁) in
-                  let eq : t ≡ u = same-row types at n t vs row u (fit-at (b - 5) ρ (env .fit)) (at + (to - from)) g (omega arith) in
-                  let y = ap (λ (x : Ty). length (encTy x)) eq in
-                  record {
-                    types-left = vs;
-                    bound = ρ;
-                    same = on-bound b rest t vs ρ lo hi (omega arith) eq;
-                    row = subst (λ (x : ℕ). RowAt types x n vs) (omega (arith, a .long)) (row-rest types at n t vs row);
-                    env = env;
-                    count = c;
-                  }))
 
 -- a variable's bytes are in the buffer, below n
 pub slot-span : {types : List ℕ} {n : ℕ} {s e : List ℕ} {ρ : List Ty} {k : ℕ} → EnvAt types n s e ρ → length ρ ≡ k → (v : ℕ) → v < k → (getD s v 0 ≤ getD e v 0) × (getD e v 0 ≤ n) × (getD e v 0 ≤ length types)
 slot-span env c v h = let a = env .spans v (omega (arith, c)) in omega (arith, a .long, a .within, env .low v (omega (arith, c)))
+
+-- and are some
+pub slot-some : {types : List ℕ} {n : ℕ} {s e : List ℕ} {ρ : List Ty} {k : ℕ} → EnvAt types n s e ρ → length ρ ≡ k → (v : ℕ) → v < k → getD s v 0 < getD e v 0
+slot-some {ρ = ρ} env c v h = let a = env .spans v (omega (arith, c)) in omega (arith, a .long, type-some (ty v ρ))

@@ -44,10 +44,10 @@ module _ (ps types : List ℕ) (at n : ℕ) (s e : List ℕ) where
         let v = row-some types at n us row l in
         subst X (sym (v .2)) (f (v .0) (v .1) (subst (RowAt types at n) (v .2) row))
 
-    pub pairs-type : PairsPre types at n s e → TypeAt types at
+    pub pairs-type : {w : ℕ} → PairsPre w types at n s e → TypeAt types at
     pairs-type p = firstly (λ vs. TypeAt types at) (λ t vs r. row-type types at n t vs r) (p .us) (p .row)
 
-    pub pairs-match : PairsPre types at n s e → MatchPre types at n s e 0
+    pub pairs-match : {w : ℕ} → PairsPre w types at n s e → MatchPre types at n s e 0
     pairs-match p = record { us = p .us; ρ = []; row = p .row; env = env-empty types n s e (p .slots); count = refl }
 
     module _ (q : ℕ) (en : EndOf types at q) where
@@ -56,7 +56,7 @@ module _ (ps types : List ℕ) (at n : ℕ) (s e : List ℕ) where
       after t vs row =
           subst (λ (x : ℕ). RowAt types x n vs) (sym (en .is t (at + length (encTy t)) (row-first types at n t vs row))) (row-rest types at n t vs row)
 
-      pub pairs-past : PairsPre types at n s e → at < q
+      pub pairs-past : {w : ℕ} → PairsPre w types at n s e → at < q
       pairs-past p = firstly (λ vs. at < q) (λ t vs r. omega (arith, en .is t (at + length (encTy t)) (row-first types at n t vs r), type-some t)) (p .us) (p .row)
 
       pub pairs-last : n ≤ q → PairsPost ps types at n s e s e (P.Last at)
@@ -93,10 +93,10 @@ module _ (ps types : List ℕ) (at n : ℕ) (s e : List ℕ) where
             fitted : (us : List Ty) → RowAt types at n us → Slots s e → (isFit (matches ps us []) ≡ true) × Slots s₁ e₁
             fitted us row sl = fit-of (matches ps us []) types n s₁ e₁ k (subst (λ (x : Fit). Matching (matches ps us []) types n s₁ e₁ x) ef (matched us row sl))
 
-            pub pairs-further : PairsPre types at n s e → PairsPre types q n s₁ e₁
-            pairs-further p =
+            pub pairs-further : {w : ℕ} → PairsPre w types at n s e → PairsPre w types q n s₁ e₁
+            pairs-further {w} p =
                 let sl = fitted (p .us) (p .row) (p .slots) .1 in
-                firstly (λ vs. PairsPre types q n s₁ e₁) (λ t vs r. record { us = vs; row = after t vs r; slots = sl }) (p .us) (p .row)
+                firstly (λ vs. PairsPre w types q n s₁ e₁) (λ t vs r. record { ps = p .ps; packed = p .packed; us = vs; row = after t vs r; slots = sl }) (p .us) (p .row)
 
             pub pairs-more : (s₂ e₂ : List ℕ) (r : Pairs) → PairsPost ps types q n s₁ e₁ s₂ e₂ r → PairsPost ps types at n s e s₂ e₂ r
             unfolding pairsFit

@@ -12,6 +12,7 @@ use Rattle.frame.specs.Spans.{Spans}
 use Rattle.frame.specs.Reading.{typeLimit}
 use Rattle.typing.specs.Typing.{ty}
 use Rattle.typing.specs.Patterns.{Matched, fits, differs, matches, allBound, filled, pairsFit, lastOnes, Rule, Judged, typed, wrong, judge}
+use Rattle.typing.specs.RuleNumbers.{Packed}
 use Rattle.typing.specs.declared.patterns.Typed.{Typed}
 use Rattle.typing.specs.declared.patterns.Typed.the-variants as T
 use Rattle.typing.specs.declared.patterns.Fit.{Fit}
@@ -64,8 +65,10 @@ Matching differs types n starts ends r = r ≡ F.Differs
 pub record MatchPost (ps types : List ℕ) (at n : ℕ) (s₀ e₀ : List ℕ) (k : ℕ) (s₁ e₁ : List ℕ) (r : Fit) : Type 0 where
   pub answer : (us ρ : List Ty) → RowAt types at n us → EnvAt types n s₀ e₀ ρ → length ρ ≡ k → Matching (matches ps us ρ) types n s₁ e₁ r
 
--- ---- each two in a row
-pub record PairsPre (types : List ℕ) (at n : ℕ) (starts ends : List ℕ) : Type 0 where
+-- ---- each two in a row; the word p is that of some pattern
+pub record PairsPre (p : ℕ) (types : List ℕ) (at n : ℕ) (starts ends : List ℕ) : Type 0 where
+  pub ps : List ℕ
+  pub packed : Packed ps p
   pub us : List Ty
   pub row : RowAt types at n us
   pub slots : Slots starts ends

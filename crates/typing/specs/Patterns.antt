@@ -289,8 +289,3 @@ ends r ts =
 
 unfoldable pub judge : Rule → List Ty → Judged
 judge r ts = pick (pairsFit (r .pair) ts) (ends r ts) wrong
-
--- ---- patterns as the code has them: up to the number 2, which is in no pattern
-abbrev pub cut : List ℕ → List ℕ
-cut [] = []
-cut (b ∷ ps) = pick (eqb b 2) [] (b ∷ cut ps)

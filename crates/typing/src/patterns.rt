@@ -1,14 +1,18 @@
 // Typing rules as patterns (specs/Patterns.antt): a pattern is matched with types that stand in a row, and filled.
+// A constant array is laid out anew where it is read, so a table is a few words chosen by a match: its entries stand in a word one
+// after the other, the first in the lowest bits. A pattern is a word too, four bits a symbol.
 use crate::type_bytes::copy_within;
 use crate::type_bytes::same_bytes;
 use crate::type_bytes::type_end;
+use frame::tags::row_of;
 use frame::tags::wide;
 ghost use mathlib.Core.Path.{_≡_};
-ghost use Prim.Native.Nat.{ℕ, _+_, _-_, _*_, _≤_, _<_};
-ghost use lib.ListN.{length, drop};
+ghost use mathlib.Core.List.{List};
+ghost use Prim.Native.Nat.{ℕ, _<_};
+ghost use lib.ListN.{getD};
 ghost use Rattle.frame.specs.Tags.{classOf};
-ghost use Rattle.typing.specs.Patterns.{cut, ruleAt};
-ghost use Rattle.typing.specs.RuleNumbers.{ruleNumber};
+ghost use Rattle.typing.specs.Patterns.{ruleAt};
+ghost use Rattle.typing.specs.RuleNumbers.{ruleNumber, ruleWords, rowWords, patternWords, lastPattern, Packed};
 ghost use Rattle.typing.specs.PatternPosts.{MatchPre, MatchPost, PairsPre, PairsPost, FillPre, FillPost, JudgePre, JudgePost};
 
 // "A type has at most 64 bytes, derived ones too."
@@ -45,43 +49,109 @@ pub enum Filled {
     Over,
 }
 
-// Tags come in blocks of fifty: where the rules of each block begin in TAG_RULES, and last where they end.
-const BLOCKS: [u8; 20] =
-    *b"\x00\x06\x06\x13\x13\x2f\x32\x3a\x3d\x4a\x4a\x4a\x4a\x5f\x5f\x61\x70\x74\x77\x79";
-
-// The rules of a block's tags, from its first to its last that is listed.
-const TAG_RULES: [u8; 121] =
-    *b"\x00\x01\x00\x06\x11\x12\x00\x08\x08\x09\x09\x09\x09\x0a\x0a\x0b\x0b\x0b\x0b\x00\x13\x14\x14\x14\x14\x14\x14\x14\x14\x14\x14\x14\x15\x16\x17\x18\x19\x19\x1a\x1a\x1b\x1c\x1c\x1c\x1c\x1d\x1e\x00\x0c\x0c\x00\x1f\x1f\x20\x21\x22\x23\x23\x00\x0d\x0d\x00\x24\x24\x24\x25\x07\x07\x02\x26\x26\x03\x04\x05\x00\x0e\x00\x00\x00\x00\x00\x00\x00\x00\x07\x07\x00\x00\x00\x00\x00\x00\x00\x00\x0f\x00\x0e\x00\x27\x28\x28\x29\x29\x2a\x2b\x00\x00\x00\x2c\x2c\x2d\x2e\x00\x2f\x2f\x30\x00\x0e\x0e\x00\x10";
-
-// By rule: where in PATTERNS its four patterns start (two operands in a row, the first, the last, the result).
-const ROWS: [u8; 196] =
-    *b"\x00\x00\x00\x01\x00\x05\x00\x05\x00\x0f\x00\x0f\x00\x4e\x00\x4e\x00\x55\x00\x55\x00\x25\x00\x25\x00\x05\x00\x05\x00\x00\x00\x01\x00\x05\x05\x01\x00\x03\x03\x01\x00\x05\x0f\x01\x00\x0f\x0f\x01\x00\x01\x01\x01\x15\x01\x00\x01\x00\x01\x00\x01\x00\x0f\x00\x01\x15\x0f\x00\x01\x00\x00\x00\x03\x15\x05\x00\x0f\x00\x05\x07\x1c\x00\x0f\x12\x48\x00\x0f\x0f\x0f\x00\x0f\x12\x2a\x00\x2a\x2f\x5c\x00\x2a\x43\x63\x00\x0f\x2a\x2a\x00\x2a\x12\x2a\x00\x03\x03\x0c\x00\x03\x03\x03\x00\x2a\x05\x07\x00\x2a\x0f\x12\x15\x0f\x00\x0f\x75\x2a\x43\x3e\x6c\x2a\x43\x34\x15\x2a\x00\x2a\x15\x03\x00\x03\x00\x00\x00\x0c\x00\x00\x00\x09\x00\x00\x00\x20\x00\x0f\x00\x03\x00\x0f\x00\x18\x00\x18\x00\x0f\x00\x2a\x00\x0f\x00\x2a\x00\x12\x00\x0c\x00\x03\x00\x2a\x00\x39\x00\x03\x00\x03\x00\x01\x0f\x0f\x00\x01\x05\x0f";
-
-// The patterns.
-const PATTERNS: [u8; 126] =
-    *b"\x02\x00\x02\x01\x02\x05\x02\x06\x02\x03\x00\x02\x03\x01\x02\x03\x05\x02\x03\x06\x02\x05\x05\x02\x03\x03\x05\x02\x04\x05\x06\x02\x03\x04\x01\x01\x02\x03\x04\x05\x05\x02\x03\x04\x05\x06\x02\x03\x04\x05\x07\x02\x03\x04\x05\x08\x02\x03\x04\x06\x05\x02\x03\x04\x07\x06\x02\x03\x04\x07\x08\x02\x03\x03\x04\x05\x06\x02\x03\x04\x04\x05\x06\x05\x02\x03\x04\x04\x05\x06\x06\x02\x03\x04\x05\x04\x06\x07\x02\x03\x04\x04\x05\x07\x04\x06\x08\x02\x03\x04\x05\x06\x03\x04\x06\x07\x02\x03\x04\x05\x06\x03\x04\x07\x05\x02";
+// The rules of the rows of tags, ten to a word, six bits each.
+fn rule_word(i: usize) -> usize
+    requires { ⌜ i < 13 ⌝ }
+    ensures { λ r. ⌜ r ≡ getD ruleWords i 0 ⌝ }
+{
+    match i {
+        0 => 0x248200491180040,
+        1 => 0xb2cb2ca289249,
+        2 => 0x514514514514513,
+        3 => 0x69a659617595514,
+        4 => 0x30c01e75c71c71b,
+        5 => 0x3408e38a181f7c0,
+        6 => 0x9821c796492400d,
+        7 => 0x3801440e6,
+        8 => 0x1c7000000,
+        9 => 0xa2700e00f000000,
+        10 => 0xb2c00002baa9a68,
+        11 => 0xe380c2fbc0bad,
+        _ => 0x10,
+    }
+}
 
 // The number of the rule of a tag. The rules 1 to 5 are those of nodes that carry their type, 6 that of a bound identifier.
 pub fn rule_of(tag: usize) -> usize
     ensures { λ r. ⌜ (r ≡ ruleNumber (classOf tag)) × (r < 49) ⌝ }
 {
-    let block = tag / 50;
-    if 19 <= block {
-        return 0;
-    }
-    let at = wide(BLOCKS[block]) + tag % 50;
-    let end = wide(BLOCKS[block + 1]);
-    if end <= at {
-        return 0;
-    }
-    wide(TAG_RULES[at])
+    let row = row_of(tag);
+    (rule_word(row / 10) >> (6 * (row % 10))) % 64
 }
 
-// The pattern at i of the patterns, at the types that stand from `at` up to n. The variables below k are bound: their types stand
-// in the buffer from `starts` up to `ends`.
+// Two rules to a word, 32 bits each: the numbers of a rule's four patterns (two operands in a row, the first, the last, the result).
+fn row_word(i: usize) -> usize
+    requires { ⌜ i < 25 ⌝ }
+    ensures { λ r. ⌜ r ≡ getD rowWords i 0 ⌝ }
+{
+    match i {
+        0 => 0x300030001000000,
+        1 => 0x1500150007000700,
+        2 => 0xd000d0016001600,
+        3 => 0x100000003000300,
+        4 => 0x102020001030300,
+        5 => 0x107070001070300,
+        6 => 0x100010901010100,
+        7 => 0x100070001000100,
+        8 => 0x200000001000709,
+        9 => 0xb04030007000309,
+        10 => 0x707070014080700,
+        11 => 0x170f0e000e080700,
+        12 => 0xe0e070018130e00,
+        13 => 0x60202000e080e00,
+        14 => 0x4030e0002020200,
+        15 => 0x700070908070e00,
+        16 => 0x10130e1912130e1a,
+        17 => 0x20002090e000e09,
+        18 => 0x500000006000000,
+        19 => 0x20007000c000000,
+        20 => 0x7000a000a000700,
+        21 => 0x8000e0007000e00,
+        22 => 0x11000e0002000600,
+        23 => 0x707010002000200,
+        _ => 0x7030100,
+    }
+}
+
+// The patterns by number: the symbols from the lowest bits on, and the end.
+fn pattern(i: usize) -> usize
+    ensures { λ r. ⌜ r ≡ getD patternWords i lastPattern ⌝ }
+{
+    match i {
+        0 => 0x2,
+        1 => 0x20,
+        2 => 0x21,
+        3 => 0x25,
+        4 => 0x26,
+        5 => 0x203,
+        6 => 0x213,
+        7 => 0x253,
+        8 => 0x263,
+        9 => 0x255,
+        10 => 0x2533,
+        11 => 0x2654,
+        12 => 0x21143,
+        13 => 0x25543,
+        14 => 0x26543,
+        15 => 0x27543,
+        16 => 0x28543,
+        17 => 0x25643,
+        18 => 0x26743,
+        19 => 0x28743,
+        20 => 0x265433,
+        21 => 0x2565443,
+        22 => 0x2665443,
+        23 => 0x2764543,
+        24 => 0x286475443,
+        25 => 0x276436543,
+        _ => 0x257436543,
+    }
+}
+
+// The pattern of the word p, at the types that stand from `at` up to n. The variables below k are bound: their types stand in the
+// buffer from `starts` up to `ends`.
 fn match_pattern(
-    patterns: &[u8],
-    i: usize,
+    p: usize,
     types: &[u8],
     at: usize,
     n: usize,
@@ -90,12 +160,9 @@ fn match_pattern(
     k: usize,
 ) -> Fit
     requires { ⌜ MatchPre (now types) at n (now starts) (now ends) k ⌝ }
-    ensures { λ r. ⌜ MatchPost (cut (drop i (now (patterns .entry)))) (now (types .entry)) at n (now (starts .entry)) (now (ends .entry)) k (now (starts .exit)) (now (ends .exit)) r ⌝ }
+    ensures { λ r. ⌜ ((ps : List ℕ) → Packed ps p → MatchPost ps (now (types .entry)) at n (now (starts .entry)) (now (ends .entry)) k (now (starts .exit)) (now (ends .exit)) r) ⌝ }
 {
-    if patterns.len() <= i {
-        return Fit::Fits(k);
-    }
-    let b = wide(patterns[i]);
+    let b = p % 16;
     if b == PATTERN_END {
         return Fit::Fits(k);
     }
@@ -106,7 +173,7 @@ fn match_pattern(
         if wide(types[at]) != b {
             return Fit::Differs;
         }
-        return match_pattern(patterns, i + 1, types, at + 1, n, starts, ends, k);
+        return match_pattern(p / 16, types, at + 1, n, starts, ends, k);
     }
     if SYMBOLS <= b {
         return Fit::Differs;
@@ -121,7 +188,7 @@ fn match_pattern(
         if !same_bytes(types, from, at, len) {
             return Fit::Differs;
         }
-        return match_pattern(patterns, i + 1, types, at + len, n, starts, ends, k);
+        return match_pattern(p / 16, types, at + len, n, starts, ends, k);
     }
     if k < v {
         return Fit::Differs;
@@ -129,21 +196,20 @@ fn match_pattern(
     let e = type_end(types, at);
     starts[v] = at;
     ends[v] = e;
-    match_pattern(patterns, i + 1, types, e, n, starts, ends, k + 1)
+    match_pattern(p / 16, types, e, n, starts, ends, k + 1)
 }
 
-// Each two of the types that stand in a row from `at` up to n match the pattern at i.
+// Each two of the types that stand in a row from `at` up to n match the pattern of the word p.
 fn match_pairs(
-    patterns: &[u8],
-    i: usize,
+    p: usize,
     types: &[u8],
     at: usize,
     n: usize,
     starts: &mut [usize; 4],
     ends: &mut [usize; 4],
 ) -> Pairs
-    requires { ⌜ PairsPre (now types) at n (now starts) (now ends) ⌝ }
-    ensures { λ r. ⌜ PairsPost (cut (drop i (now (patterns .entry)))) (now (types .entry)) at n (now (starts .entry)) (now (ends .entry)) (now (starts .exit)) (now (ends .exit)) r ⌝ }
+    requires { ⌜ PairsPre p (now types) at n (now starts) (now ends) ⌝ }
+    ensures { λ r. ⌜ ((ps : List ℕ) → Packed ps p → PairsPost ps (now (types .entry)) at n (now (starts .entry)) (now (ends .entry)) (now (starts .exit)) (now (ends .exit)) r) ⌝ }
 {
     if n <= at {
         return Pairs::Last(at);
@@ -152,17 +218,16 @@ fn match_pairs(
     if n <= e {
         return Pairs::Last(at);
     }
-    let f = match_pattern(patterns, i, types, at, n, starts, ends, 0);
+    let f = match_pattern(p, types, at, n, starts, ends, 0);
     match f {
-        Fit::Fits(_k) => match_pairs(patterns, i, types, e, n, starts, ends),
+        Fit::Fits(_k) => match_pairs(p, types, e, n, starts, ends),
         Fit::Differs => Pairs::Differ,
     }
 }
 
-// The pattern at i of the patterns with the types of its variables, written from m on and no further than to `limit`.
+// The pattern of the word p with the types of its variables, written from m on and no further than to `limit`.
 fn fill_pattern(
-    patterns: &[u8],
-    i: usize,
+    p: usize,
     types: &mut [u8],
     m: usize,
     limit: usize,
@@ -171,12 +236,9 @@ fn fill_pattern(
     k: usize,
 ) -> Filled
     requires { ⌜ FillPre (now types) m limit (now starts) (now ends) k ⌝ }
-    ensures { λ r. ⌜ FillPost (cut (drop i (now (patterns .entry)))) (now (types .entry)) m limit (now (starts .entry)) (now (ends .entry)) k (now (types .exit)) r ⌝ }
+    ensures { λ r. ⌜ ((ps : List ℕ) → Packed ps p → FillPost ps (now (types .entry)) m limit (now (starts .entry)) (now (ends .entry)) k (now (types .exit)) r) ⌝ }
 {
-    if patterns.len() <= i {
-        return Filled::To(m);
-    }
-    let b = wide(patterns[i]);
+    let b = p % 16;
     if b == PATTERN_END {
         return Filled::To(m);
     }
@@ -184,8 +246,8 @@ fn fill_pattern(
         if limit <= m {
             return Filled::Over;
         }
-        types[m] = patterns[i];
-        return fill_pattern(patterns, i + 1, types, m + 1, limit, starts, ends, k);
+        types[m] = b as u8;
+        return fill_pattern(p / 16, types, m + 1, limit, starts, ends, k);
     }
     let v = b - VARIABLES;
     if k <= v {
@@ -198,7 +260,7 @@ fn fill_pattern(
         return Filled::Over;
     }
     copy_within(types, from, to, m);
-    fill_pattern(patterns, i + 1, types, m + len, limit, starts, ends, k)
+    fill_pattern(p / 16, types, m + len, limit, starts, ends, k)
 }
 
 // The rule of a tag at the types of the operands, which stand from `from` up to n. The type of the node is left from `from` on.
@@ -206,23 +268,27 @@ pub fn judge_types(tag: usize, types: &mut [u8], from: usize, n: usize) -> Typed
     requires { ⌜ JudgePre (now types) from n ⌝ }
     ensures { λ r. ⌜ JudgePost (ruleAt (classOf tag)) (now (types .entry)) from n (now (types .exit)) r ⌝ }
 {
-    let p = PATTERNS;
-    let r = rule_of(tag) * 4;
+    let rule = rule_of(tag);
+    let row = (row_word(rule / 2) >> (32 * (rule % 2))) % 4294967296;
     let mut lo = [0usize; 4];
     let mut hi = [0usize; 4];
-    let pairs = match_pairs(&p, wide(ROWS[r]), types, from, n, &mut lo, &mut hi);
+    let for_pair = pattern(row % 256);
+    let pairs = match_pairs(for_pair, types, from, n, &mut lo, &mut hi);
     let Pairs::Last(last) = pairs else {
         return Typed::Bad;
     };
-    let first = match_pattern(&p, wide(ROWS[r + 1]), types, from, n, &mut lo, &mut hi, 0);
+    let for_first = pattern(row / 256 % 256);
+    let first = match_pattern(for_first, types, from, n, &mut lo, &mut hi, 0);
     let Fit::Fits(k) = first else {
         return Typed::Bad;
     };
-    let second = match_pattern(&p, wide(ROWS[r + 2]), types, last, n, &mut lo, &mut hi, k);
+    let for_last = pattern(row / 65536 % 256);
+    let second = match_pattern(for_last, types, last, n, &mut lo, &mut hi, k);
     let Fit::Fits(j) = second else {
         return Typed::Bad;
     };
-    let filled = fill_pattern(&p, wide(ROWS[r + 3]), types, n, n + TYPE_LIMIT, &lo, &hi, j);
+    let for_result = pattern(row / 16777216);
+    let filled = fill_pattern(for_result, types, n, n + TYPE_LIMIT, &lo, &hi, j);
     let Filled::To(m) = filled else {
         return Typed::Bad;
     };

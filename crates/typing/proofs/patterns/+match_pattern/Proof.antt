@@ -1,10 +1,11 @@
-use borrow.Author.Tests.{not-true, not-false}
-use borrow.Author.Needs.{needs}
-use mathlib.Core.Path.{_≡_, refl, sym, subst, _∙_}
-use Prim.Native.Nat.{_+_, _≤_, _-_}
-use lib.ListN.{length, getD, set}
+use Rattle.typing.proofs.MatchTurns.{fit-end, fit-none, fit-other, fit-large, goes-on, next-pre, next-fixed, fit-gap, next-new, fit-long, fit-differ, next-same, first-type, first-past, slot-span, slot-some}
 use native.Mathlib.Omega.{arith}
-use Rattle.typing.proofs.MatchTurns.{fit-past, fit-end, fit-none, fit-other, fit-large, goes-on, next-pre, next-fixed, fit-gap, next-new, fit-long, fit-differ, next-same, first-type, slot-span}
+use lib.ListN.{length, getD, set}
+use Prim.Native.Nat.{_+_, _≤_, _-_, _%_}
+use mathlib.Core.List.{[]}
+use mathlib.Core.Path.{_≡_, refl, sym, subst, _∙_}
+use borrow.Author.Needs.{needs}
+use borrow.Author.Tests.{not-true, not-false}
 use Prim.Native.Nat.{ℕ, _<_}
 use borrow.Fn.Kinds.{In}
 use borrow.Fn.PlainCycle.{Measures, is, falls, and}
@@ -17,22 +18,22 @@ use Rattle.typing.proofs.type_bytes.type_end.Reads as type-end-reads
 use Rattle.typing.proofs.patterns.+match_pattern.{statement}
 use Rattle.typing.proofs.patterns.+match_pattern.Tie.{close}
 
-abbrev μ-match-pattern : Measures 4 match-pattern-kinds.ps ℕ
-μ-match-pattern κs a = length (a .0 .now) - a .1 .0
+abbrev μ-match-pattern : Measures 3 match-pattern-kinds.ps ℕ
+μ-match-pattern κs a = a .1 .1 .1 .0 - a .1 .1 .0
 
-abbrev match-pattern-at : ℕ → In 4 match-pattern-kinds.ps
+abbrev match-pattern-at : ℕ → In 3 match-pattern-kinds.ps
 match-pattern-at t =
-    and 4 match-pattern-kinds.ps (is 4 match-pattern-kinds.ps μ-match-pattern t) match-pattern.Pre
+    and 3 match-pattern-kinds.ps (is 3 match-pattern-kinds.ps μ-match-pattern t) match-pattern.Pre
 
-abbrev match-pattern-below : ℕ → In 4 match-pattern-kinds.ps
+abbrev match-pattern-below : ℕ → In 3 match-pattern-kinds.ps
 match-pattern-below t =
     and
-    4
+    3
     match-pattern-kinds.ps
-    (falls 4 match-pattern-kinds.ps _<_ μ-match-pattern t)
+    (falls 3 match-pattern-kinds.ps _<_ μ-match-pattern t)
     match-pattern.Pre
 
--- src/patterns.rt:96:9
+-- src/patterns.rt:167:9
 match-pattern-returns : (t : ℕ) → match-pattern-lts.Need-returns (
   wide-reads.Asked,
   wide-reads.Learnt,
@@ -43,9 +44,22 @@ match-pattern-returns : (t : ℕ) → match-pattern-lts.Need-returns (
   type-end-reads.Asked,
   type-end-reads.Learnt,
 ) (match-pattern-at t) match-pattern.Post
-match-pattern-returns t c = fit-past (c .before .before .before .args .patterns .now) (c .before .before .before .args .i) (c .before .before .before .args .types .now) (c .before .before .before .args .at) (c .before .before .before .args .n) (c .before .before .before .args .starts .now) (c .before .before .before .args .ends .now) (c .before .before .before .args .k) (c .if1 .taken)
+match-pattern-returns t c = fit-end (c .before .before .args .p) (c .before .before .args .types .now) (c .before .before .args .at) (c .before .before .args .n) (c .before .before .args .starts .now) (c .before .before .args .ends .now) (c .before .before .args .k) (c .if1 .taken)
 
--- src/patterns.rt:98:18
+-- src/patterns.rt:170:9
+match-pattern-returns-2 : (t : ℕ) → match-pattern-lts.Need-returns-2 (
+  wide-reads.Asked,
+  wide-reads.Learnt,
+  match-pattern-below t,
+  match-pattern.Post,
+  same-bytes-reads.Asked,
+  same-bytes-reads.Learnt,
+  type-end-reads.Asked,
+  type-end-reads.Learnt,
+) (match-pattern-at t) match-pattern.Post
+match-pattern-returns-2 t c = fit-none (c .before .before .before .args .p) (c .before .before .before .args .types .now) (c .before .before .before .args .at) (c .before .before .before .args .n) (c .before .before .before .args .starts .now) (c .before .before .before .args .ends .now) (c .before .before .before .args .k) (c .before .before .before .args .p % 16) refl (c .before .if1 .left) (c .if2 .taken)
+
+-- src/patterns.rt:173:17
 match-pattern-shared-slice-read-wide : (t : ℕ) → match-pattern-lts.Need-shared-slice-read-wide (
   wide-reads.Asked,
   wide-reads.Learnt,
@@ -56,9 +70,9 @@ match-pattern-shared-slice-read-wide : (t : ℕ) → match-pattern-lts.Need-shar
   type-end-reads.Asked,
   type-end-reads.Learnt,
 ) (match-pattern-at t) match-pattern.Post
-match-pattern-shared-slice-read-wide t c = omega arith
+match-pattern-shared-slice-read-wide t c = omega (arith, c .before .before .before .before .before .pre .1 .row .span .within)
 
--- src/patterns.rt:98:9
+-- src/patterns.rt:173:12
 match-pattern-wide-requires : (t : ℕ) → match-pattern-lts.Need-wide-requires (
   wide-reads.Asked,
   wide-reads.Learnt,
@@ -71,20 +85,7 @@ match-pattern-wide-requires : (t : ℕ) → match-pattern-lts.Need-wide-requires
 ) (match-pattern-at t) match-pattern.Post
 match-pattern-wide-requires t c κs = search needs
 
--- src/patterns.rt:100:9
-match-pattern-returns-2 : (t : ℕ) → match-pattern-lts.Need-returns-2 (
-  wide-reads.Asked,
-  wide-reads.Learnt,
-  match-pattern-below t,
-  match-pattern.Post,
-  same-bytes-reads.Asked,
-  same-bytes-reads.Learnt,
-  type-end-reads.Asked,
-  type-end-reads.Learnt,
-) (match-pattern-at t) match-pattern.Post
-match-pattern-returns-2 t c = fit-end (c .before .before .before .before .before .before .args .patterns .now) (c .before .before .before .before .before .before .args .i) (c .before .before .before .before .before .before .args .types .now) (c .before .before .before .before .before .before .args .at) (c .before .before .before .before .before .before .args .n) (c .before .before .before .before .before .before .args .starts .now) (c .before .before .before .before .before .before .args .ends .now) (c .before .before .before .before .before .before .args .k) (c .before .before .before .if1 .left) (c .before .wide .result) (c .before .wide .ensures .0) (c .if2 .taken)
-
--- src/patterns.rt:103:9
+-- src/patterns.rt:174:13
 match-pattern-returns-3 : (t : ℕ) → match-pattern-lts.Need-returns-3 (
   wide-reads.Asked,
   wide-reads.Learnt,
@@ -95,48 +96,9 @@ match-pattern-returns-3 : (t : ℕ) → match-pattern-lts.Need-returns-3 (
   type-end-reads.Asked,
   type-end-reads.Learnt,
 ) (match-pattern-at t) match-pattern.Post
-match-pattern-returns-3 t c = fit-none (c .before .before .before .before .before .before .before .args .patterns .now) (c .before .before .before .before .before .before .before .args .i) (c .before .before .before .before .before .before .before .args .types .now) (c .before .before .before .before .before .before .before .args .at) (c .before .before .before .before .before .before .before .args .n) (c .before .before .before .before .before .before .before .args .starts .now) (c .before .before .before .before .before .before .before .args .ends .now) (c .before .before .before .before .before .before .before .args .k) (c .before .before .before .before .if1 .left) (c .before .before .wide .result) (c .before .before .wide .ensures .0) (c .before .if2 .left) (c .if3 .taken)
+match-pattern-returns-3 t c = fit-other (c .before .before .before .before .before .before .before .args .p) (c .before .before .before .before .before .before .before .args .types .now) (c .before .before .before .before .before .before .before .args .at) (c .before .before .before .before .before .before .before .args .n) (c .before .before .before .before .before .before .before .args .starts .now) (c .before .before .before .before .before .before .before .args .ends .now) (c .before .before .before .before .before .before .before .args .k) (c .before .before .before .before .before .before .before .args .p % 16) refl (c .before .before .before .before .before .if1 .left) (c .before .before .before .before .if2 .left) (c .before .before .before .if3 .taken) (λ w. c .if4 .taken (c .before .wide .ensures .0 ∙ w))
 
--- src/patterns.rt:106:17
-match-pattern-shared-slice-read-wide-2 : (t : ℕ) → match-pattern-lts.Need-shared-slice-read-wide-2 (
-  wide-reads.Asked,
-  wide-reads.Learnt,
-  match-pattern-below t,
-  match-pattern.Post,
-  same-bytes-reads.Asked,
-  same-bytes-reads.Learnt,
-  type-end-reads.Asked,
-  type-end-reads.Learnt,
-) (match-pattern-at t) match-pattern.Post
-match-pattern-shared-slice-read-wide-2 t c = omega (arith, c .before .before .before .before .before .before .before .before .before .pre .1 .row .span .within)
-
--- src/patterns.rt:106:12
-match-pattern-wide-requires-2 : (t : ℕ) → match-pattern-lts.Need-wide-requires-2 (
-  wide-reads.Asked,
-  wide-reads.Learnt,
-  match-pattern-below t,
-  match-pattern.Post,
-  same-bytes-reads.Asked,
-  same-bytes-reads.Learnt,
-  type-end-reads.Asked,
-  type-end-reads.Learnt,
-) (match-pattern-at t) match-pattern.Post
-match-pattern-wide-requires-2 t c κs = search needs
-
--- src/patterns.rt:107:13
-match-pattern-returns-4 : (t : ℕ) → match-pattern-lts.Need-returns-4 (
-  wide-reads.Asked,
-  wide-reads.Learnt,
-  match-pattern-below t,
-  match-pattern.Post,
-  same-bytes-reads.Asked,
-  same-bytes-reads.Learnt,
-  type-end-reads.Asked,
-  type-end-reads.Learnt,
-) (match-pattern-at t) match-pattern.Post
-match-pattern-returns-4 t c = fit-other (c .before .before .before .before .before .before .before .before .before .before .before .args .patterns .now) (c .before .before .before .before .before .before .before .before .before .before .before .args .i) (c .before .before .before .before .before .before .before .before .before .before .before .args .types .now) (c .before .before .before .before .before .before .before .before .before .before .before .args .at) (c .before .before .before .before .before .before .before .before .before .before .before .args .n) (c .before .before .before .before .before .before .before .before .before .before .before .args .starts .now) (c .before .before .before .before .before .before .before .before .before .before .before .args .ends .now) (c .before .before .before .before .before .before .before .before .before .before .before .args .k) (c .before .before .before .before .before .before .before .before .if1 .left) (c .before .before .before .before .before .before .wide .result) (c .before .before .before .before .before .before .wide .ensures .0) (c .before .before .before .before .before .if2 .left) (c .before .before .before .before .if3 .left) (c .before .before .before .if4 .taken) (λ w. c .if5 .taken (c .before .wide2 .ensures .0 ∙ w))
-
--- src/patterns.rt:109:40
+-- src/patterns.rt:176:45
 match-pattern-add-match-pattern : (t : ℕ) → match-pattern-lts.Need-add-match-pattern (
   wide-reads.Asked,
   wide-reads.Learnt,
@@ -147,9 +109,165 @@ match-pattern-add-match-pattern : (t : ℕ) → match-pattern-lts.Need-add-match
   type-end-reads.Asked,
   type-end-reads.Learnt,
 ) (match-pattern-at t) match-pattern.Post
-match-pattern-add-match-pattern t c = omega arith
+match-pattern-add-match-pattern t c = omega (arith, c .before .before .before .before .before .before .before .pre .1 .row .span .within)
 
--- src/patterns.rt:109:54
+-- src/patterns.rt:176:9
+match-pattern-match-pattern-requires : (t : ℕ) → match-pattern-lts.Need-match-pattern-requires (
+  wide-reads.Asked,
+  wide-reads.Learnt,
+  match-pattern-below t,
+  match-pattern.Post,
+  same-bytes-reads.Asked,
+  same-bytes-reads.Learnt,
+  type-end-reads.Asked,
+  type-end-reads.Learnt,
+) (match-pattern-at t) match-pattern.Post
+match-pattern-match-pattern-requires t c κs = (omega arith, next-pre (next-fixed (c .before .before .before .before .before .before .before .before .before .args .p) (c .before .before .before .before .before .before .before .before .before .args .types .now) (c .before .before .before .before .before .before .before .before .before .args .at) (c .before .before .before .before .before .before .before .before .before .args .n) (c .before .before .before .before .before .before .before .before .before .args .starts .now) (c .before .before .before .before .before .before .before .before .before .args .ends .now) (c .before .before .before .before .before .before .before .before .before .args .k) (c .before .before .before .before .before .before .before .before .before .args .p % 16) refl (c .before .before .before .before .before .before .before .if1 .left) (c .before .before .before .before .before .before .if2 .left) (c .before .before .before .before .before .if3 .taken) (sym (c .before .before .before .wide .ensures .0) ∙ c .before .before .if4 .left) [] (c .before .before .before .before .before .before .before .before .before .pre .1 .us) (c .before .before .before .before .before .before .before .before .before .pre .1 .ρ) (c .before .before .before .before .before .before .before .before .before .pre .1 .row) (c .before .before .before .before .before .before .before .before .before .pre .1 .env) (c .before .before .before .before .before .before .before .before .before .pre .1 .count)))
+
+-- src/patterns.rt:176:9
+match-pattern-returns-4 : (t : ℕ) → match-pattern-lts.Need-returns-4 (
+  wide-reads.Asked,
+  wide-reads.Learnt,
+  match-pattern-below t,
+  match-pattern.Post,
+  same-bytes-reads.Asked,
+  same-bytes-reads.Learnt,
+  type-end-reads.Asked,
+  type-end-reads.Learnt,
+) (match-pattern-at t) match-pattern.Post
+match-pattern-returns-4 t c = goes-on (c .before .before .before .before .before .before .before .before .before .before .args .p) (c .before .before .before .before .before .before .before .before .before .before .args .types .now) (c .before .before .before .before .before .before .before .before .before .before .args .at) (c .before .before .before .before .before .before .before .before .before .before .args .n) (c .before .before .before .before .before .before .before .before .before .before .args .starts .now) (c .before .before .before .before .before .before .before .before .before .before .args .ends .now) (c .before .before .before .before .before .before .before .before .before .before .args .k) (c .before .before .before .before .before .before .before .before .before .before .args .p % 16) refl (c .before .before .before .before .before .before .before .before .if1 .left) (c .before .before .before .before .before .before .before .if2 .left) _ _ _ _ (next-fixed (c .before .before .before .before .before .before .before .before .before .before .args .p) (c .before .before .before .before .before .before .before .before .before .before .args .types .now) (c .before .before .before .before .before .before .before .before .before .before .args .at) (c .before .before .before .before .before .before .before .before .before .before .args .n) (c .before .before .before .before .before .before .before .before .before .before .args .starts .now) (c .before .before .before .before .before .before .before .before .before .before .args .ends .now) (c .before .before .before .before .before .before .before .before .before .before .args .k) (c .before .before .before .before .before .before .before .before .before .before .args .p % 16) refl (c .before .before .before .before .before .before .before .before .if1 .left) (c .before .before .before .before .before .before .before .if2 .left) (c .before .before .before .before .before .before .if3 .taken) (sym (c .before .before .before .before .wide .ensures .0) ∙ c .before .before .before .if4 .left)) _ _ _ (c .match-pattern .ensures)
+
+-- src/patterns.rt:179:9
+match-pattern-returns-5 : (t : ℕ) → match-pattern-lts.Need-returns-5 (
+  wide-reads.Asked,
+  wide-reads.Learnt,
+  match-pattern-below t,
+  match-pattern.Post,
+  same-bytes-reads.Asked,
+  same-bytes-reads.Learnt,
+  type-end-reads.Asked,
+  type-end-reads.Learnt,
+) (match-pattern-at t) match-pattern.Post
+match-pattern-returns-5 t c = fit-large (c .before .before .before .before .before .args .p) (c .before .before .before .before .before .args .types .now) (c .before .before .before .before .before .args .at) (c .before .before .before .before .before .args .n) (c .before .before .before .before .before .args .starts .now) (c .before .before .before .before .before .args .ends .now) (c .before .before .before .before .before .args .k) (c .before .before .before .before .before .args .p % 16) refl (c .before .before .before .if1 .left) (c .before .before .if2 .left) (c .if5 .taken)
+
+-- src/patterns.rt:183:20
+match-pattern-mul-from : (t : ℕ) → match-pattern-lts.Need-mul-from (
+  wide-reads.Asked,
+  wide-reads.Learnt,
+  match-pattern-below t,
+  match-pattern.Post,
+  same-bytes-reads.Asked,
+  same-bytes-reads.Learnt,
+  type-end-reads.Asked,
+  type-end-reads.Learnt,
+) (match-pattern-at t) match-pattern.Post
+match-pattern-mul-from t c = omega (arith, c .before .before .before .before .before .before .pre .1 .env .few, c .before .before .before .before .before .before .pre .1 .count)
+
+-- src/patterns.rt:183:20
+match-pattern-element-copy-out-from : (t : ℕ) → match-pattern-lts.Need-element-copy-out-from (
+  wide-reads.Asked,
+  wide-reads.Learnt,
+  match-pattern-below t,
+  match-pattern.Post,
+  same-bytes-reads.Asked,
+  same-bytes-reads.Learnt,
+  type-end-reads.Asked,
+  type-end-reads.Learnt,
+) (match-pattern-at t) match-pattern.Post
+match-pattern-element-copy-out-from t c = omega (arith, c .before .before .before .before .before .before .pre .1 .env .few, c .before .before .before .before .before .before .pre .1 .count)
+
+-- src/patterns.rt:184:19
+match-pattern-mul-len : (t : ℕ) → match-pattern-lts.Need-mul-len (
+  wide-reads.Asked,
+  wide-reads.Learnt,
+  match-pattern-below t,
+  match-pattern.Post,
+  same-bytes-reads.Asked,
+  same-bytes-reads.Learnt,
+  type-end-reads.Asked,
+  type-end-reads.Learnt,
+) (match-pattern-at t) match-pattern.Post
+match-pattern-mul-len t c = omega (arith, c .before .before .before .before .before .before .before .pre .1 .env .few, c .before .before .before .before .before .before .before .pre .1 .count)
+
+-- src/patterns.rt:184:19
+match-pattern-element-copy-out-len : (t : ℕ) → match-pattern-lts.Need-element-copy-out-len (
+  wide-reads.Asked,
+  wide-reads.Learnt,
+  match-pattern-below t,
+  match-pattern.Post,
+  same-bytes-reads.Asked,
+  same-bytes-reads.Learnt,
+  type-end-reads.Asked,
+  type-end-reads.Learnt,
+) (match-pattern-at t) match-pattern.Post
+match-pattern-element-copy-out-len t c = omega (arith, c .before .before .before .before .before .before .before .pre .1 .env .few, c .before .before .before .before .before .before .before .pre .1 .count)
+
+-- src/patterns.rt:184:19
+match-pattern-sub-len : (t : ℕ) → match-pattern-lts.Need-sub-len (
+  wide-reads.Asked,
+  wide-reads.Learnt,
+  match-pattern-below t,
+  match-pattern.Post,
+  same-bytes-reads.Asked,
+  same-bytes-reads.Learnt,
+  type-end-reads.Asked,
+  type-end-reads.Learnt,
+) (match-pattern-at t) match-pattern.Post
+match-pattern-sub-len t c = slot-span (c .before .before .before .before .before .before .before .before .pre .1 .env) (c .before .before .before .before .before .before .before .before .pre .1 .count) (c .before .before .before .before .before .before .before .before .args .p % 16 - 5) (c .before .before .if6 .taken) .0
+
+-- src/patterns.rt:185:12
+match-pattern-sub-if7 : (t : ℕ) → match-pattern-lts.Need-sub-if7 (
+  wide-reads.Asked,
+  wide-reads.Learnt,
+  match-pattern-below t,
+  match-pattern.Post,
+  same-bytes-reads.Asked,
+  same-bytes-reads.Learnt,
+  type-end-reads.Asked,
+  type-end-reads.Learnt,
+) (match-pattern-at t) match-pattern.Post
+match-pattern-sub-if7 t c = omega arith
+
+-- src/patterns.rt:186:13
+match-pattern-returns-6 : (t : ℕ) → match-pattern-lts.Need-returns-6 (
+  wide-reads.Asked,
+  wide-reads.Learnt,
+  match-pattern-below t,
+  match-pattern.Post,
+  same-bytes-reads.Asked,
+  same-bytes-reads.Learnt,
+  type-end-reads.Asked,
+  type-end-reads.Learnt,
+) (match-pattern-at t) match-pattern.Post
+match-pattern-returns-6 t c = fit-long (c .before .before .before .before .before .before .before .before .before .args .p) (c .before .before .before .before .before .before .before .before .before .args .types .now) (c .before .before .before .before .before .before .before .before .before .args .at) (c .before .before .before .before .before .before .before .before .before .args .n) (c .before .before .before .before .before .before .before .before .before .args .starts .now) (c .before .before .before .before .before .before .before .before .before .args .ends .now) (c .before .before .before .before .before .before .before .before .before .args .k) (c .before .before .before .before .before .before .before .before .before .args .p % 16) refl (c .before .before .before .before .before .before .before .if1 .left) (c .before .before .before .before .before .before .if2 .left) (c .before .before .before .before .before .if3 .left) (c .before .before .before .before .if5 .left) (c .before .before .before .before .before .before .before .before .before .args .p % 16 - 5) refl (c .before .before .before .if6 .taken) _ _ refl refl (c .if7 .taken)
+
+-- src/patterns.rt:188:13
+match-pattern-same-bytes-requires : (t : ℕ) → match-pattern-lts.Need-same-bytes-requires (
+  wide-reads.Asked,
+  wide-reads.Learnt,
+  match-pattern-below t,
+  match-pattern.Post,
+  same-bytes-reads.Asked,
+  same-bytes-reads.Learnt,
+  type-end-reads.Asked,
+  type-end-reads.Learnt,
+) (match-pattern-at t) match-pattern.Post
+match-pattern-same-bytes-requires t c κs = let w = slot-span (c .before .before .before .before .before .before .before .before .before .pre .1 .env) (c .before .before .before .before .before .before .before .before .before .pre .1 .count) (c .before .before .before .before .before .before .before .before .before .args .p % 16 - 5) (c .before .before .before .if6 .taken) in omega (arith, c .before .before .before .before .before .before .before .before .before .pre .1 .row .span .within)
+
+-- src/patterns.rt:189:13
+match-pattern-returns-7 : (t : ℕ) → match-pattern-lts.Need-returns-7 (
+  wide-reads.Asked,
+  wide-reads.Learnt,
+  match-pattern-below t,
+  match-pattern.Post,
+  same-bytes-reads.Asked,
+  same-bytes-reads.Learnt,
+  type-end-reads.Asked,
+  type-end-reads.Learnt,
+) (match-pattern-at t) match-pattern.Post
+match-pattern-returns-7 t c = fit-differ (c .before .before .before .before .before .before .before .before .before .before .before .args .p) (c .before .before .before .before .before .before .before .before .before .before .before .args .types .now) (c .before .before .before .before .before .before .before .before .before .before .before .args .at) (c .before .before .before .before .before .before .before .before .before .before .before .args .n) (c .before .before .before .before .before .before .before .before .before .before .before .args .starts .now) (c .before .before .before .before .before .before .before .before .before .before .before .args .ends .now) (c .before .before .before .before .before .before .before .before .before .before .before .args .k) (c .before .before .before .before .before .before .before .before .before .before .before .args .p % 16) refl (c .before .before .before .before .before .before .before .before .before .if1 .left) (c .before .before .before .before .before .before .before .before .if2 .left) (c .before .before .before .before .before .before .before .if3 .left) (c .before .before .before .before .before .before .if5 .left) (c .before .before .before .before .before .before .before .before .before .before .before .args .p % 16 - 5) refl (c .before .before .before .before .before .if6 .taken) _ _ refl refl (c .before .same-bytes .result) (c .before .same-bytes .ensures) (not-true _ (c .if8 .taken))
+
+-- src/patterns.rt:191:45
 match-pattern-add-match-pattern-2 : (t : ℕ) → match-pattern-lts.Need-add-match-pattern-2 (
   wide-reads.Asked,
   wide-reads.Learnt,
@@ -162,189 +280,7 @@ match-pattern-add-match-pattern-2 : (t : ℕ) → match-pattern-lts.Need-add-mat
 ) (match-pattern-at t) match-pattern.Post
 match-pattern-add-match-pattern-2 t c = omega (arith, c .before .before .before .before .before .before .before .before .before .before .before .pre .1 .row .span .within)
 
--- src/patterns.rt:109:9
-match-pattern-match-pattern-requires : (t : ℕ) → match-pattern-lts.Need-match-pattern-requires (
-  wide-reads.Asked,
-  wide-reads.Learnt,
-  match-pattern-below t,
-  match-pattern.Post,
-  same-bytes-reads.Asked,
-  same-bytes-reads.Learnt,
-  type-end-reads.Asked,
-  type-end-reads.Learnt,
-) (match-pattern-at t) match-pattern.Post
-match-pattern-match-pattern-requires t c κs = (omega arith, next-pre (next-fixed (c .before .before .before .before .before .before .before .before .before .before .before .before .before .args .patterns .now) (c .before .before .before .before .before .before .before .before .before .before .before .before .before .args .i) (c .before .before .before .before .before .before .before .before .before .before .before .before .before .args .types .now) (c .before .before .before .before .before .before .before .before .before .before .before .before .before .args .at) (c .before .before .before .before .before .before .before .before .before .before .before .before .before .args .n) (c .before .before .before .before .before .before .before .before .before .before .before .before .before .args .starts .now) (c .before .before .before .before .before .before .before .before .before .before .before .before .before .args .ends .now) (c .before .before .before .before .before .before .before .before .before .before .before .before .before .args .k) (c .before .before .before .before .before .before .before .before .before .before .if1 .left) (c .before .before .before .before .before .before .before .before .wide .result) (c .before .before .before .before .before .before .before .before .wide .ensures .0) (c .before .before .before .before .before .before .before .if2 .left) (c .before .before .before .before .before .before .if3 .left) (c .before .before .before .before .before .if4 .taken) (sym (c .before .before .before .wide2 .ensures .0) ∙ c .before .before .if5 .left) (c .before .before .before .before .before .before .before .before .before .before .before .before .before .pre .1 .us) (c .before .before .before .before .before .before .before .before .before .before .before .before .before .pre .1 .ρ) (c .before .before .before .before .before .before .before .before .before .before .before .before .before .pre .1 .row) (c .before .before .before .before .before .before .before .before .before .before .before .before .before .pre .1 .env) (c .before .before .before .before .before .before .before .before .before .before .before .before .before .pre .1 .count)))
-
--- src/patterns.rt:109:9
-match-pattern-returns-5 : (t : ℕ) → match-pattern-lts.Need-returns-5 (
-  wide-reads.Asked,
-  wide-reads.Learnt,
-  match-pattern-below t,
-  match-pattern.Post,
-  same-bytes-reads.Asked,
-  same-bytes-reads.Learnt,
-  type-end-reads.Asked,
-  type-end-reads.Learnt,
-) (match-pattern-at t) match-pattern.Post
-match-pattern-returns-5 t c = goes-on (c .before .before .before .before .before .before .before .before .before .before .before .before .before .before .args .patterns .now) (c .before .before .before .before .before .before .before .before .before .before .before .before .before .before .args .i) (c .before .before .before .before .before .before .before .before .before .before .before .before .before .before .args .types .now) (c .before .before .before .before .before .before .before .before .before .before .before .before .before .before .args .at) (c .before .before .before .before .before .before .before .before .before .before .before .before .before .before .args .n) (c .before .before .before .before .before .before .before .before .before .before .before .before .before .before .args .starts .now) (c .before .before .before .before .before .before .before .before .before .before .before .before .before .before .args .ends .now) (c .before .before .before .before .before .before .before .before .before .before .before .before .before .before .args .k) (c .before .before .before .before .before .before .before .before .before .before .before .if1 .left) (c .before .before .before .before .before .before .before .before .before .wide .result) (c .before .before .before .before .before .before .before .before .before .wide .ensures .0) (c .before .before .before .before .before .before .before .before .if2 .left) (c .before .before .before .before .before .before .before .if3 .left) _ _ _ _ (next-fixed (c .before .before .before .before .before .before .before .before .before .before .before .before .before .before .args .patterns .now) (c .before .before .before .before .before .before .before .before .before .before .before .before .before .before .args .i) (c .before .before .before .before .before .before .before .before .before .before .before .before .before .before .args .types .now) (c .before .before .before .before .before .before .before .before .before .before .before .before .before .before .args .at) (c .before .before .before .before .before .before .before .before .before .before .before .before .before .before .args .n) (c .before .before .before .before .before .before .before .before .before .before .before .before .before .before .args .starts .now) (c .before .before .before .before .before .before .before .before .before .before .before .before .before .before .args .ends .now) (c .before .before .before .before .before .before .before .before .before .before .before .before .before .before .args .k) (c .before .before .before .before .before .before .before .before .before .before .before .if1 .left) (c .before .before .before .before .before .before .before .before .before .wide .result) (c .before .before .before .before .before .before .before .before .before .wide .ensures .0) (c .before .before .before .before .before .before .before .before .if2 .left) (c .before .before .before .before .before .before .before .if3 .left) (c .before .before .before .before .before .before .if4 .taken) (sym (c .before .before .before .before .wide2 .ensures .0) ∙ c .before .before .before .if5 .left)) _ _ _ (c .match-pattern .ensures)
-
--- src/patterns.rt:112:9
-match-pattern-returns-6 : (t : ℕ) → match-pattern-lts.Need-returns-6 (
-  wide-reads.Asked,
-  wide-reads.Learnt,
-  match-pattern-below t,
-  match-pattern.Post,
-  same-bytes-reads.Asked,
-  same-bytes-reads.Learnt,
-  type-end-reads.Asked,
-  type-end-reads.Learnt,
-) (match-pattern-at t) match-pattern.Post
-match-pattern-returns-6 t c = fit-large (c .before .before .before .before .before .before .before .before .before .args .patterns .now) (c .before .before .before .before .before .before .before .before .before .args .i) (c .before .before .before .before .before .before .before .before .before .args .types .now) (c .before .before .before .before .before .before .before .before .before .args .at) (c .before .before .before .before .before .before .before .before .before .args .n) (c .before .before .before .before .before .before .before .before .before .args .starts .now) (c .before .before .before .before .before .before .before .before .before .args .ends .now) (c .before .before .before .before .before .before .before .before .before .args .k) (c .before .before .before .before .before .before .if1 .left) (c .before .before .before .before .wide .result) (c .before .before .before .before .wide .ensures .0) (c .before .before .before .if2 .left) (c .before .before .if3 .left) (c .if6 .taken)
-
--- src/patterns.rt:116:20
-match-pattern-mul-from : (t : ℕ) → match-pattern-lts.Need-mul-from (
-  wide-reads.Asked,
-  wide-reads.Learnt,
-  match-pattern-below t,
-  match-pattern.Post,
-  same-bytes-reads.Asked,
-  same-bytes-reads.Learnt,
-  type-end-reads.Asked,
-  type-end-reads.Learnt,
-) (match-pattern-at t) match-pattern.Post
-match-pattern-mul-from t c = omega (arith, c .before .before .before .before .before .before .before .before .before .before .pre .1 .env .few, c .before .before .before .before .before .before .before .before .before .before .pre .1 .count)
-
--- src/patterns.rt:116:20
-match-pattern-element-copy-out-from : (t : ℕ) → match-pattern-lts.Need-element-copy-out-from (
-  wide-reads.Asked,
-  wide-reads.Learnt,
-  match-pattern-below t,
-  match-pattern.Post,
-  same-bytes-reads.Asked,
-  same-bytes-reads.Learnt,
-  type-end-reads.Asked,
-  type-end-reads.Learnt,
-) (match-pattern-at t) match-pattern.Post
-match-pattern-element-copy-out-from t c = omega (arith, c .before .before .before .before .before .before .before .before .before .before .pre .1 .env .few, c .before .before .before .before .before .before .before .before .before .before .pre .1 .count)
-
--- src/patterns.rt:117:19
-match-pattern-mul-len : (t : ℕ) → match-pattern-lts.Need-mul-len (
-  wide-reads.Asked,
-  wide-reads.Learnt,
-  match-pattern-below t,
-  match-pattern.Post,
-  same-bytes-reads.Asked,
-  same-bytes-reads.Learnt,
-  type-end-reads.Asked,
-  type-end-reads.Learnt,
-) (match-pattern-at t) match-pattern.Post
-match-pattern-mul-len t c = omega (arith, c .before .before .before .before .before .before .before .before .before .before .before .pre .1 .env .few, c .before .before .before .before .before .before .before .before .before .before .before .pre .1 .count)
-
--- src/patterns.rt:117:19
-match-pattern-element-copy-out-len : (t : ℕ) → match-pattern-lts.Need-element-copy-out-len (
-  wide-reads.Asked,
-  wide-reads.Learnt,
-  match-pattern-below t,
-  match-pattern.Post,
-  same-bytes-reads.Asked,
-  same-bytes-reads.Learnt,
-  type-end-reads.Asked,
-  type-end-reads.Learnt,
-) (match-pattern-at t) match-pattern.Post
-match-pattern-element-copy-out-len t c = omega (arith, c .before .before .before .before .before .before .before .before .before .before .before .pre .1 .env .few, c .before .before .before .before .before .before .before .before .before .before .before .pre .1 .count)
-
--- src/patterns.rt:117:19
-match-pattern-sub-len : (t : ℕ) → match-pattern-lts.Need-sub-len (
-  wide-reads.Asked,
-  wide-reads.Learnt,
-  match-pattern-below t,
-  match-pattern.Post,
-  same-bytes-reads.Asked,
-  same-bytes-reads.Learnt,
-  type-end-reads.Asked,
-  type-end-reads.Learnt,
-) (match-pattern-at t) match-pattern.Post
-match-pattern-sub-len t c = slot-span (c .before .before .before .before .before .before .before .before .before .before .before .before .pre .1 .env) (c .before .before .before .before .before .before .before .before .before .before .before .before .pre .1 .count) (c .before .before .before .before .before .before .before .wide .result - 5) (c .before .before .if7 .taken) .0
-
--- src/patterns.rt:118:12
-match-pattern-sub-if8 : (t : ℕ) → match-pattern-lts.Need-sub-if8 (
-  wide-reads.Asked,
-  wide-reads.Learnt,
-  match-pattern-below t,
-  match-pattern.Post,
-  same-bytes-reads.Asked,
-  same-bytes-reads.Learnt,
-  type-end-reads.Asked,
-  type-end-reads.Learnt,
-) (match-pattern-at t) match-pattern.Post
-match-pattern-sub-if8 t c = omega arith
-
--- src/patterns.rt:119:13
-match-pattern-returns-7 : (t : ℕ) → match-pattern-lts.Need-returns-7 (
-  wide-reads.Asked,
-  wide-reads.Learnt,
-  match-pattern-below t,
-  match-pattern.Post,
-  same-bytes-reads.Asked,
-  same-bytes-reads.Learnt,
-  type-end-reads.Asked,
-  type-end-reads.Learnt,
-) (match-pattern-at t) match-pattern.Post
-match-pattern-returns-7 t c = fit-long (c .before .before .before .before .before .before .before .before .before .before .before .before .before .args .patterns .now) (c .before .before .before .before .before .before .before .before .before .before .before .before .before .args .i) (c .before .before .before .before .before .before .before .before .before .before .before .before .before .args .types .now) (c .before .before .before .before .before .before .before .before .before .before .before .before .before .args .at) (c .before .before .before .before .before .before .before .before .before .before .before .before .before .args .n) (c .before .before .before .before .before .before .before .before .before .before .before .before .before .args .starts .now) (c .before .before .before .before .before .before .before .before .before .before .before .before .before .args .ends .now) (c .before .before .before .before .before .before .before .before .before .before .before .before .before .args .k) (c .before .before .before .before .before .before .before .before .before .before .if1 .left) (c .before .before .before .before .before .before .before .before .wide .result) (c .before .before .before .before .before .before .before .before .wide .ensures .0) (c .before .before .before .before .before .before .before .if2 .left) (c .before .before .before .before .before .before .if3 .left) (c .before .before .before .before .before .if4 .left) (c .before .before .before .before .if6 .left) (c .before .before .before .before .before .before .before .before .wide .result - 5) refl (c .before .before .before .if7 .taken) _ _ refl refl (c .if8 .taken)
-
--- src/patterns.rt:121:13
-match-pattern-same-bytes-requires : (t : ℕ) → match-pattern-lts.Need-same-bytes-requires (
-  wide-reads.Asked,
-  wide-reads.Learnt,
-  match-pattern-below t,
-  match-pattern.Post,
-  same-bytes-reads.Asked,
-  same-bytes-reads.Learnt,
-  type-end-reads.Asked,
-  type-end-reads.Learnt,
-) (match-pattern-at t) match-pattern.Post
-match-pattern-same-bytes-requires t c κs = let w = slot-span (c .before .before .before .before .before .before .before .before .before .before .before .before .before .pre .1 .env) (c .before .before .before .before .before .before .before .before .before .before .before .before .before .pre .1 .count) (c .before .before .before .before .before .before .before .before .wide .result - 5) (c .before .before .before .if7 .taken) in omega (arith, c .before .before .before .before .before .before .before .before .before .before .before .before .before .pre .1 .row .span .within)
-
--- src/patterns.rt:122:13
-match-pattern-returns-8 : (t : ℕ) → match-pattern-lts.Need-returns-8 (
-  wide-reads.Asked,
-  wide-reads.Learnt,
-  match-pattern-below t,
-  match-pattern.Post,
-  same-bytes-reads.Asked,
-  same-bytes-reads.Learnt,
-  type-end-reads.Asked,
-  type-end-reads.Learnt,
-) (match-pattern-at t) match-pattern.Post
-match-pattern-returns-8 t c = fit-differ (c .before .before .before .before .before .before .before .before .before .before .before .before .before .before .before .args .patterns .now) (c .before .before .before .before .before .before .before .before .before .before .before .before .before .before .before .args .i) (c .before .before .before .before .before .before .before .before .before .before .before .before .before .before .before .args .types .now) (c .before .before .before .before .before .before .before .before .before .before .before .before .before .before .before .args .at) (c .before .before .before .before .before .before .before .before .before .before .before .before .before .before .before .args .n) (c .before .before .before .before .before .before .before .before .before .before .before .before .before .before .before .args .starts .now) (c .before .before .before .before .before .before .before .before .before .before .before .before .before .before .before .args .ends .now) (c .before .before .before .before .before .before .before .before .before .before .before .before .before .before .before .args .k) (c .before .before .before .before .before .before .before .before .before .before .before .before .if1 .left) (c .before .before .before .before .before .before .before .before .before .before .wide .result) (c .before .before .before .before .before .before .before .before .before .before .wide .ensures .0) (c .before .before .before .before .before .before .before .before .before .if2 .left) (c .before .before .before .before .before .before .before .before .if3 .left) (c .before .before .before .before .before .before .before .if4 .left) (c .before .before .before .before .before .before .if6 .left) (c .before .before .before .before .before .before .before .before .before .before .wide .result - 5) refl (c .before .before .before .before .before .if7 .taken) _ _ refl refl (c .before .same-bytes .result) (c .before .same-bytes .ensures) (not-true _ (c .if9 .taken))
-
--- src/patterns.rt:124:40
-match-pattern-add-match-pattern-3 : (t : ℕ) → match-pattern-lts.Need-add-match-pattern-3 (
-  wide-reads.Asked,
-  wide-reads.Learnt,
-  match-pattern-below t,
-  match-pattern.Post,
-  same-bytes-reads.Asked,
-  same-bytes-reads.Learnt,
-  type-end-reads.Asked,
-  type-end-reads.Learnt,
-) (match-pattern-at t) match-pattern.Post
-match-pattern-add-match-pattern-3 t c = omega arith
-
--- src/patterns.rt:124:54
-match-pattern-add-match-pattern-4 : (t : ℕ) → match-pattern-lts.Need-add-match-pattern-4 (
-  wide-reads.Asked,
-  wide-reads.Learnt,
-  match-pattern-below t,
-  match-pattern.Post,
-  same-bytes-reads.Asked,
-  same-bytes-reads.Learnt,
-  type-end-reads.Asked,
-  type-end-reads.Learnt,
-) (match-pattern-at t) match-pattern.Post
-match-pattern-add-match-pattern-4 t c = omega (arith, c .before .before .before .before .before .before .before .before .before .before .before .before .before .before .before .pre .1 .row .span .within)
-
--- src/patterns.rt:124:9
+-- src/patterns.rt:191:9
 match-pattern-match-pattern-requires-2 : (t : ℕ) → match-pattern-lts.Need-match-pattern-requires-2 (
   wide-reads.Asked,
   wide-reads.Learnt,
@@ -355,9 +291,22 @@ match-pattern-match-pattern-requires-2 : (t : ℕ) → match-pattern-lts.Need-ma
   type-end-reads.Asked,
   type-end-reads.Learnt,
 ) (match-pattern-at t) match-pattern.Post
-match-pattern-match-pattern-requires-2 t c κs = (omega arith, next-pre (next-same (c .before .before .before .before .before .before .before .before .before .before .before .before .before .before .before .before .before .args .patterns .now) (c .before .before .before .before .before .before .before .before .before .before .before .before .before .before .before .before .before .args .i) (c .before .before .before .before .before .before .before .before .before .before .before .before .before .before .before .before .before .args .types .now) (c .before .before .before .before .before .before .before .before .before .before .before .before .before .before .before .before .before .args .at) (c .before .before .before .before .before .before .before .before .before .before .before .before .before .before .before .before .before .args .n) (c .before .before .before .before .before .before .before .before .before .before .before .before .before .before .before .before .before .args .starts .now) (c .before .before .before .before .before .before .before .before .before .before .before .before .before .before .before .before .before .args .ends .now) (c .before .before .before .before .before .before .before .before .before .before .before .before .before .before .before .before .before .args .k) (c .before .before .before .before .before .before .before .before .before .before .before .before .before .before .if1 .left) (c .before .before .before .before .before .before .before .before .before .before .before .before .wide .result) (c .before .before .before .before .before .before .before .before .before .before .before .before .wide .ensures .0) (c .before .before .before .before .before .before .before .before .before .before .before .if2 .left) (c .before .before .before .before .before .before .before .before .before .before .if3 .left) (c .before .before .before .before .before .before .before .before .before .if4 .left) (c .before .before .before .before .before .before .before .before .if6 .left) (c .before .before .before .before .before .before .before .before .before .before .before .before .wide .result - 5) refl (c .before .before .before .before .before .before .before .if7 .taken) _ _ refl refl (c .before .before .before .before .if8 .left) (c .before .before .before .same-bytes .result) (c .before .before .before .same-bytes .ensures) (not-false _ (c .before .before .if9 .left)) (c .before .before .before .before .before .before .before .before .before .before .before .before .before .before .before .before .before .pre .1 .us) (c .before .before .before .before .before .before .before .before .before .before .before .before .before .before .before .before .before .pre .1 .ρ) (c .before .before .before .before .before .before .before .before .before .before .before .before .before .before .before .before .before .pre .1 .row) (c .before .before .before .before .before .before .before .before .before .before .before .before .before .before .before .before .before .pre .1 .env) (c .before .before .before .before .before .before .before .before .before .before .before .before .before .before .before .before .before .pre .1 .count)))
+match-pattern-match-pattern-requires-2 t c κs = (omega (arith, slot-some (c .before .before .before .before .before .before .before .before .before .before .before .before .before .pre .1 .env) (c .before .before .before .before .before .before .before .before .before .before .before .before .before .pre .1 .count) (c .before .before .before .before .before .before .before .before .before .before .before .before .before .args .p % 16 - 5) (c .before .before .before .before .before .before .before .if6 .taken)), next-pre (next-same (c .before .before .before .before .before .before .before .before .before .before .before .before .before .args .p) (c .before .before .before .before .before .before .before .before .before .before .before .before .before .args .types .now) (c .before .before .before .before .before .before .before .before .before .before .before .before .before .args .at) (c .before .before .before .before .before .before .before .before .before .before .before .before .before .args .n) (c .before .before .before .before .before .before .before .before .before .before .before .before .before .args .starts .now) (c .before .before .before .before .before .before .before .before .before .before .before .before .before .args .ends .now) (c .before .before .before .before .before .before .before .before .before .before .before .before .before .args .k) (c .before .before .before .before .before .before .before .before .before .before .before .before .before .args .p % 16) refl (c .before .before .before .before .before .before .before .before .before .before .before .if1 .left) (c .before .before .before .before .before .before .before .before .before .before .if2 .left) (c .before .before .before .before .before .before .before .before .before .if3 .left) (c .before .before .before .before .before .before .before .before .if5 .left) (c .before .before .before .before .before .before .before .before .before .before .before .before .before .args .p % 16 - 5) refl (c .before .before .before .before .before .before .before .if6 .taken) _ _ refl refl (c .before .before .before .before .if7 .left) (c .before .before .before .same-bytes .result) (c .before .before .before .same-bytes .ensures) (not-false _ (c .before .before .if8 .left)) [] (c .before .before .before .before .before .before .before .before .before .before .before .before .before .pre .1 .us) (c .before .before .before .before .before .before .before .before .before .before .before .before .before .pre .1 .ρ) (c .before .before .before .before .before .before .before .before .before .before .before .before .before .pre .1 .row) (c .before .before .before .before .before .before .before .before .before .before .before .before .before .pre .1 .env) (c .before .before .before .before .before .before .before .before .before .before .before .before .before .pre .1 .count)))
 
--- src/patterns.rt:124:9
+-- src/patterns.rt:191:9
+match-pattern-returns-8 : (t : ℕ) → match-pattern-lts.Need-returns-8 (
+  wide-reads.Asked,
+  wide-reads.Learnt,
+  match-pattern-below t,
+  match-pattern.Post,
+  same-bytes-reads.Asked,
+  same-bytes-reads.Learnt,
+  type-end-reads.Asked,
+  type-end-reads.Learnt,
+) (match-pattern-at t) match-pattern.Post
+match-pattern-returns-8 t c = goes-on (c .before .before .before .before .before .before .before .before .before .before .before .before .before .before .args .p) (c .before .before .before .before .before .before .before .before .before .before .before .before .before .before .args .types .now) (c .before .before .before .before .before .before .before .before .before .before .before .before .before .before .args .at) (c .before .before .before .before .before .before .before .before .before .before .before .before .before .before .args .n) (c .before .before .before .before .before .before .before .before .before .before .before .before .before .before .args .starts .now) (c .before .before .before .before .before .before .before .before .before .before .before .before .before .before .args .ends .now) (c .before .before .before .before .before .before .before .before .before .before .before .before .before .before .args .k) (c .before .before .before .before .before .before .before .before .before .before .before .before .before .before .args .p % 16) refl (c .before .before .before .before .before .before .before .before .before .before .before .before .if1 .left) (c .before .before .before .before .before .before .before .before .before .before .before .if2 .left) _ _ _ _ (next-same (c .before .before .before .before .before .before .before .before .before .before .before .before .before .before .args .p) (c .before .before .before .before .before .before .before .before .before .before .before .before .before .before .args .types .now) (c .before .before .before .before .before .before .before .before .before .before .before .before .before .before .args .at) (c .before .before .before .before .before .before .before .before .before .before .before .before .before .before .args .n) (c .before .before .before .before .before .before .before .before .before .before .before .before .before .before .args .starts .now) (c .before .before .before .before .before .before .before .before .before .before .before .before .before .before .args .ends .now) (c .before .before .before .before .before .before .before .before .before .before .before .before .before .before .args .k) (c .before .before .before .before .before .before .before .before .before .before .before .before .before .before .args .p % 16) refl (c .before .before .before .before .before .before .before .before .before .before .before .before .if1 .left) (c .before .before .before .before .before .before .before .before .before .before .before .if2 .left) (c .before .before .before .before .before .before .before .before .before .before .if3 .left) (c .before .before .before .before .before .before .before .before .before .if5 .left) (c .before .before .before .before .before .before .before .before .before .before .before .before .before .before .args .p % 16 - 5) refl (c .before .before .before .before .before .before .before .before .if6 .taken) _ _ refl refl (c .before .before .before .before .before .if7 .left) (c .before .before .before .before .same-bytes .result) (c .before .before .before .before .same-bytes .ensures) (not-false _ (c .before .before .before .if8 .left))) _ _ _ (c .match-pattern2 .ensures)
+
+-- src/patterns.rt:194:9
 match-pattern-returns-9 : (t : ℕ) → match-pattern-lts.Need-returns-9 (
   wide-reads.Asked,
   wide-reads.Learnt,
@@ -368,22 +317,9 @@ match-pattern-returns-9 : (t : ℕ) → match-pattern-lts.Need-returns-9 (
   type-end-reads.Asked,
   type-end-reads.Learnt,
 ) (match-pattern-at t) match-pattern.Post
-match-pattern-returns-9 t c = goes-on (c .before .before .before .before .before .before .before .before .before .before .before .before .before .before .before .before .before .before .args .patterns .now) (c .before .before .before .before .before .before .before .before .before .before .before .before .before .before .before .before .before .before .args .i) (c .before .before .before .before .before .before .before .before .before .before .before .before .before .before .before .before .before .before .args .types .now) (c .before .before .before .before .before .before .before .before .before .before .before .before .before .before .before .before .before .before .args .at) (c .before .before .before .before .before .before .before .before .before .before .before .before .before .before .before .before .before .before .args .n) (c .before .before .before .before .before .before .before .before .before .before .before .before .before .before .before .before .before .before .args .starts .now) (c .before .before .before .before .before .before .before .before .before .before .before .before .before .before .before .before .before .before .args .ends .now) (c .before .before .before .before .before .before .before .before .before .before .before .before .before .before .before .before .before .before .args .k) (c .before .before .before .before .before .before .before .before .before .before .before .before .before .before .before .if1 .left) (c .before .before .before .before .before .before .before .before .before .before .before .before .before .wide .result) (c .before .before .before .before .before .before .before .before .before .before .before .before .before .wide .ensures .0) (c .before .before .before .before .before .before .before .before .before .before .before .before .if2 .left) (c .before .before .before .before .before .before .before .before .before .before .before .if3 .left) _ _ _ _ (next-same (c .before .before .before .before .before .before .before .before .before .before .before .before .before .before .before .before .before .before .args .patterns .now) (c .before .before .before .before .before .before .before .before .before .before .before .before .before .before .before .before .before .before .args .i) (c .before .before .before .before .before .before .before .before .before .before .before .before .before .before .before .before .before .before .args .types .now) (c .before .before .before .before .before .before .before .before .before .before .before .before .before .before .before .before .before .before .args .at) (c .before .before .before .before .before .before .before .before .before .before .before .before .before .before .before .before .before .before .args .n) (c .before .before .before .before .before .before .before .before .before .before .before .before .before .before .before .before .before .before .args .starts .now) (c .before .before .before .before .before .before .before .before .before .before .before .before .before .before .before .before .before .before .args .ends .now) (c .before .before .before .before .before .before .before .before .before .before .before .before .before .before .before .before .before .before .args .k) (c .before .before .before .before .before .before .before .before .before .before .before .before .before .before .before .if1 .left) (c .before .before .before .before .before .before .before .before .before .before .before .before .before .wide .result) (c .before .before .before .before .before .before .before .before .before .before .before .before .before .wide .ensures .0) (c .before .before .before .before .before .before .before .before .before .before .before .before .if2 .left) (c .before .before .before .before .before .before .before .before .before .before .before .if3 .left) (c .before .before .before .before .before .before .before .before .before .before .if4 .left) (c .before .before .before .before .before .before .before .before .before .if6 .left) (c .before .before .before .before .before .before .before .before .before .before .before .before .before .wide .result - 5) refl (c .before .before .before .before .before .before .before .before .if7 .taken) _ _ refl refl (c .before .before .before .before .before .if8 .left) (c .before .before .before .before .same-bytes .result) (c .before .before .before .before .same-bytes .ensures) (not-false _ (c .before .before .before .if9 .left))) _ _ _ (c .match-pattern2 .ensures)
+match-pattern-returns-9 t c = fit-gap (c .before .before .before .before .before .before .before .args .p) (c .before .before .before .before .before .before .before .args .types .now) (c .before .before .before .before .before .before .before .args .at) (c .before .before .before .before .before .before .before .args .n) (c .before .before .before .before .before .before .before .args .starts .now) (c .before .before .before .before .before .before .before .args .ends .now) (c .before .before .before .before .before .before .before .args .k) (c .before .before .before .before .before .before .before .args .p % 16) refl (c .before .before .before .before .before .if1 .left) (c .before .before .before .before .if2 .left) (c .before .before .before .if3 .left) (c .before .before .if5 .left) (c .if9 .taken)
 
--- src/patterns.rt:127:9
-match-pattern-returns-10 : (t : ℕ) → match-pattern-lts.Need-returns-10 (
-  wide-reads.Asked,
-  wide-reads.Learnt,
-  match-pattern-below t,
-  match-pattern.Post,
-  same-bytes-reads.Asked,
-  same-bytes-reads.Learnt,
-  type-end-reads.Asked,
-  type-end-reads.Learnt,
-) (match-pattern-at t) match-pattern.Post
-match-pattern-returns-10 t c = fit-gap (c .before .before .before .before .before .before .before .before .before .before .before .args .patterns .now) (c .before .before .before .before .before .before .before .before .before .before .before .args .i) (c .before .before .before .before .before .before .before .before .before .before .before .args .types .now) (c .before .before .before .before .before .before .before .before .before .before .before .args .at) (c .before .before .before .before .before .before .before .before .before .before .before .args .n) (c .before .before .before .before .before .before .before .before .before .before .before .args .starts .now) (c .before .before .before .before .before .before .before .before .before .before .before .args .ends .now) (c .before .before .before .before .before .before .before .before .before .before .before .args .k) (c .before .before .before .before .before .before .before .before .if1 .left) (c .before .before .before .before .before .before .wide .result) (c .before .before .before .before .before .before .wide .ensures .0) (c .before .before .before .before .before .if2 .left) (c .before .before .before .before .if3 .left) (c .before .before .before .if4 .left) (c .before .before .if6 .left) (c .if10 .taken)
-
--- src/patterns.rt:129:9
+-- src/patterns.rt:196:9
 match-pattern-type-end-requires : (t : ℕ) → match-pattern-lts.Need-type-end-requires (
   wide-reads.Asked,
   wide-reads.Learnt,
@@ -394,9 +330,9 @@ match-pattern-type-end-requires : (t : ℕ) → match-pattern-lts.Need-type-end-
   type-end-reads.Asked,
   type-end-reads.Learnt,
 ) (match-pattern-at t) match-pattern.Post
-match-pattern-type-end-requires t c κs = first-type (c .before .before .before .before .before .before .before .before .before .before .before .args .patterns .now) (c .before .before .before .before .before .before .before .before .before .before .before .args .i) (c .before .before .before .before .before .before .before .before .before .before .before .args .types .now) (c .before .before .before .before .before .before .before .before .before .before .before .args .at) (c .before .before .before .before .before .before .before .before .before .before .before .args .n) (c .before .before .before .before .before .before .before .before .before .before .before .args .starts .now) (c .before .before .before .before .before .before .before .before .before .before .before .args .ends .now) (c .before .before .before .before .before .before .before .before .before .before .before .args .k) (c .before .before .before .before .before .before .before .before .if1 .left) (c .before .before .before .before .before .before .wide .result) (c .before .before .before .before .before .before .wide .ensures .0) (c .before .before .before .before .before .if2 .left) (c .before .before .before .before .if3 .left) (c .before .before .before .before .before .before .before .before .before .before .before .pre .1 .us) (c .before .before .before .before .before .before .before .before .before .before .before .pre .1 .ρ) (c .before .before .before .before .before .before .before .before .before .before .before .pre .1 .row) (c .before .before .before .before .before .before .before .before .before .before .before .pre .1 .env) (c .before .before .before .before .before .before .before .before .before .before .before .pre .1 .count)
+match-pattern-type-end-requires t c κs = first-type (c .before .before .before .before .before .before .before .args .p) (c .before .before .before .before .before .before .before .args .types .now) (c .before .before .before .before .before .before .before .args .at) (c .before .before .before .before .before .before .before .args .n) (c .before .before .before .before .before .before .before .args .starts .now) (c .before .before .before .before .before .before .before .args .ends .now) (c .before .before .before .before .before .before .before .args .k) (c .before .before .before .before .before .before .before .args .p % 16) refl (c .before .before .before .before .before .if1 .left) (c .before .before .before .before .if2 .left) (c .before .before .before .before .before .before .before .pre .1 .us) (c .before .before .before .before .before .before .before .pre .1 .ρ) (c .before .before .before .before .before .before .before .pre .1 .row) (c .before .before .before .before .before .before .before .pre .1 .env) (c .before .before .before .before .before .before .before .pre .1 .count)
 
--- src/patterns.rt:130:5
+-- src/patterns.rt:197:5
 match-pattern-mul-starts : (t : ℕ) → match-pattern-lts.Need-mul-starts (
   wide-reads.Asked,
   wide-reads.Learnt,
@@ -409,7 +345,7 @@ match-pattern-mul-starts : (t : ℕ) → match-pattern-lts.Need-mul-starts (
 ) (match-pattern-at t) match-pattern.Post
 match-pattern-mul-starts t c = omega arith
 
--- src/patterns.rt:130:5
+-- src/patterns.rt:197:5
 match-pattern-element-write-starts : (t : ℕ) → match-pattern-lts.Need-element-write-starts (
   wide-reads.Asked,
   wide-reads.Learnt,
@@ -422,7 +358,7 @@ match-pattern-element-write-starts : (t : ℕ) → match-pattern-lts.Need-elemen
 ) (match-pattern-at t) match-pattern.Post
 match-pattern-element-write-starts t c = omega arith
 
--- src/patterns.rt:131:5
+-- src/patterns.rt:198:5
 match-pattern-mul-ends : (t : ℕ) → match-pattern-lts.Need-mul-ends (
   wide-reads.Asked,
   wide-reads.Learnt,
@@ -435,7 +371,7 @@ match-pattern-mul-ends : (t : ℕ) → match-pattern-lts.Need-mul-ends (
 ) (match-pattern-at t) match-pattern.Post
 match-pattern-mul-ends t c = omega arith
 
--- src/patterns.rt:131:5
+-- src/patterns.rt:198:5
 match-pattern-element-write-ends : (t : ℕ) → match-pattern-lts.Need-element-write-ends (
   wide-reads.Asked,
   wide-reads.Learnt,
@@ -448,8 +384,8 @@ match-pattern-element-write-ends : (t : ℕ) → match-pattern-lts.Need-element-
 ) (match-pattern-at t) match-pattern.Post
 match-pattern-element-write-ends t c = omega arith
 
--- src/patterns.rt:132:29
-match-pattern-add-match-pattern-5 : (t : ℕ) → match-pattern-lts.Need-add-match-pattern-5 (
+-- src/patterns.rt:199:54
+match-pattern-add-match-pattern-3 : (t : ℕ) → match-pattern-lts.Need-add-match-pattern-3 (
   wide-reads.Asked,
   wide-reads.Learnt,
   match-pattern-below t,
@@ -459,22 +395,9 @@ match-pattern-add-match-pattern-5 : (t : ℕ) → match-pattern-lts.Need-add-mat
   type-end-reads.Asked,
   type-end-reads.Learnt,
 ) (match-pattern-at t) match-pattern.Post
-match-pattern-add-match-pattern-5 t c = omega arith
+match-pattern-add-match-pattern-3 t c = omega (arith, c .before .before .before .before .before .before .before .before .before .before .pre .1 .env .few, c .before .before .before .before .before .before .before .before .before .before .pre .1 .count)
 
--- src/patterns.rt:132:63
-match-pattern-add-match-pattern-6 : (t : ℕ) → match-pattern-lts.Need-add-match-pattern-6 (
-  wide-reads.Asked,
-  wide-reads.Learnt,
-  match-pattern-below t,
-  match-pattern.Post,
-  same-bytes-reads.Asked,
-  same-bytes-reads.Learnt,
-  type-end-reads.Asked,
-  type-end-reads.Learnt,
-) (match-pattern-at t) match-pattern.Post
-match-pattern-add-match-pattern-6 t c = omega (arith, c .before .before .before .before .before .before .before .before .before .before .before .before .before .before .pre .1 .env .few, c .before .before .before .before .before .before .before .before .before .before .before .before .before .before .pre .1 .count)
-
--- src/patterns.rt:132:5
+-- src/patterns.rt:199:5
 match-pattern-match-pattern-requires-3 : (t : ℕ) → match-pattern-lts.Need-match-pattern-requires-3 (
   wide-reads.Asked,
   wide-reads.Learnt,
@@ -485,10 +408,10 @@ match-pattern-match-pattern-requires-3 : (t : ℕ) → match-pattern-lts.Need-ma
   type-end-reads.Asked,
   type-end-reads.Learnt,
 ) (match-pattern-at t) match-pattern.Post
-match-pattern-match-pattern-requires-3 t c κs = (omega arith, next-pre (next-new (c .before .before .before .before .before .before .before .before .before .before .before .before .before .before .args .patterns .now) (c .before .before .before .before .before .before .before .before .before .before .before .before .before .before .args .i) (c .before .before .before .before .before .before .before .before .before .before .before .before .before .before .args .types .now) (c .before .before .before .before .before .before .before .before .before .before .before .before .before .before .args .at) (c .before .before .before .before .before .before .before .before .before .before .before .before .before .before .args .n) (c .before .before .before .before .before .before .before .before .before .before .before .before .before .before .args .starts .now) (c .before .before .before .before .before .before .before .before .before .before .before .before .before .before .args .ends .now) (c .before .before .before .before .before .before .before .before .before .before .before .before .before .before .args .k) (c .before .before .before .before .before .before .before .before .before .before .before .if1 .left) (c .before .before .before .before .before .before .before .before .before .wide .result) (c .before .before .before .before .before .before .before .before .before .wide .ensures .0) (c .before .before .before .before .before .before .before .before .if2 .left) (c .before .before .before .before .before .before .before .if3 .left) (c .before .before .before .before .before .before .if4 .left) (c .before .before .before .before .before .if6 .left) (c .before .before .before .before .before .before .before .before .before .wide .result - 5) refl (omega arith) (c .before .before .type-end .result) (c .before .before .type-end .ensures) (c .before .before .before .before .before .before .before .before .before .before .before .before .before .before .pre .1 .us) (c .before .before .before .before .before .before .before .before .before .before .before .before .before .before .pre .1 .ρ) (c .before .before .before .before .before .before .before .before .before .before .before .before .before .before .pre .1 .row) (c .before .before .before .before .before .before .before .before .before .before .before .before .before .before .pre .1 .env) (c .before .before .before .before .before .before .before .before .before .before .before .before .before .before .pre .1 .count)))
+match-pattern-match-pattern-requires-3 t c κs = (omega (arith, first-past (c .before .before .before .before .before .before .before .before .before .before .args .p) (c .before .before .before .before .before .before .before .before .before .before .args .types .now) (c .before .before .before .before .before .before .before .before .before .before .args .at) (c .before .before .before .before .before .before .before .before .before .before .args .n) (c .before .before .before .before .before .before .before .before .before .before .args .starts .now) (c .before .before .before .before .before .before .before .before .before .before .args .ends .now) (c .before .before .before .before .before .before .before .before .before .before .args .k) (c .before .before .before .before .before .before .before .before .before .before .args .p % 16) refl (c .before .before .before .before .before .before .before .before .if1 .left) (c .before .before .before .before .before .before .before .if2 .left) (c .before .before .type-end .result) (c .before .before .type-end .ensures) (c .before .before .before .before .before .before .before .before .before .before .pre .1 .us) (c .before .before .before .before .before .before .before .before .before .before .pre .1 .row)), next-pre (next-new (c .before .before .before .before .before .before .before .before .before .before .args .p) (c .before .before .before .before .before .before .before .before .before .before .args .types .now) (c .before .before .before .before .before .before .before .before .before .before .args .at) (c .before .before .before .before .before .before .before .before .before .before .args .n) (c .before .before .before .before .before .before .before .before .before .before .args .starts .now) (c .before .before .before .before .before .before .before .before .before .before .args .ends .now) (c .before .before .before .before .before .before .before .before .before .before .args .k) (c .before .before .before .before .before .before .before .before .before .before .args .p % 16) refl (c .before .before .before .before .before .before .before .before .if1 .left) (c .before .before .before .before .before .before .before .if2 .left) (c .before .before .before .before .before .before .if3 .left) (c .before .before .before .before .before .if5 .left) (c .before .before .before .before .before .before .before .before .before .before .args .p % 16 - 5) refl (omega arith) (c .before .before .type-end .result) (c .before .before .type-end .ensures) [] (c .before .before .before .before .before .before .before .before .before .before .pre .1 .us) (c .before .before .before .before .before .before .before .before .before .before .pre .1 .ρ) (c .before .before .before .before .before .before .before .before .before .before .pre .1 .row) (c .before .before .before .before .before .before .before .before .before .before .pre .1 .env) (c .before .before .before .before .before .before .before .before .before .before .pre .1 .count)))
 
--- src/patterns.rt:82:1
-match-pattern-returns-11 : (t : ℕ) → match-pattern-lts.Need-returns-11 (
+-- src/patterns.rt:153:1
+match-pattern-returns-10 : (t : ℕ) → match-pattern-lts.Need-returns-10 (
   wide-reads.Asked,
   wide-reads.Learnt,
   match-pattern-below t,
@@ -498,7 +421,7 @@ match-pattern-returns-11 : (t : ℕ) → match-pattern-lts.Need-returns-11 (
   type-end-reads.Asked,
   type-end-reads.Learnt,
 ) (match-pattern-at t) match-pattern.Post
-match-pattern-returns-11 t c = goes-on (c .before .before .before .before .before .before .before .before .before .before .before .before .before .before .before .args .patterns .now) (c .before .before .before .before .before .before .before .before .before .before .before .before .before .before .before .args .i) (c .before .before .before .before .before .before .before .before .before .before .before .before .before .before .before .args .types .now) (c .before .before .before .before .before .before .before .before .before .before .before .before .before .before .before .args .at) (c .before .before .before .before .before .before .before .before .before .before .before .before .before .before .before .args .n) (c .before .before .before .before .before .before .before .before .before .before .before .before .before .before .before .args .starts .now) (c .before .before .before .before .before .before .before .before .before .before .before .before .before .before .before .args .ends .now) (c .before .before .before .before .before .before .before .before .before .before .before .before .before .before .before .args .k) (c .before .before .before .before .before .before .before .before .before .before .before .before .if1 .left) (c .before .before .before .before .before .before .before .before .before .before .wide .result) (c .before .before .before .before .before .before .before .before .before .before .wide .ensures .0) (c .before .before .before .before .before .before .before .before .before .if2 .left) (c .before .before .before .before .before .before .before .before .if3 .left) _ _ _ _ (next-new (c .before .before .before .before .before .before .before .before .before .before .before .before .before .before .before .args .patterns .now) (c .before .before .before .before .before .before .before .before .before .before .before .before .before .before .before .args .i) (c .before .before .before .before .before .before .before .before .before .before .before .before .before .before .before .args .types .now) (c .before .before .before .before .before .before .before .before .before .before .before .before .before .before .before .args .at) (c .before .before .before .before .before .before .before .before .before .before .before .before .before .before .before .args .n) (c .before .before .before .before .before .before .before .before .before .before .before .before .before .before .before .args .starts .now) (c .before .before .before .before .before .before .before .before .before .before .before .before .before .before .before .args .ends .now) (c .before .before .before .before .before .before .before .before .before .before .before .before .before .before .before .args .k) (c .before .before .before .before .before .before .before .before .before .before .before .before .if1 .left) (c .before .before .before .before .before .before .before .before .before .before .wide .result) (c .before .before .before .before .before .before .before .before .before .before .wide .ensures .0) (c .before .before .before .before .before .before .before .before .before .if2 .left) (c .before .before .before .before .before .before .before .before .if3 .left) (c .before .before .before .before .before .before .before .if4 .left) (c .before .before .before .before .before .before .if6 .left) (c .before .before .before .before .before .before .before .before .before .before .wide .result - 5) refl (omega arith) (c .before .before .before .type-end .result) (c .before .before .before .type-end .ensures)) _ _ _ (c .match-pattern3 .ensures)
+match-pattern-returns-10 t c = goes-on (c .before .before .before .before .before .before .before .before .before .before .before .args .p) (c .before .before .before .before .before .before .before .before .before .before .before .args .types .now) (c .before .before .before .before .before .before .before .before .before .before .before .args .at) (c .before .before .before .before .before .before .before .before .before .before .before .args .n) (c .before .before .before .before .before .before .before .before .before .before .before .args .starts .now) (c .before .before .before .before .before .before .before .before .before .before .before .args .ends .now) (c .before .before .before .before .before .before .before .before .before .before .before .args .k) (c .before .before .before .before .before .before .before .before .before .before .before .args .p % 16) refl (c .before .before .before .before .before .before .before .before .before .if1 .left) (c .before .before .before .before .before .before .before .before .if2 .left) _ _ _ _ (next-new (c .before .before .before .before .before .before .before .before .before .before .before .args .p) (c .before .before .before .before .before .before .before .before .before .before .before .args .types .now) (c .before .before .before .before .before .before .before .before .before .before .before .args .at) (c .before .before .before .before .before .before .before .before .before .before .before .args .n) (c .before .before .before .before .before .before .before .before .before .before .before .args .starts .now) (c .before .before .before .before .before .before .before .before .before .before .before .args .ends .now) (c .before .before .before .before .before .before .before .before .before .before .before .args .k) (c .before .before .before .before .before .before .before .before .before .before .before .args .p % 16) refl (c .before .before .before .before .before .before .before .before .before .if1 .left) (c .before .before .before .before .before .before .before .before .if2 .left) (c .before .before .before .before .before .before .before .if3 .left) (c .before .before .before .before .before .before .if5 .left) (c .before .before .before .before .before .before .before .before .before .before .before .args .p % 16 - 5) refl (omega arith) (c .before .before .before .type-end .result) (c .before .before .before .type-end .ensures)) _ _ _ (c .match-pattern3 .ensures)
 
 pub +match-pattern-spec : {M : Type 1} → statement M
 +match-pattern-spec = close μ-match-pattern λ t. match-pattern-lts.spec (
@@ -514,38 +437,32 @@ pub +match-pattern-spec : {M : Type 1} → statement M
     (match-pattern-at t)
     match-pattern.Post
     (match-pattern-returns t)
+    (match-pattern-returns-2 t)
     (match-pattern-shared-slice-read-wide t)
     (match-pattern-wide-requires t)
-    (match-pattern-returns-2 t)
     (match-pattern-returns-3 t)
-    (match-pattern-shared-slice-read-wide-2 t)
-    (match-pattern-wide-requires-2 t)
-    (match-pattern-returns-4 t)
     (match-pattern-add-match-pattern t)
-    (match-pattern-add-match-pattern-2 t)
     (match-pattern-match-pattern-requires t)
+    (match-pattern-returns-4 t)
     (match-pattern-returns-5 t)
-    (match-pattern-returns-6 t)
     (match-pattern-mul-from t)
     (match-pattern-element-copy-out-from t)
     (match-pattern-mul-len t)
     (match-pattern-element-copy-out-len t)
     (match-pattern-sub-len t)
-    (match-pattern-sub-if8 t)
-    (match-pattern-returns-7 t)
+    (match-pattern-sub-if7 t)
+    (match-pattern-returns-6 t)
     (match-pattern-same-bytes-requires t)
-    (match-pattern-returns-8 t)
-    (match-pattern-add-match-pattern-3 t)
-    (match-pattern-add-match-pattern-4 t)
+    (match-pattern-returns-7 t)
+    (match-pattern-add-match-pattern-2 t)
     (match-pattern-match-pattern-requires-2 t)
+    (match-pattern-returns-8 t)
     (match-pattern-returns-9 t)
-    (match-pattern-returns-10 t)
     (match-pattern-type-end-requires t)
     (match-pattern-mul-starts t)
     (match-pattern-element-write-starts t)
     (match-pattern-mul-ends t)
     (match-pattern-element-write-ends t)
-    (match-pattern-add-match-pattern-5 t)
-    (match-pattern-add-match-pattern-6 t)
+    (match-pattern-add-match-pattern-3 t)
     (match-pattern-match-pattern-requires-3 t)
-    (match-pattern-returns-11 t)
+    (match-pattern-returns-10 t)
