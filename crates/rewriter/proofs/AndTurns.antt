@@ -6,7 +6,7 @@ use Prim.Native.Nat.{ℕ, _+_}
 use native.Mathlib.Omega.{arith}
 use borrow.Author.Tests.{ne-eqb}
 use Rattle.frame.specs.Trees.{head, Tree, node, Forest, tagOf, leaf, one}
-use Rattle.frame.specs.Tags.{pick, lookup, classOf, formAt}
+use Rattle.frame.specs.Tags.{lookup, classOf, formAt}
 use Rattle.frame.specs.Operators.{#BTrue, #Not}
 use Rattle.frame.specs.Places.{Ctx, found, find}
 use Rattle.nav.specs.PlaceTables.{Table, TagPost, ChildrenPost}

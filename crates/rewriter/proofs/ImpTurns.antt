@@ -1,28 +1,26 @@
 -- The ways out of implication_first_at and implication_last_at of src/implication.rt, and how they make up simplifyImp.
 use mathlib.Core.Path.{_≡_, refl, sym, ap, _∙_}
-use mathlib.Core.Bool.{Bool, true, false, _&&_}
+use mathlib.Core.Bool.{Bool, true, false}
 use mathlib.Core.List.{List, [], _∷_}
-use Prim.Native.Nat.{ℕ, _+_, _<_}
+use Prim.Native.Nat.{ℕ}
 use native.Mathlib.Omega.{arith}
-use lib.ListN.{length, getD}
-use lib.Dec.{eqb}
+use lib.ListN.{length}
 use borrow.Author.Tests.{ne-eqb}
 use Rattle.frame.specs.Types.{Ty}
 use Rattle.frame.specs.Trees.{head, Tree, node, Forest, nil, cons, tagOf, leaf, one}
-use Rattle.frame.specs.Tags.{pick, predicate, lookup, classOf, formAt}
-use Rattle.frame.specs.Operators.{#BTrue, #BFalse, #Not, #LAnd}
+use Rattle.frame.specs.Tags.{lookup, classOf, formAt}
+use Rattle.frame.specs.Operators.{#BTrue, #Not}
 use Rattle.frame.specs.Places.{Ctx, found, find}
 use Rattle.frame.specs.Sameness.{sameTree}
 use Rattle.nav.specs.PlaceTables.{Table, TagPost, SameAtPost}
 use Rattle.nav.proofs.Hops.{Sorted, place-sorted}
-use Rattle.rules.specs.Change.{Change, to, same, _orElse_, when, onTag, contains}
-use Rattle.rules.specs.Simplify.{makeNeg, simplifyImp}
+use Rattle.rules.specs.Change.{to, same, _orElse_, when}
+use Rattle.rules.specs.Simplify.{makeNeg}
 use Rattle.emit.proofs.RightSides.{right-66, right-67, right-68, right-69, right-70, right-73, right-74}
 use Rattle.rewriter.specs.Decides.{DecidesTwo, Compared, negatedAt}
 use Rattle.rewriter.specs.RulesAt.{impFirst, impLast}
 use Rattle.rewriter.specs.declared.decision.Decision.{Decision}
 use Rattle.rewriter.specs.declared.decision.Decision.the-variants as D
-use Rattle.rewriter.proofs.Shapes.{any, or-same}
 use Rattle.rewriter.proofs.LogicTurns.{on-left, on-right, negated-means}
 use Rattle.rewriter.proofs.Opposites.{unary-when}
 

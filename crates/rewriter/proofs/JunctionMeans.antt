@@ -3,24 +3,23 @@
 use mathlib.Core.Path.{_≡_, refl, sym, ap, _∙_}
 use mathlib.Core.Bool.{Bool, true, false, not, _&&_}
 use mathlib.Core.List.{List, [], _∷_}
-use Prim.Native.Nat.{ℕ, zero, suc}
+use Prim.Native.Nat.{ℕ}
 use native.Mathlib.Omega.{arith}
 use lib.Dec.{eqb, ltb}
 use lib.ListN.{take, getD}
 use borrow.Author.Tests.{eq-eqb, ne-eqb}
 use Rattle.frame.specs.Types.{Ty}
-use Rattle.frame.specs.Trees.{Head, head, Tree, node, Forest, nil, cons, count, leaf, many, tagOf}
+use Rattle.frame.specs.Trees.{head, Tree, node, Forest, nil, cons, count, leaf, many}
 use Rattle.frame.specs.Tags.{pick, predicate, counted, formOf, lookup, classOf, formAt}
 use Rattle.frame.specs.Encoding.{enc}
 use Rattle.frame.specs.Places.{Ctx, under, found, find}
-use Rattle.typing.specs.Typing.{typeOf}
 use Rattle.nav.specs.PlaceTables.{Table, TagPost, ChildrenPost}
 use Rattle.rules.specs.Change.{Change, to, same, when}
-use Rattle.rules.specs.Simplify.{Kept, kept, decided, scan, finish, simplifyAssocPred}
+use Rattle.rules.specs.Simplify.{Kept, kept, scan, finish, simplifyAssocPred}
 use Rattle.emit.specs.Template.{filled}
 use Rattle.emit.specs.Programs.{template}
 use Rattle.emit.proofs.RightSides.{right-1, right-2, right-64}
-use Rattle.rewriter.specs.Decision.{filling, takesBinders, At, Means, FixedMeans, KeptMeans}
+use Rattle.rewriter.specs.Decision.{filling, takesBinders, At, Means, FixedMeans}
 use Rattle.rewriter.specs.declared.decision.Decision.{Decision}
 use Rattle.rewriter.specs.declared.decision.Decision.the-variants as D
 use Rattle.rewriter.specs.Junction.{Absorbed, AbsorbPost, settled, JunctionPost}

@@ -1,23 +1,21 @@
 -- The ways out of src/logic.rt.
 use mathlib.Core.Path.{_≡_, refl, sym, ap, _∙_}
 use mathlib.Core.Bool.{Bool, true, false, not, _&&_}
-use mathlib.Core.List.{List, [], _∷_}
+use mathlib.Core.List.{List, []}
 use Prim.Native.Nat.{ℕ, _+_, _<_}
-use native.Mathlib.Omega.{arith}
-use lib.ListN.{getD}
 use lib.Dec.{eqb, ltb}
-use borrow.Author.Tests.{eq-eqb, ne-eqb, eqb-true, eqb-false}
+use borrow.Author.Tests.{ne-eqb, eqb-true, eqb-false}
 use Rattle.frame.specs.Types.{Ty}
-use Rattle.frame.specs.Trees.{head, Tree, node, Forest, nil, cons, tagOf, leaf, one}
+use Rattle.frame.specs.Trees.{head, Tree, node, nil, cons, tagOf, leaf, one}
 use Rattle.frame.specs.Tags.{pick, predicate, lookup, classOf, formAt}
 use Rattle.frame.specs.Operators.{#BTrue, #BFalse, #Not}
 use Rattle.frame.specs.Encoding.{enc}
 use Rattle.frame.specs.Places.{Ctx, found, find}
 use Rattle.frame.specs.Sameness.{sameTree}
-use Rattle.nav.specs.PlaceTables.{Table, Placed, BothPlaced, TagPost, SameAtPost}
+use Rattle.nav.specs.PlaceTables.{Table, BothPlaced, TagPost, SameAtPost}
 use Rattle.nav.proofs.Hops.{Sorted, place-sorted}
 use Rattle.nav.proofs.SamePlaces.{only-child}
-use Rattle.rules.specs.Change.{Change, to, same, _orElse_, when, onTag, with1, unary}
+use Rattle.rules.specs.Change.{Change, to, same, _orElse_, when, onTag}
 use Rattle.rules.specs.Simplify.{makeNeg, simplifyEqv, simplifyNot}
 use Rattle.emit.specs.Template.{filled}
 use Rattle.emit.specs.Programs.{template}

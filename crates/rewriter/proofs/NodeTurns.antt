@@ -14,7 +14,7 @@ use Rattle.frame.specs.Operators.{#LAnd, #LOr, #BTrue, #BFalse}
 use Rattle.frame.specs.Places.{Ctx, found, find}
 use Rattle.nav.specs.PlaceTables.{Table, TagPost}
 use Rattle.rules.specs.Change.{Change, same, onTag, with1}
-use Rattle.rules.specs.Simplify.{simplifyAssocPred, simplifyImp, simplifyEqv, simplifyNot, simplifyForall, simplifyExists, simplifyPredicateNode}
+use Rattle.rules.specs.Simplify.{simplifyAssocPred, simplifyImp, simplifyEqv, simplifyNot, simplifyForall, simplifyPredicateNode}
 use Rattle.rewriter.specs.Decision.{Means}
 use Rattle.rewriter.specs.Decides.{Here, Decides, DecidesOne, DecidesTwo, Unlike}
 use Rattle.rewriter.specs.RulesAt.{forallOf, existsOf}

@@ -4,13 +4,13 @@
 use mathlib.Core.Path.{_≡_, refl, sym, ap, _∙_}
 use mathlib.Core.Bool.{Bool, true, false, _&&_}
 use mathlib.Core.List.{List, [], _∷_}
-use Prim.Native.Nat.{ℕ, suc, _+_, _<_}
+use Prim.Native.Nat.{ℕ, suc, _+_}
 use native.Mathlib.Omega.{arith}
 use lib.Dec.{eqb}
 use lib.ListN.{length}
 use borrow.Author.Tests.{ne-eqb, eqb-true, eqb-false}
 use Rattle.frame.specs.Types.{Ty}
-use Rattle.frame.specs.Trees.{Head, head, Tree, node, Forest, nil, cons, tagOf, one, nodes}
+use Rattle.frame.specs.Trees.{head, Tree, node, Forest, nil, cons, tagOf, one}
 use Rattle.frame.specs.Tags.{Sort, lookup, classOf, formAt}
 use Rattle.frame.specs.Operators.{#Not}
 use Rattle.frame.specs.WellFormed.{Wf}
@@ -20,7 +20,7 @@ use Rattle.frame.proofs.Splices.{find-some, find-lt}
 use Rattle.frame.proofs.Within.{kid-first}
 use Rattle.nav.specs.PlaceTables.{Framed, Placed, TagPost, SameAtPost}
 use Rattle.nav.proofs.Hops.{Sorted, place-sorted, child-first}
-use Rattle.rules.specs.Change.{Change, when, onTag, with1, unary}
+use Rattle.rules.specs.Change.{Change, when, onTag, unary}
 use Rattle.rules.specs.Simplify.{makeNeg}
 use Rattle.rewriter.specs.Decides.{Compared}
 

@@ -1,12 +1,11 @@
 -- The ways out of matches_at and contains_in of src/contains.rt.
 use mathlib.Core.Path.{_≡_, refl, sym, _∙_}
-use mathlib.Core.Bool.{Bool, true, false, _||_}
-use mathlib.Core.List.{List, [], _∷_}
-use Prim.Native.Nat.{ℕ, suc, _+_, _-_, _<_}
+use mathlib.Core.Bool.{Bool, true, false}
+use mathlib.Core.List.{List, []}
+use Prim.Native.Nat.{ℕ, _+_, _-_}
 use native.Mathlib.Omega.{arith}
 use lib.ListN.{getD}
 use Rattle.frame.specs.Trees.{Tree, Forest, nil, cons, count}
-use Rattle.frame.specs.Tags.{pick}
 use Rattle.frame.specs.Places.{Ctx, found, find, findIn}
 use Rattle.frame.specs.Sameness.{sameTree}
 use Rattle.nav.specs.PlaceTables.{Table, SameAtPost}

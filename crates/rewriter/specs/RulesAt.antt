@@ -5,7 +5,7 @@ use Rattle.frame.specs.Trees.{Tree, leaf, two}
 use Rattle.frame.specs.Sameness.{sameTree}
 use Rattle.frame.specs.Operators.{#Equal, #SRel, #STRel, #SetMinus, #CProd, #DProd, #PProd, #DomRes, #DomSub, #RanRes, #RanSub, #UpTo, #RelImage, #BInter, #BComp, #FComp, #QUnion, #Not, #Finite, #Partition, #SubsetEq, #Forall, #Exists, #BTrue, #BFalse, #LAnd}
 use Rattle.frame.specs.Places.{Ctx}
-use Rattle.rules.specs.Change.{Change, to, _orElse_, when, isTag, onTag, with1, with2, unary, binary, quantifier, contains}
+use Rattle.rules.specs.Change.{Change, to, _orElse_, when, isTag, onTag, unary, binary, quantifier, contains}
 use Rattle.rules.specs.Simplify.{makeNeg, simplifyForall, simplifyExists}
 use Rattle.rules.specs.Negation.{rewriteNot, rewriteNotInner, rewritePartition}
 use Rattle.rules.specs.Finite.{finite, isProjection, rewriteFinite}
