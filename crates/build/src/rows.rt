@@ -1,4 +1,5 @@
 // Subtrees of the frame, one after the other.
+use frame::bytes::wide16;
 use emit::put::put_copy;
 use nav::places::end_at;
 use nav::places::next_at;
@@ -16,12 +17,6 @@ pub enum Share {
     Minuend,
     // of a difference A ∖ B its B, else nothing
     Subtrahend,
-}
-
-fn wide16(x: u16) -> usize
-    ensures { λ r. ⌜ r ≡ x ⌝ }
-{
-    x as usize
 }
 
 // The subtree at place k.

@@ -22,3 +22,4 @@ pub mod AtPlace
 pub mod Splices
 pub mod Within
 pub mod AgainTurns
+pub mod SameBytes

@@ -13,4 +13,5 @@ pub mod Places
 pub mod Sameness
 pub mod WellFormed
 pub mod Spans
+pub mod Bytes
 pub mod Cases

@@ -1,5 +1,5 @@
 -- The ways out of the functions of sameness, on plain values.
--- Main results: bytes-yes, bytes-no; tags-first, tags-second, heads-room, heads-short, heads-bytes, heads-agree; node-differ,
+-- Main results: tags-first, tags-second, heads-room, heads-short, heads-bytes, heads-agree; node-differ,
 -- node-both, node-kids; kids-none, kids-first, kids-no, kids-rest, kids-yes; left-stands, left-known (the head that is read).
 use mathlib.Core.Path.{_≡_, sym, ap, ap₂, _∙_, subst}
 use mathlib.Core.Bool.{Bool, true, false}
@@ -14,6 +14,7 @@ use Rattle.frame.specs.TagCodes.{sortFor, kindsFor}
 use Rattle.frame.specs.Encoding.{encHead, enc, encs}
 use Rattle.frame.specs.Reading.{readHead}
 use Rattle.frame.specs.Spans.{Spans}
+use Rattle.frame.specs.Bytes.{SameParts}
 use Rattle.frame.specs.Post.{headAnswer, HeadStands, KnownPost}
 use Rattle.frame.specs.At.{IsAt}
 use Rattle.frame.proofs.View.{stands-at}
@@ -22,31 +23,12 @@ use Rattle.frame.specs.declared.reading.HeadAnswer.the-variants as H
 use Rattle.frame.proofs.Inversion.{true-not}
 use Rattle.frame.proofs.ReadBack.{enc-long, head-back}
 use Rattle.nav.specs.Stands.{Stands, StandAll}
-use Rattle.nav.specs.Compared.{BothStand, BothStandAll, SamePost, SameAllPost, Agreed, HeadsPost, BytesPost}
+use Rattle.nav.specs.Compared.{BothStand, BothStandAll, SamePost, SameAllPost, Agreed, HeadsPost}
 use Rattle.nav.specs.declared.sameness.Same.{Same}
 use Rattle.nav.specs.declared.sameness.Same.the-variants.{Yes, No}
 use Rattle.nav.specs.declared.sameness.Heads.{Heads}
 use Rattle.nav.specs.declared.sameness.Heads.the-variants.{Agree, Differ}
 use Rattle.nav.proofs.View.{read-there, said, view, view-refused, stand-inside, stand-byte, all-inside, split-kinds, none-kinds}
-
--- ---- two windows of the bytes
-module _ (s : List ℕ) (a b n : ℕ) (ha : a + n ≤ length s) (hb : b + n ≤ length s) where
-  at-window : (c k : ℕ) → k < n → getD (take n (drop c s)) k 0 ≡ getD s (c + k) 0
-  at-window c k h = getD-take n (drop c s) k 0 h ∙ getD-drop c s k 0
-
-  pub bytes-yes : ((k : ℕ) → k < n → getD s (a + k) 0 ≡ getD s (b + k) 0) → BytesPost s a b n true
-  bytes-yes h = record { same = λ e. equal; differ = λ e. absurd (true-not (sym e)) }
-    where
-      equal : take n (drop a s) ≡ take n (drop b s)
-      equal =
-          let la : length (take n (drop a s)) ≡ n = omega (arith, length-take n (drop a s), length-drop a s) in
-          let lb : length (take n (drop b s)) ≡ n = omega (arith, length-take n (drop b s), length-drop b s) in
-          ext-getD 0 (take n (drop a s)) (take n (drop b s)) (la ∙ sym lb)
-          (λ k hk. let l : k < n = omega arith in at-window a k l ∙ h k l ∙ sym (at-window b k l))
-
-  pub bytes-no : (k : ℕ) → k < n → (getD s (a + k) 0 ≡ getD s (b + k) 0 → ⊥) → BytesPost s a b n false
-  bytes-no k h d =
-      record { same = λ e. true-not e; differ = λ e q. d (sym (at-window a k h) ∙ ap (λ (l : List ℕ). getD l k 0) q ∙ at-window b k h) }
 
 -- ---- heads
 agree-not {ℓ} : {X : Type ℓ} (p q n : ℕ) (f l : Bool) → Differ ≡ Agree p q n f l → X
@@ -105,10 +87,10 @@ module _ (s : List ℕ) (e : Sort) (a b : ℕ) where
       pub heads-short : length s - b < p - a → HeadsPost s e a b Differ
       heads-short h = heads-differ (λ t x y. let w = window t x y .0 in omega arith)
 
-      pub heads-bytes : (ok : Bool) → BytesPost s a b (p - a) ok → ok ≡ false → HeadsPost s e a b Differ
+      pub heads-bytes : (ok : Bool) → SameParts s a b (p - a) ok → ok ≡ false → HeadsPost s e a b Differ
       heads-bytes ok post eo = heads-differ (λ t x y. post .differ eo (window t x y .1))
 
-      pub heads-agree : (ok : Bool) → BytesPost s a b (p - a) ok → ok ≡ true → p - a ≤ length s - b → HeadsPost s e a b (Agree p (b + (p - a)) m f l)
+      pub heads-agree : (ok : Bool) → SameParts s a b (p - a) ok → ok ≡ true → p - a ≤ length s - b → HeadsPost s e a b (Agree p (b + (p - a)) m f l)
       heads-agree ok post eo room = record { agree = agree; differ = λ t u x y er. agree-not p (b + (p - a)) m f l (sym er) }
         where
           same : (t u : Tree) → Stands s a e t → Stands s b e u → Agreed s a b t u p (b + (p - a)) m f l

@@ -52,7 +52,3 @@ pub record Agreed (s : List ℕ) (a b : ℕ) (t u : Tree) (p q n : ℕ) (f l : B
 pub record HeadsPost (s : List ℕ) (e : Sort) (a b : ℕ) (r : Heads) : Type 0 where
   pub agree : (t u : Tree) (p q n : ℕ) (f l : Bool) → Stands s a e t → Stands s b e u → r ≡ Agree p q n f l → Agreed s a b t u p q n f l
   pub differ : (t u : Tree) → Stands s a e t → Stands s b e u → r ≡ Differ → t ≡ u → ⊥
-
-pub record BytesPost (s : List ℕ) (a b n : ℕ) (r : Bool) : Type 0 where
-  pub same : r ≡ true → take n (drop a s) ≡ take n (drop b s)
-  pub differ : r ≡ false → take n (drop a s) ≡ take n (drop b s) → ⊥

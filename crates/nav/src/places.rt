@@ -1,16 +1,11 @@
 // From place to place. `starts` is the reader's table of node starts; `nexts` says for each place which place follows its
 // subtree. With both, children and ends are found without reading the bytes between.
 use crate::sameness::Same;
+use frame::bytes::wide16;
 ghost use mathlib.Core.Path.{_≡_};
 ghost use Prim.Native.Nat.{_<_};
 ghost use lib.ListN.{getD};
 ghost use Rattle.nav.specs.PlaceTables.{Rooted, ArityPost, hops, HopsIn, NextsPre, NextsPost, Placed, PlacedIn, TagPost, ChildrenPost, EndAtPost, SortPost, BothPlaced, SameAtPost, isYes};
-
-fn wide16(x: u16) -> usize
-    ensures { λ r. ⌜ (r ≡ x) × (r < 65536) ⌝ }
-{
-    x as usize
-}
 
 // How many children the node that starts at `at` has: its tag says it, or the count byte behind the tag.
 pub fn children_at(s: &[u8], at: usize) -> usize

@@ -1,11 +1,12 @@
 // Sameness of two trees of one frame (document 01: "the same tag, payload and types"; "comparing them is two functions that
 // call each other over a falling byte count"). Equal trees have equal bytes, so heads are compared as bytes.
+use frame::bytes::same_bytes;
 use frame::reading::HeadAnswer;
 ghost use Prim.Native.Nat.{_+_, _≤_};
 ghost use lib.ListN.{length};
 ghost use Rattle.frame.specs.Tags.{predicate, expression};
 ghost use Rattle.frame.specs.TagCodes.{sortFor, kindsFor};
-ghost use Rattle.nav.specs.Compared.{BothStand, BothStandAll, SamePost, SameAllPost, HeadsPost, BytesPost};
+ghost use Rattle.nav.specs.Compared.{BothStand, BothStandAll, SamePost, SameAllPost, HeadsPost};
 
 // Whether two trees are the same; if so, where each ends.
 pub enum Same {
@@ -18,21 +19,6 @@ pub enum Same {
 enum Heads {
     Agree(usize, usize, usize, bool, bool),
     Differ,
-}
-
-// Whether the n bytes at a are those at b.
-fn same_bytes(s: &[u8], a: usize, b: usize, n: usize) -> bool
-    requires { ⌜ (a + n ≤ length (now s)) × (b + n ≤ length (now s)) ⌝ }
-    ensures { λ r. ⌜ BytesPost (now (s .entry)) a b n r ⌝ }
-{
-    let mut i = 0;
-    while i < n {
-        if s[a + i] != s[b + i] {
-            return false;
-        }
-        i += 1;
-    }
-    true
 }
 
 // The heads at a and b. Most trees that differ differ in their tags, so these are looked at before a head is read. The head at

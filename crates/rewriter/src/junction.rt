@@ -2,6 +2,7 @@
 // makes the whole that literal.
 use crate::decision::Decision;
 use crate::operands::patterned;
+use frame::bytes::wide16;
 ghost use mathlib.Core.Path.{_≡_};
 ghost use Prim.Native.Nat.{_<_};
 ghost use mathlib.Core.Bool.{false};
@@ -12,12 +13,6 @@ ghost use Rattle.rewriter.specs.Junction.{JunctionPre, AbsorbPost, settl
 pub enum Outcome {
     Decided,
     Stay(usize),
-}
-
-fn wide16(x: u16) -> usize
-    ensures { λ r. ⌜ (r ≡ x) × (r < 65536) ⌝ }
-{
-    x as usize
 }
 
 // The first kept one that a child is compared with: a neutral literal goes whatever was kept, so it passes by all m.

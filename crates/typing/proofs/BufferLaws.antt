@@ -17,7 +17,7 @@ use Rattle.frame.specs.Encoding.{encNumber, encTy}
 use Rattle.frame.specs.Spans.{Spans}
 use Rattle.frame.proofs.Spans.{span-first, FirstOf, span-left, span-right}
 use Rattle.frame.proofs.Numbers.{number-length}
-use Rattle.typing.specs.Buffers.{TypeAt, EndOf, Alike, SameBytes, Copied, Apart}
+use Rattle.typing.specs.Buffers.{TypeAt, EndOf, Copied, Apart}
 
 -- ---- spans, byte by byte
 pub span-get : {s : List ℕ} {at p : ℕ} {xs : List ℕ} → Spans s at p xs → (j : ℕ) → j < length xs → getD s (at + j) 0 ≡ getD xs j 0
@@ -149,13 +149,6 @@ apart-up a e to h = record { clear = λ i j k l z. omega arith }
 
 pub apart-down : (a e to : ℕ) → to ≤ a → Apart a e to
 apart-down a e to h = record { clear = λ i j k l z. omega arith }
-
--- ---- sameness of bytes
-pub bytes-differ : (s : List ℕ) (a b n i : ℕ) → i < n → (getD s (a + i) 0 ≡ getD s (b + i) 0 → ⊥) → SameBytes s a b n false
-bytes-differ s a b n i h f = record { same = λ e. true-not e; differ = λ e g. f (g i h) }
-
-pub bytes-same : (s : List ℕ) (a b n i : ℕ) → n ≤ i → Alike s a b i → SameBytes s a b n true
-bytes-same s a b n i h f = record { same = λ e j k. f j (omega arith); differ = λ e g. true-not (sym e) }
 
 pub given-room : (s : List ℕ) (at : ℕ) → getD s at 0 ≡ 2 → TypeAt s at → at + 3 ≤ length s
 given-room s at h a = omega (arith, ends-given s at h (a .type) (a .end) (a .span), a .span .within)

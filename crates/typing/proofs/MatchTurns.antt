@@ -24,7 +24,8 @@ use Rattle.frame.proofs.Inversion.{true-not}
 use Rattle.typing.specs.Typing.{ty}
 use Rattle.typing.specs.Patterns.{symbolOf, partsOf, Matched, fits, differs, atVariable, atSymbol, matches}
 use Rattle.typing.specs.RuleNumbers.{packs, Packed}
-use Rattle.typing.specs.Buffers.{TypeAt, EndOf, Alike, SameBytes}
+use Rattle.typing.specs.Buffers.{TypeAt, EndOf}
+use Rattle.frame.specs.Bytes.{Alike, SameBytes}
 use Rattle.typing.specs.PatternPosts.{TysFit, RowAt, Slots, EnvAt, MatchPre, Matching, MatchPost}
 use Rattle.typing.specs.declared.patterns.Fit.{Fit}
 use Rattle.typing.specs.declared.patterns.Fit.the-variants as F

@@ -21,7 +21,8 @@ use Rattle.frame.proofs.Numbers.{number-span, number-back, number-two}
 use Rattle.frame.proofs.Inversion.{true-not}
 use Rattle.typing.specs.Members.{In}
 use Rattle.typing.specs.Identifiers.{Named, named}
-use Rattle.typing.specs.Claims.{Clash, TypeAt, givenMark, Says, by-mark, by-place, Told, Noted, PowerPost, SameBytes, SameType, Held, NamePost, GivenPost}
+use Rattle.frame.specs.Bytes.{SameParts}
+use Rattle.typing.specs.Claims.{Clash, TypeAt, givenMark, Says, by-mark, by-place, Told, Noted, PowerPost, SameType, Held, NamePost, GivenPost}
 use Rattle.typing.proofs.Claims.{in-left, in-right, in-either, type-unique}
 
 -- ---- the table at first
@@ -193,28 +194,6 @@ module _ (s : List ℕ) (p n : ℕ) (l : n < 65536) where
     not = λ y q t. eqb-false _ _ (sym e ∙ y) (power-bytes s p n q l t .number);
   }
 
--- ---- same_bytes
-module _ (s : List ℕ) (a b n : ℕ) (ha : a + n ≤ length s) (hb : b + n ≤ length s) where
-  in-window : (c k : ℕ) → k < n → getD (take n (drop c s)) k 0 ≡ getD s (c + k) 0
-  in-window c k h = getD-take n (drop c s) k 0 h ∙ getD-drop c s k 0
-
-  pub bytes-same : ((k : ℕ) → k < n → getD s (a + k) 0 ≡ getD s (b + k) 0) → SameBytes s a b n true
-  bytes-same h = record { yes = λ e. windows; not = λ e. true-not (sym e) }
-    where
-      long : (c : ℕ) → c + n ≤ length s → length (take n (drop c s)) ≡ n
-      long c l = omega (arith, length-take n (drop c s), length-drop c s)
-
-      windows : take n (drop a s) ≡ take n (drop b s)
-      windows =
-          ext-getD 0 (take n (drop a s)) (take n (drop b s)) (long a ha ∙ sym (long b hb))
-          (λ k hk. (let l = long a ha in let h' : k < n = omega arith in in-window a k h' ∙ h k h' ∙ sym (in-window b k h')))
-
-  pub bytes-differ : (k : ℕ) → k < n → (getD s (a + k) 0 ≡ getD s (b + k) 0 → ⊥) → SameBytes s a b n false
-  bytes-differ k h d = record {
-    yes = λ e. true-not e;
-    not = λ e w. d (sym (in-window a k h) ∙ ap (λ (l : List ℕ). getD l k 0) w ∙ in-window b k h);
-  }
-
 -- ---- same_type
 take-span : (s : List ℕ) (p q : ℕ) (xs : List ℕ) → Spans s p q xs → take (q - p) (drop p s) ≡ xs
 take-span s p q xs a = let z : q - p ≡ length xs = omega (arith, a .long) in ap (λ (i : ℕ). take i (drop p s)) z ∙ a .bytes
@@ -226,13 +205,13 @@ module _ (s : List ℕ) (p q e : ℕ) where
     not = λ y t x a b. (let z = a .span .long in let w = b .span .long in let v = b .span .within in omega arith);
   }
 
-  pub type-bytes : p ≤ q → e + (q - p) ≤ length s → (r : Bool) → SameBytes s p e (q - p) r → SameType s p q e r
+  pub type-bytes : p ≤ q → e + (q - p) ≤ length s → (r : Bool) → SameParts s p e (q - p) r → SameType s p q e r
   type-bytes l w r b = record {
     yes = λ y t a. record {
-      span = record { long = lengths t a; within = w; bytes = ap (λ (i : ℕ). take i (drop e s)) (long t a) ∙ sym (b .yes y) ∙ take-span s p q (encTy t) (a .span) };
+      span = record { long = lengths t a; within = w; bytes = ap (λ (i : ℕ). take i (drop e s)) (long t a) ∙ sym (b .same y) ∙ take-span s p q (encTy t) (a .span) };
       wf = a .wf;
     };
-    not = λ y t x a c. b .not y (take-span s p q (encTy t) (a .span) ∙ sym (ap (λ (i : ℕ). take i (drop e s)) (sym (long t a)) ∙ c .span .bytes));
+    not = λ y t x a c. b .differ y (take-span s p q (encTy t) (a .span) ∙ sym (ap (λ (i : ℕ). take i (drop e s)) (sym (long t a)) ∙ c .span .bytes));
   }
     where
       long : (t : Ty) → TypeAt s p q t → length (encTy t) ≡ q - p

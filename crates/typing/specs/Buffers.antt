@@ -1,6 +1,5 @@
 -- What the code does with types as bytes: where one ends, sameness of bytes, copies.
 use mathlib.Core.Path.{_≡_}
-use mathlib.Core.Bool.{Bool, true, false}
 use mathlib.Core.List.{List}
 use Prim.Native.Nat.{ℕ, _+_, _≤_, _<_}
 use lib.ListN.{length, getD}
@@ -17,14 +16,6 @@ pub record TypeAt (s : List ℕ) (at : ℕ) : Type 0 where
 -- r is the end of whatever type stands there
 pub record EndOf (s : List ℕ) (at r : ℕ) : Type 0 where
   pub is : (t : Ty) (e : ℕ) → Spans s at e (encTy t) → r ≡ e
-
--- the n bytes at a are those at b
-abbrev pub Alike : List ℕ → ℕ → ℕ → ℕ → Type 0
-Alike s a b n = (j : ℕ) → j < n → getD s (a + j) 0 ≡ getD s (b + j) 0
-
-pub record SameBytes (s : List ℕ) (a b n : ℕ) (r : Bool) : Type 0 where
-  pub same : r ≡ true → Alike s a b n
-  pub differ : r ≡ false → Alike s a b n → ⊥
 
 -- the list p is o, but that from `to` on n bytes are those of s from a on
 pub record Copied (s : List ℕ) (a n : ℕ) (o p : List ℕ) (to : ℕ) : Type 0 where

@@ -73,11 +73,6 @@ pub record PowerPost (s : List ℕ) (p n : ℕ) (r : Bool) : Type 0 where
   pub yes : r ≡ true → TypeAt s p (p + 4) (pow (given n))
   pub not : r ≡ false → (q : ℕ) → TypeAt s p q (pow (given n)) → ⊥
 
--- whether the bytes at a and at b are the same
-pub record SameBytes (s : List ℕ) (a b n : ℕ) (r : Bool) : Type 0 where
-  pub yes : r ≡ true → take n (drop a s) ≡ take n (drop b s)
-  pub not : r ≡ false → take n (drop a s) ≡ take n (drop b s) → ⊥
-
 -- whether the type from p up to q stands at e as well
 pub record SameType (s : List ℕ) (p q e : ℕ) (r : Bool) : Type 0 where
   pub yes : r ≡ true → (t : Ty) → TypeAt s p q t → TypeAt s e (e + (q - p)) t

@@ -2,6 +2,8 @@
 // its type isn't the power of that set."). Nodes stand in prefix order, and so do the parts of a type: the frame is gone
 // through once from left to right, and a table holds what has been claimed of each identifier number. A frame with a number
 // beyond the table is gone through again with a table of all numbers.
+use frame::bytes::same_bytes;
+use frame::bytes::wide16;
 ghost use mathlib.Core.Path.{_≡_};
 ghost use Prim.Native.Nat.{ℕ, _+_, _-_, _≤_, _<_};
 ghost use mathlib.Core.List.{List};
@@ -12,7 +14,7 @@ ghost use Rattle.frame.specs.Tags.{Sort, predicate};
 ghost use Rattle.frame.specs.At.{IsAt};
 ghost use Rattle.frame.specs.Reading.{frameLimit};
 ghost use Rattle.typing.specs.Identifiers.{namesAgree};
-ghost use Rattle.typing.specs.Claims.{PowerPost, SameBytes, SameType, Held, TypeAt, TypesAt, NamePost, GivenPost, TypesPost, Rest, NamesPost};
+ghost use Rattle.typing.specs.Claims.{PowerPost, SameType, Held, TypeAt, TypesAt, NamePost, GivenPost, TypesPost, Rest, NamesPost};
 
 const IDENTIFIER: usize = 1;
 
@@ -33,26 +35,6 @@ enum Names {
     Agree,
     Differ,
     Undecided,
-}
-
-fn wide_entry(x: u16) -> usize
-    ensures { λ r. ⌜ r ≡ x ⌝ }
-{
-    x as usize
-}
-
-fn same_bytes(s: &[u8], a: usize, b: usize, n: usize) -> bool
-    requires { ⌜ (a + n ≤ length (now s)) × (b + n ≤ length (now s)) ⌝ }
-    ensures { λ r. ⌜ SameBytes (now (s .entry)) a b n r ⌝ }
-{
-    let mut i = 0;
-    while i < n {
-        if s[a + i] != s[b + i] {
-            return false;
-        }
-        i += 1;
-    }
-    true
 }
 
 // Whether the type from p up to q stands at e as well.
@@ -97,7 +79,7 @@ fn note_identifier(s: &[u8], n: usize, p: usize, q: usize, table: &mut [u16]) ->
     if entry == GIVEN {
         return is_power(s, p, n);
     }
-    same_type(s, p, q, wide_entry(entry) - 1)
+    same_type(s, p, q, wide16(entry) - 1)
 }
 
 // A given set n in some type: its number is an identifier's of one type only, the power of that set.
@@ -113,7 +95,7 @@ fn note_given(s: &[u8], n: usize, table: &mut [u16]) -> bool
     if entry == GIVEN {
         return true;
     }
-    is_power(s, wide_entry(entry) - 1, n)
+    is_power(s, wide16(entry) - 1, n)
 }
 
 // The given sets in m types that stand at `at`.

@@ -2,8 +2,8 @@
 // A constant array is laid out anew where it is read, so a table is a few words chosen by a match: its entries stand in a word one
 // after the other, the first in the lowest bits. A pattern is a word too, four bits a symbol.
 use crate::type_bytes::copy_within;
-use crate::type_bytes::same_bytes;
 use crate::type_bytes::type_end;
+use frame::bytes::same_bytes;
 use frame::tags::row_of;
 use frame::tags::wide;
 ghost use mathlib.Core.Path.{_≡_};

@@ -1,8 +1,8 @@
-// Types as bytes: where one ends, whether two are the same, and copies of them.
+// Types as bytes: where one ends, and copies of them.
 ghost use mathlib.Core.Path.{_≡_};
 ghost use Prim.Native.Nat.{ℕ, _+_, _-_, _≤_, _<_};
 ghost use lib.ListN.{length};
-ghost use Rattle.typing.specs.Buffers.{TypeAt, EndOf, SameBytes, Copied, Apart};
+ghost use Rattle.typing.specs.Buffers.{TypeAt, EndOf, Copied, Apart};
 
 // Where the type at `at` ends.
 pub fn type_end(s: &[u8], at: usize) -> usize
@@ -19,21 +19,6 @@ pub fn type_end(s: &[u8], at: usize) -> usize
         }
         _ => at + 1,
     }
-}
-
-// Whether the n bytes at a are those at b.
-pub fn same_bytes(s: &[u8], a: usize, b: usize, n: usize) -> bool
-    requires { ⌜ (a + n ≤ length (now s)) × (b + n ≤ length (now s)) ⌝ }
-    ensures { λ r. ⌜ SameBytes (now (s .entry)) a b n r ⌝ }
-{
-    let mut i = 0;
-    while i < n {
-        if s[a + i] != s[b + i] {
-            return false;
-        }
-        i += 1;
-    }
-    true
 }
 
 // The bytes of s from a up to e, into the buffer from `to` on.

@@ -8,6 +8,7 @@ use crate::stack::pop;
 use crate::stack::push;
 use crate::type_bytes::copy_in;
 use crate::type_bytes::type_end;
+use frame::bytes::wide16;
 use frame::reading::HeadAnswer;
 use frame::reading::known_head;
 ghost use mathlib.Core.Path.{_≡_};
@@ -43,12 +44,6 @@ pub enum Turned {
 pub enum Opened {
     To(usize, usize, OpenNode),
     Bad,
-}
-
-fn wide16(x: u16) -> usize
-    ensures { λ r. ⌜ r ≡ x ⌝ }
-{
-    x as usize
 }
 
 // The type that stands at p of the frame, into the buffer at `end`; a longer one than the limit is no type of a node.

@@ -1,4 +1,4 @@
-use Rattle.running.proofs.SearchTurns.{read-length, stands-at, as-framed, as-held, first-refused, first-searched}
+use Rattle.running.proofs.SearchTurns.{read-as, read-length, stands-at, as-framed, as-held, first-refused, first-searched}
 use native.Mathlib.Omega.{arith}
 use mathlib.Core.Path.{_≡_, refl, sym, _∙_}
 use borrow.Author.Needs.{needs}
@@ -6,14 +6,14 @@ use Rattle.running.proofs.first_step.Statement.{statement}
 use Rattle.running.proofs.first_step.Tie as tie
 use Rattle.running.proofs.first_step.Reads as reads
 use Rattle.running.proofs.first_step.Lts as lts
-use Rattle.frame.proofs.reading.read.Reads as read-reads
+use Rattle.frame.proofs.reading.read_again.Reads as read-again-reads
 use Rattle.nav.proofs.places.nexts.Reads as nexts-reads
 use Rattle.running.proofs.search.Reads as search-reads
 use Rattle.typing.proofs.binding.binding_ok.Reads as binding-ok-reads
 
 -- src/lib.rt:78:9
-read-requires : tie.Need-read-requires
-read-requires c κs = search needs
+read-again-requires : tie.Need-read-again-requires
+read-again-requires c κs = (c .before .before .pre .t, read-as _ (λ i. c .before .shared-slice-known .given i .fits) _ (c .before .before .pre .checks))
 
 -- src/lib.rt:81:30
 enum-known-answer : tie.Need-enum-known-answer
@@ -29,25 +29,25 @@ binding-ok-requires c κs = (read-length _ (λ i. c .before .before .before .bef
 
 -- src/lib.rt:87:13
 nexts-requires : tie.Need-nexts-requires
-nexts-requires c κs = record { t = c .before .before .before .before .before .before .before .before .before .before .pre .t; framed = as-framed _ (λ i. c .before .before .before .before .before .before .before .before .before .shared-slice-known .given i .fits) _ (c .before .before .before .before .before .before .before .before .before .before .pre .checks) _ (sym (c .before .before .before .before .before .before .answer2 .given .1) ∙ c .before .before .before .before .before .before .before .before .read .ensures .0) _ (c .before .before .before .before .before .before .before .before .read .ensures .1); long = refl }
+nexts-requires c κs = record { t = c .before .before .before .before .before .before .before .before .before .before .pre .t; framed = as-framed _ (λ i. c .before .before .before .before .before .before .before .before .before .shared-slice-known .given i .fits) _ (c .before .before .before .before .before .before .before .before .before .before .pre .checks) _ (sym (c .before .before .before .before .before .before .answer2 .given .1) ∙ c .before .before .before .before .before .before .before .before .read-again .ensures .0) _ (c .before .before .before .before .before .before .before .before .read-again .ensures .1); long = refl }
 
 -- src/lib.rt:88:13
 search-requires : tie.Need-search-requires
-search-requires c κs = record { t = c .before .before .before .before .before .before .before .before .before .before .before .before .before .before .before .pre .t; table = c .before .before .before .before .nexts .ensures .table (c .before .before .before .before .before .before .before .before .before .before .before .before .before .before .before .pre .t) (as-framed _ (λ i. c .before .before .before .before .before .before .before .before .before .before .before .before .before .before .shared-slice-known .given i .fits) _ (c .before .before .before .before .before .before .before .before .before .before .before .before .before .before .before .pre .checks) _ (sym (c .before .before .before .before .before .before .before .before .before .before .before .answer2 .given .1) ∙ c .before .before .before .before .before .before .before .before .before .before .before .before .before .read .ensures .0) _ (c .before .before .before .before .before .before .before .before .before .before .before .before .before .read .ensures .1)); held = as-held _ (λ i. c .before .before .before .before .before .before .before .before .before .before .before .before .before .before .shared-slice-known .given i .fits) _ (c .before .before .before .before .before .before .before .before .before .before .before .before .before .before .before .pre .checks) _ (sym (c .before .before .before .before .before .before .before .before .before .before .before .answer2 .given .1) ∙ c .before .before .before .before .before .before .before .before .before .before .before .before .before .read .ensures .0) _ (c .before .before .before .before .before .before .before .before .before .before .before .before .before .read .ensures .1) _ _ _ (c .before .before .before .before .before .before .before .binding-ok .ensures); room = c .before .before .before .before .before .before .before .before .before .before .before .before .before .before .before .pre .room }
+search-requires c κs = record { t = c .before .before .before .before .before .before .before .before .before .before .before .before .before .before .before .pre .t; table = c .before .before .before .before .nexts .ensures .table (c .before .before .before .before .before .before .before .before .before .before .before .before .before .before .before .pre .t) (as-framed _ (λ i. c .before .before .before .before .before .before .before .before .before .before .before .before .before .before .shared-slice-known .given i .fits) _ (c .before .before .before .before .before .before .before .before .before .before .before .before .before .before .before .pre .checks) _ (sym (c .before .before .before .before .before .before .before .before .before .before .before .answer2 .given .1) ∙ c .before .before .before .before .before .before .before .before .before .before .before .before .before .read-again .ensures .0) _ (c .before .before .before .before .before .before .before .before .before .before .before .before .before .read-again .ensures .1)); held = as-held _ (λ i. c .before .before .before .before .before .before .before .before .before .before .before .before .before .before .shared-slice-known .given i .fits) _ (c .before .before .before .before .before .before .before .before .before .before .before .before .before .before .before .pre .checks) _ (sym (c .before .before .before .before .before .before .before .before .before .before .before .answer2 .given .1) ∙ c .before .before .before .before .before .before .before .before .before .before .before .before .before .read-again .ensures .0) _ (c .before .before .before .before .before .before .before .before .before .before .before .before .before .read-again .ensures .1) _ _ _ (c .before .before .before .before .before .before .before .binding-ok .ensures); room = c .before .before .before .before .before .before .before .before .before .before .before .before .before .before .before .pre .room }
 
 -- src/lib.rt:74:1
 returns : tie.Need-returns
-returns c = first-refused _ (λ i. c .before .before .before .before .shared-slice-known .given i .fits) _ (c .before .before .before .before .before .pre .room) _ (sym (c .before .answer .given .1) ∙ c .before .before .before .read .ensures .0)
+returns c = first-refused _ (λ i. c .before .before .before .before .shared-slice-known .given i .fits) _ (c .before .before .before .before .before .pre .room) _ (sym (c .before .answer .given .1) ∙ c .before .before .before .read-again .ensures .0)
 
 -- src/lib.rt:74:1
 returns-2 : tie.Need-returns-2
-returns-2 c = first-searched _ (λ i. c .before .before .before .before .before .before .before .before .before .before .before .before .before .before .before .shared-slice-known .given i .fits) _ (sym (c .before .before .before .before .before .before .before .before .before .before .before .before .answer2 .given .1) ∙ c .before .before .before .before .before .before .before .before .before .before .before .before .before .before .read .ensures .0) _ (c .before .before .before .before .before .before .before .before .before .before .before .before .before .before .read .ensures .1) _ _ _ (c .before .before .before .before .before .before .before .before .binding-ok .ensures) _ (c .before .before .before .before .before .nexts .ensures) _ _ (c .search .ensures)
+returns-2 c = first-searched _ (λ i. c .before .before .before .before .before .before .before .before .before .before .before .before .before .before .before .shared-slice-known .given i .fits) _ (sym (c .before .before .before .before .before .before .before .before .before .before .before .before .answer2 .given .1) ∙ c .before .before .before .before .before .before .before .before .before .before .before .before .before .before .read-again .ensures .0) _ (c .before .before .before .before .before .before .before .before .before .before .before .before .before .before .read-again .ensures .1) _ _ _ (c .before .before .before .before .before .before .before .before .binding-ok .ensures) _ (c .before .before .before .before .before .nexts .ensures) _ _ (c .search .ensures)
 
 pub first-step-spec : {M : Type 1} → statement M
 first-step-spec =
     tie.close
     (tie.spec
-    read-requires
+    read-again-requires
     enum-known-answer
     enum-known-answer-2
     binding-ok-requires

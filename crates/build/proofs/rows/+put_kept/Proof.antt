@@ -8,7 +8,7 @@ use Rattle.build.proofs.rows.put_kept.Reads as put-kept
 use Rattle.build.proofs.rows.put_kept.Kinds as put-kept-kinds
 use Rattle.build.proofs.rows.+put_kept.Lts-put_kept as put-kept-lts
 use Rattle.build.proofs.rows.copy_at.Reads as copy-at-reads
-use Rattle.build.proofs.rows.wide16.Reads as wide16-reads
+use Rattle.frame.proofs.bytes.wide16.Reads as wide16-reads
 use Rattle.build.proofs.rows.+put_kept.{statement}
 use Rattle.build.proofs.rows.+put_kept.Tie.{close}
 
@@ -75,7 +75,7 @@ put-kept-copy-at-requires : (t : ℕ) → put-kept-lts.Need-copy-at-requires (
   put-kept-below t,
   put-kept.Post,
 ) (put-kept-at t) put-kept.Post
-put-kept-copy-at-requires t c κs = kept-place _ _ _ _ _ (c .before .before .before .before .before .pre .1 .long) _ _ (c .before .before .before .if1 .left) (c .before .before .before .before .before .pre .1) _ (c .before .wide16 .ensures)
+put-kept-copy-at-requires t c κs = kept-place _ _ _ _ _ (c .before .before .before .before .before .pre .1 .long) _ _ (c .before .before .before .if1 .left) (c .before .before .before .before .before .pre .1) _ (c .before .wide16 .ensures .0)
 
 -- src/rows.rt:147:41
 put-kept-add-put-kept : (t : ℕ) → put-kept-lts.Need-add-put-kept (
@@ -108,7 +108,7 @@ put-kept-returns-2 : (t : ℕ) → put-kept-lts.Need-returns-2 (
   put-kept-below t,
   put-kept.Post,
 ) (put-kept-at t) put-kept.Post
-put-kept-returns-2 t c = kept-more _ _ _ _ _ (c .before .before .before .before .before .before .before .before .pre .1 .long) _ _ (c .before .before .before .before .before .before .if1 .left) (c .before .before .before .before .before .before .before .before .pre .1 .few) _ (c .before .before .before .before .wide16 .ensures) _ _ _ _ (c .before .before .copy-at .ensures) _ _ (c .put-kept .ensures)
+put-kept-returns-2 t c = kept-more _ _ _ _ _ (c .before .before .before .before .before .before .before .before .pre .1 .long) _ _ (c .before .before .before .before .before .before .if1 .left) (c .before .before .before .before .before .before .before .before .pre .1 .few) _ (c .before .before .before .before .wide16 .ensures .0) _ _ _ _ (c .before .before .copy-at .ensures) _ _ (c .put-kept .ensures)
 
 pub +put-kept-spec : {M : Type 1} → statement M
 +put-kept-spec = close μ-put-kept λ t. put-kept-lts.spec (

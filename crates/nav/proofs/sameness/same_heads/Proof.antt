@@ -1,3 +1,4 @@
+use Rattle.frame.proofs.SameBytes.{parts}
 use native.Mathlib.Omega.{arith}
 use Rattle.nav.proofs.SameTurns.{left-stands, left-known, tags-first, tags-second, both-inside, heads-refused, heads-room, heads-short, heads-bytes, heads-agree}
 use borrow.Author.Needs.{needs}
@@ -74,11 +75,11 @@ returns-4 c = heads-refused _ _ _ _ _ (left-known _ _ _ _ (c .before .before .be
 
 -- src/sameness.rt:40:1
 returns-5 : tie.Need-returns-5
-returns-5 c = heads-agree _ _ _ _ _ (left-known _ _ _ _ (c .before .before .before .before .before .before .before .before .before .before .before .before .before .before .pre) _ (c .before .before .before .before .before .before .known-head .ensures)) _ _ _ _ _ _ _ (c .before .before .before .before .h2 .given .1) _ (c .before .same-bytes .ensures) (c .if4 .taken) (c .before .before .if3 .left)
+returns-5 c = heads-agree _ _ _ _ _ (left-known _ _ _ _ (c .before .before .before .before .before .before .before .before .before .before .before .before .before .before .pre) _ (c .before .before .before .before .before .before .known-head .ensures)) _ _ _ _ _ _ _ (c .before .before .before .before .h2 .given .1) _ (let z = heads-room _ _ _ _ _ (left-known _ _ _ _ (c .before .before .before .before .before .before .before .before .before .before .before .before .before .before .pre) _ (c .before .before .before .before .before .before .known-head .ensures)) _ _ _ _ _ _ _ (c .before .before .before .before .h2 .given .1) (c .before .before .before .before .before .before .before .before .before .before .before .before .before .before .pre) in parts _ _ _ _ (omega arith) (omega arith) _ (c .before .same-bytes .ensures)) (c .if4 .taken) (c .before .before .if3 .left)
 
 -- src/sameness.rt:40:1
 returns-6 : tie.Need-returns-6
-returns-6 c = heads-bytes _ _ _ _ _ (left-known _ _ _ _ (c .before .before .before .before .before .before .before .before .before .before .before .before .before .before .pre) _ (c .before .before .before .before .before .before .known-head .ensures)) _ _ _ _ _ _ _ (c .before .before .before .before .h2 .given .1) _ (c .before .same-bytes .ensures) (c .if4 .left)
+returns-6 c = heads-bytes _ _ _ _ _ (left-known _ _ _ _ (c .before .before .before .before .before .before .before .before .before .before .before .before .before .before .pre) _ (c .before .before .before .before .before .before .known-head .ensures)) _ _ _ _ _ _ _ (c .before .before .before .before .h2 .given .1) _ (let z = heads-room _ _ _ _ _ (left-known _ _ _ _ (c .before .before .before .before .before .before .before .before .before .before .before .before .before .before .pre) _ (c .before .before .before .before .before .before .known-head .ensures)) _ _ _ _ _ _ _ (c .before .before .before .before .h2 .given .1) (c .before .before .before .before .before .before .before .before .before .before .before .before .before .before .pre) in parts _ _ _ _ (omega arith) (omega arith) _ (c .before .same-bytes .ensures)) (c .if4 .left)
 
 pub same-heads-spec : {M : Type 1} → statement M
 same-heads-spec =

@@ -19,7 +19,7 @@ use Rattle.nav.proofs.places.tag_at.Reads as tag-at-reads
 use Rattle.rewriter.proofs.junction.compared_from.Reads as compared-from-reads
 use Rattle.rewriter.proofs.contains.opposite.Reads as opposite-reads
 use Rattle.rewriter.proofs.junction.still.Reads as still-reads
-use Rattle.rewriter.proofs.junction.wide16.Reads as wide16-reads
+use Rattle.frame.proofs.bytes.wide16.Reads as wide16-reads
 
 abbrev Inv-loop : tie.InvT-loop
 Inv-loop s starts nexts k neutral determinant kept n c i m tag fresh₀ j₀ fresh j = Scanned s starts nexts neutral determinant kept c m fresh j

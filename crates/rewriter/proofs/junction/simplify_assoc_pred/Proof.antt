@@ -9,7 +9,7 @@ use Rattle.nav.proofs.places.arity_at.Reads as arity-at-reads
 use Rattle.nav.proofs.places.tag_at.Reads as tag-at-reads
 use Rattle.rewriter.proofs.junction.absorb.Reads as absorb-reads
 use Rattle.rewriter.proofs.junction.settle.Reads as settle-reads
-use Rattle.rewriter.proofs.junction.wide16.Reads as wide16-reads
+use Rattle.frame.proofs.bytes.wide16.Reads as wide16-reads
 
 -- src/junction.rt:144:9
 arity-at-requires : tie.Need-arity-at-requires

@@ -6,7 +6,7 @@ use Rattle.typing.proofs.identifiers.note_given.Tie as tie
 use Rattle.typing.proofs.identifiers.note_given.Reads as reads
 use Rattle.typing.proofs.identifiers.note_given.Lts as lts
 use Rattle.typing.proofs.identifiers.is_power.Reads as is-power-reads
-use Rattle.typing.proofs.identifiers.wide_entry.Reads as wide-entry-reads
+use Rattle.frame.proofs.bytes.wide16.Reads as wide16-reads
 
 -- src/identifiers.rt:108:17
 mul-entry : tie.Need-mul-entry
@@ -37,8 +37,8 @@ returns-2 : tie.Need-returns-2
 returns-2 c = given-mark _ _ _ (c .if2 .taken)
 
 -- src/identifiers.rt:116:17
-wide-entry-requires : tie.Need-wide-entry-requires
-wide-entry-requires c κs = search needs
+wide16-requires : tie.Need-wide16-requires
+wide16-requires c κs = search needs
 
 -- src/identifiers.rt:116:17
 sub-is-power : tie.Need-sub-is-power
@@ -46,11 +46,11 @@ sub-is-power c = search needs
 
 -- src/identifiers.rt:116:5
 is-power-requires : tie.Need-is-power-requires
-is-power-requires c κs = (entry-place _ _ _ (c .before .before .before .before .before .before .pre .2) (c .before .before .if1 .left) (c .before .if2 .left) _ (c .wide-entry .ensures) .0, c .before .before .before .before .before .before .pre .2 .fits, c .before .before .before .before .before .before .pre .0)
+is-power-requires c κs = (entry-place _ _ _ (c .before .before .before .before .before .before .pre .2) (c .before .before .if1 .left) (c .before .if2 .left) _ (c .wide16 .ensures .0) .0, c .before .before .before .before .before .before .pre .2 .fits, c .before .before .before .before .before .before .pre .0)
 
 -- src/identifiers.rt:104:1
 returns-3 : tie.Need-returns-3
-returns-3 c = given-place _ _ _ (c .before .before .before .before .before .before .before .pre .2) (c .before .before .before .if1 .left) (c .before .before .if2 .left) _ (c .before .wide-entry .ensures) _ (c .is-power .ensures)
+returns-3 c = given-place _ _ _ (c .before .before .before .before .before .before .before .pre .2) (c .before .before .before .if1 .left) (c .before .before .if2 .left) _ (c .before .wide16 .ensures .0) _ (c .is-power .ensures)
 
 pub note-given-spec : {M : Type 1} → statement M
 note-given-spec =
@@ -63,7 +63,7 @@ note-given-spec =
     same-length
     returns
     returns-2
-    wide-entry-requires
+    wide16-requires
     sub-is-power
     is-power-requires
     returns-3)

@@ -7,7 +7,7 @@ use Rattle.typing.proofs.identifiers.note_identifier.Reads as reads
 use Rattle.typing.proofs.identifiers.note_identifier.Lts as lts
 use Rattle.typing.proofs.identifiers.is_power.Reads as is-power-reads
 use Rattle.typing.proofs.identifiers.same_type.Reads as same-type-reads
-use Rattle.typing.proofs.identifiers.wide_entry.Reads as wide-entry-reads
+use Rattle.frame.proofs.bytes.wide16.Reads as wide16-reads
 
 -- src/identifiers.rt:92:17
 mul-entry : tie.Need-mul-entry
@@ -50,8 +50,8 @@ returns-2 : tie.Need-returns-2
 returns-2 c = name-mark _ _ _ _ _ (c .before .before .before .before .before .before .pre .0) (c .before .if2 .taken) _ (c .is-power .ensures)
 
 -- src/identifiers.rt:100:24
-wide-entry-requires : tie.Need-wide-entry-requires
-wide-entry-requires c κs = search needs
+wide16-requires : tie.Need-wide16-requires
+wide16-requires c κs = search needs
 
 -- src/identifiers.rt:100:24
 sub-same-type : tie.Need-sub-same-type
@@ -59,11 +59,11 @@ sub-same-type c = search needs
 
 -- src/identifiers.rt:100:5
 same-type-requires : tie.Need-same-type-requires
-same-type-requires c κs = let l = type-room _ _ _ (c .before .before .before .before .before .before .pre .2 .fits) (c .before .before .before .before .before .before .pre .3) in (l .0, l .1, entry-place _ _ _ (c .before .before .before .before .before .before .pre .2) (c .before .before .if1 .left) (c .before .if2 .left) _ (c .wide-entry .ensures) .0, c .before .before .before .before .before .before .pre .2 .fits)
+same-type-requires c κs = let l = type-room _ _ _ (c .before .before .before .before .before .before .pre .2 .fits) (c .before .before .before .before .before .before .pre .3) in (l .0, l .1, entry-place _ _ _ (c .before .before .before .before .before .before .pre .2) (c .before .before .if1 .left) (c .before .if2 .left) _ (c .wide16 .ensures .0) .0, c .before .before .before .before .before .before .pre .2 .fits)
 
 -- src/identifiers.rt:88:1
 returns-3 : tie.Need-returns-3
-returns-3 c = name-place _ _ _ _ _ (c .before .before .before .before .before .before .before .pre .2) (c .before .before .before .if1 .left) (c .before .before .if2 .left) _ (c .before .wide-entry .ensures) _ (c .same-type .ensures)
+returns-3 c = name-place _ _ _ _ _ (c .before .before .before .before .before .before .before .pre .2) (c .before .before .before .if1 .left) (c .before .before .if2 .left) _ (c .before .wide16 .ensures .0) _ (c .same-type .ensures)
 
 pub note-identifier-spec : {M : Type 1} → statement M
 note-identifier-spec =
@@ -79,7 +79,7 @@ note-identifier-spec =
     returns
     is-power-requires
     returns-2
-    wide-entry-requires
+    wide16-requires
     sub-same-type
     same-type-requires
     returns-3)

@@ -1,3 +1,4 @@
+use Rattle.frame.proofs.SameBytes.{parts}
 use native.Mathlib.Omega.{arith}
 use Rattle.typing.proofs.Noting.{type-short, type-bytes}
 use borrow.Author.Needs.{needs}
@@ -5,7 +6,7 @@ use Rattle.typing.proofs.identifiers.same_type.Statement.{statement}
 use Rattle.typing.proofs.identifiers.same_type.Tie as tie
 use Rattle.typing.proofs.identifiers.same_type.Reads as reads
 use Rattle.typing.proofs.identifiers.same_type.Lts as lts
-use Rattle.typing.proofs.identifiers.same_bytes.Reads as same-bytes-reads
+use Rattle.frame.proofs.bytes.same_bytes.Reads as same-bytes-reads
 
 -- src/identifiers.rt:47:13
 sub-n : tie.Need-sub-n
@@ -25,7 +26,7 @@ same-bytes-requires c κs = search needs
 
 -- src/identifiers.rt:43:1
 returns-2 : tie.Need-returns-2
-returns-2 c = type-bytes _ _ _ _ (c .before .before .before .pre .0) (omega arith) _ (c .same-bytes .ensures)
+returns-2 c = type-bytes _ _ _ _ (c .before .before .before .pre .0) (omega arith) _ (parts _ _ _ _ (omega arith) (omega arith) _ (c .same-bytes .ensures))
 
 pub same-type-spec : {M : Type 1} → statement M
 same-type-spec = tie.close (tie.spec sub-n add-if1 returns same-bytes-requires returns-2)

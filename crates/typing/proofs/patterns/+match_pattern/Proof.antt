@@ -13,7 +13,7 @@ use Rattle.typing.proofs.patterns.match_pattern.Reads as match-pattern
 use Rattle.typing.proofs.patterns.match_pattern.Kinds as match-pattern-kinds
 use Rattle.typing.proofs.patterns.+match_pattern.Lts-match_pattern as match-pattern-lts
 use Rattle.frame.proofs.tags.wide.Reads as wide-reads
-use Rattle.typing.proofs.type_bytes.same_bytes.Reads as same-bytes-reads
+use Rattle.frame.proofs.bytes.same_bytes.Reads as same-bytes-reads
 use Rattle.typing.proofs.type_bytes.type_end.Reads as type-end-reads
 use Rattle.typing.proofs.patterns.+match_pattern.{statement}
 use Rattle.typing.proofs.patterns.+match_pattern.Tie.{close}

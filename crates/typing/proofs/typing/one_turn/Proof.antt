@@ -7,7 +7,7 @@ use Rattle.typing.proofs.typing.one_turn.Reads as reads
 use Rattle.typing.proofs.typing.one_turn.Lts as lts
 use Rattle.typing.proofs.typing.close_top.Reads as close-top-reads
 use Rattle.typing.proofs.typing.open_node.Reads as open-node-reads
-use Rattle.typing.proofs.typing.wide16.Reads as wide16-reads
+use Rattle.frame.proofs.bytes.wide16.Reads as wide16-reads
 
 -- src/typing.rt:164:9
 close-top-requires : tie.Need-close-top-requires
@@ -35,7 +35,7 @@ wide16-requires c κs = search needs
 
 -- src/typing.rt:169:9
 open-node-requires : tie.Need-open-node-requires
-open-node-requires c κs = step-pre (c .before .before .before .before .before .before .before .args .node) (c .before .before .before .before .before .before .before .args .s .now) (c .before .before .before .before .before .before .before .args .leaves .now) (c .before .before .before .before .before .before .before .args .types .now) (c .before .before .before .before .before .before .before .args .state) (λ i. c .before .before .before .before .before .before .shared-slice-known .given i .fits) (c .before .before .before .before .before .before .before .pre) (c .before .before .before .if1 .left) _ (c .before .wide16 .ensures)
+open-node-requires c κs = step-pre (c .before .before .before .before .before .before .before .args .node) (c .before .before .before .before .before .before .before .args .s .now) (c .before .before .before .before .before .before .before .args .leaves .now) (c .before .before .before .before .before .before .before .args .types .now) (c .before .before .before .before .before .before .before .args .state) (λ i. c .before .before .before .before .before .before .shared-slice-known .given i .fits) (c .before .before .before .before .before .before .before .pre) (c .before .before .before .if1 .left) _ (c .before .wide16 .ensures .0)
 
 -- src/typing.rt:171:37
 enum-told : tie.Need-enum-told
@@ -63,7 +63,7 @@ same-length-2 c = search needs
 
 -- src/typing.rt:153:1
 returns-2 : tie.Need-returns-2
-returns-2 c = step-bad (c .before .before .before .before .before .before .before .before .before .before .before .before .args .node) (c .before .before .before .before .before .before .before .before .before .before .before .before .args .s .now) (c .before .before .before .before .before .before .before .before .before .before .before .before .args .leaves .now) (c .before .before .before .before .before .before .before .before .before .before .before .before .args .types .now) (c .before .before .before .before .before .before .before .before .before .before .before .before .args .state) (λ i. c .before .before .before .before .before .before .before .before .before .before .before .shared-slice-known .given i .fits) (c .before .before .before .before .before .before .before .before .before .before .before .before .pre) (c .before .before .before .before .before .before .before .before .if1 .left) _ (c .before .before .before .before .before .before .wide16 .ensures) _ (c .before .before .before .before .open-node .result) (c .before .before .before .before .open-node .ensures) (c .enum-told .given .1)
+returns-2 c = step-bad (c .before .before .before .before .before .before .before .before .before .before .before .before .args .node) (c .before .before .before .before .before .before .before .before .before .before .before .before .args .s .now) (c .before .before .before .before .before .before .before .before .before .before .before .before .args .leaves .now) (c .before .before .before .before .before .before .before .before .before .before .before .before .args .types .now) (c .before .before .before .before .before .before .before .before .before .before .before .before .args .state) (λ i. c .before .before .before .before .before .before .before .before .before .before .before .shared-slice-known .given i .fits) (c .before .before .before .before .before .before .before .before .before .before .before .before .pre) (c .before .before .before .before .before .before .before .before .if1 .left) _ (c .before .before .before .before .before .before .wide16 .ensures .0) _ (c .before .before .before .before .open-node .result) (c .before .before .before .before .open-node .ensures) (c .enum-told .given .1)
 
 -- src/typing.rt:153:1
 same-length-3 : tie.Need-same-length-3
@@ -71,7 +71,7 @@ same-length-3 c = search needs
 
 -- src/typing.rt:153:1
 returns-3 : tie.Need-returns-3
-returns-3 c = step-open (c .before .before .before .before .before .before .before .before .before .before .before .before .before .before .before .args .node) (c .before .before .before .before .before .before .before .before .before .before .before .before .before .before .before .args .s .now) (c .before .before .before .before .before .before .before .before .before .before .before .before .before .before .before .args .leaves .now) (c .before .before .before .before .before .before .before .before .before .before .before .before .before .before .before .args .types .now) (c .before .before .before .before .before .before .before .before .before .before .before .before .before .before .before .args .state) (λ i. c .before .before .before .before .before .before .before .before .before .before .before .before .before .before .shared-slice-known .given i .fits) (c .before .before .before .before .before .before .before .before .before .before .before .before .before .before .before .pre) (c .before .before .before .before .before .before .before .before .before .before .before .if1 .left) _ (c .before .before .before .before .before .before .before .before .before .wide16 .ensures) _ (c .before .before .before .before .before .before .before .open-node .result) (c .before .before .before .before .before .before .before .open-node .ensures) _ _ _ (c .before .before .before .o .given .1)
+returns-3 c = step-open (c .before .before .before .before .before .before .before .before .before .before .before .before .before .before .before .args .node) (c .before .before .before .before .before .before .before .before .before .before .before .before .before .before .before .args .s .now) (c .before .before .before .before .before .before .before .before .before .before .before .before .before .before .before .args .leaves .now) (c .before .before .before .before .before .before .before .before .before .before .before .before .before .before .before .args .types .now) (c .before .before .before .before .before .before .before .before .before .before .before .before .before .before .before .args .state) (λ i. c .before .before .before .before .before .before .before .before .before .before .before .before .before .before .shared-slice-known .given i .fits) (c .before .before .before .before .before .before .before .before .before .before .before .before .before .before .before .pre) (c .before .before .before .before .before .before .before .before .before .before .before .if1 .left) _ (c .before .before .before .before .before .before .before .before .before .wide16 .ensures .0) _ (c .before .before .before .before .before .before .before .open-node .result) (c .before .before .before .before .before .before .before .open-node .ensures) _ _ _ (c .before .before .before .o .given .1)
 
 pub one-turn-spec : {M : Type 1} → statement M
 one-turn-spec =

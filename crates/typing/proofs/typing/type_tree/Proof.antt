@@ -7,7 +7,7 @@ use Rattle.typing.proofs.typing.type_tree.Reads as reads
 use Rattle.typing.proofs.typing.type_tree.Lts as lts
 use Rattle.typing.proofs.typing.lent_turns.Reads as lent-turns-reads
 use Rattle.typing.proofs.typing.open_node.Reads as open-node-reads
-use Rattle.typing.proofs.typing.wide16.Reads as wide16-reads
+use Rattle.frame.proofs.bytes.wide16.Reads as wide16-reads
 
 -- src/typing.rt:246:23
 mul-wide16 : tie.Need-mul-wide16
@@ -23,7 +23,7 @@ wide16-requires c κs = search needs
 
 -- src/typing.rt:247:9
 open-node-requires : tie.Need-open-node-requires
-open-node-requires c κs = tree-open (c .before .before .before .before .before .args .s .now) (c .before .before .before .before .before .args .at) (c .before .before .before .before .before .args .place) (c .before .before .before .before .before .args .leaves .now) (c .before .before .before .before .before .pre) _ (c .before .wide16 .ensures)
+open-node-requires c κs = tree-open (c .before .before .before .before .before .args .s .now) (c .before .before .before .before .before .args .at) (c .before .before .before .before .before .args .place) (c .before .before .before .before .before .args .leaves .now) (c .before .before .before .before .before .pre) _ (c .before .wide16 .ensures .0)
 
 -- src/typing.rt:248:20
 enum-known-o : tie.Need-enum-known-o
@@ -39,7 +39,7 @@ same-length c = search needs
 
 -- src/typing.rt:249:9
 returns : tie.Need-returns
-returns c = tree-bad (c .before .before .before .before .before .before .before .before .before .before .args .s .now) (c .before .before .before .before .before .before .before .before .before .before .args .at) (c .before .before .before .before .before .before .before .before .before .before .args .place) (c .before .before .before .before .before .before .before .before .before .before .args .leaves .now) (c .before .before .before .before .before .before .before .before .before .before .args .types .now) _ (c .before .before .before .before .before .before .wide16 .ensures) _ (c .before .before .before .before .open-node .result) (c .before .before .before .before .open-node .ensures) (c .enum-told .given .1)
+returns c = tree-bad (c .before .before .before .before .before .before .before .before .before .before .args .s .now) (c .before .before .before .before .before .before .before .before .before .before .args .at) (c .before .before .before .before .before .before .before .before .before .before .args .place) (c .before .before .before .before .before .before .before .before .before .before .args .leaves .now) (c .before .before .before .before .before .before .before .before .before .before .args .types .now) _ (c .before .before .before .before .before .before .wide16 .ensures .0) _ (c .before .before .before .before .open-node .result) (c .before .before .before .before .open-node .ensures) (c .enum-told .given .1)
 
 -- src/typing.rt:253:16
 add-t12 : tie.Need-add-t12
@@ -47,7 +47,7 @@ add-t12 c = search needs
 
 -- src/typing.rt:257:5
 lent-turns-requires : tie.Need-lent-turns-requires
-lent-turns-requires c κs = tree-turns (c .before .before .before .before .before .before .before .before .before .before .before .before .args .s .now) (c .before .before .before .before .before .before .before .before .before .before .before .before .args .at) (c .before .before .before .before .before .before .before .before .before .before .before .before .args .place) (c .before .before .before .before .before .before .before .before .before .before .before .before .args .leaves .now) (c .before .before .before .before .before .before .before .before .before .before .before .before .args .types .now) _ (c .before .before .before .before .before .before .before .before .wide16 .ensures) _ (c .before .before .before .before .before .before .open-node .result) (c .before .before .before .before .before .before .open-node .ensures) (c .before .before .before .before .before .before .before .before .before .before .before .before .pre .frame) _ _ _ (c .before .before .o .given .1) (c .before .before .before .before .before .before .before .before .before .before .before .before .pre)
+lent-turns-requires c κs = tree-turns (c .before .before .before .before .before .before .before .before .before .before .before .before .args .s .now) (c .before .before .before .before .before .before .before .before .before .before .before .before .args .at) (c .before .before .before .before .before .before .before .before .before .before .before .before .args .place) (c .before .before .before .before .before .before .before .before .before .before .before .before .args .leaves .now) (c .before .before .before .before .before .before .before .before .before .before .before .before .args .types .now) _ (c .before .before .before .before .before .before .before .before .wide16 .ensures .0) _ (c .before .before .before .before .before .before .open-node .result) (c .before .before .before .before .before .before .open-node .ensures) (c .before .before .before .before .before .before .before .before .before .before .before .before .pre .frame) _ _ _ (c .before .before .o .given .1) (c .before .before .before .before .before .before .before .before .before .before .before .before .pre)
 
 -- src/typing.rt:242:1
 same-length-2 : tie.Need-same-length-2
@@ -55,7 +55,7 @@ same-length-2 c = search needs
 
 -- src/typing.rt:242:1
 returns-2 : tie.Need-returns-2
-returns-2 c = tree-ends (c .before .before .before .before .before .before .before .before .before .before .before .before .before .before .before .args .s .now) (c .before .before .before .before .before .before .before .before .before .before .before .before .before .before .before .args .at) (c .before .before .before .before .before .before .before .before .before .before .before .before .before .before .before .args .place) (c .before .before .before .before .before .before .before .before .before .before .before .before .before .before .before .args .leaves .now) (c .before .before .before .before .before .before .before .before .before .before .before .before .before .before .before .args .types .now) _ (c .before .before .before .before .before .before .before .before .before .before .before .wide16 .ensures) _ (c .before .before .before .before .before .before .before .before .before .open-node .result) (c .before .before .before .before .before .before .before .before .before .open-node .ensures) (c .before .before .before .before .before .before .before .before .before .before .before .before .before .before .before .pre .frame) _ _ _ (c .before .before .before .before .before .o .given .1) _ _ (omega arith) (c .before .before .lent-turns .ensures)
+returns-2 c = tree-ends (c .before .before .before .before .before .before .before .before .before .before .before .before .before .before .before .args .s .now) (c .before .before .before .before .before .before .before .before .before .before .before .before .before .before .before .args .at) (c .before .before .before .before .before .before .before .before .before .before .before .before .before .before .before .args .place) (c .before .before .before .before .before .before .before .before .before .before .before .before .before .before .before .args .leaves .now) (c .before .before .before .before .before .before .before .before .before .before .before .before .before .before .before .args .types .now) _ (c .before .before .before .before .before .before .before .before .before .before .before .wide16 .ensures .0) _ (c .before .before .before .before .before .before .before .before .before .open-node .result) (c .before .before .before .before .before .before .before .before .before .open-node .ensures) (c .before .before .before .before .before .before .before .before .before .before .before .before .before .before .before .pre .frame) _ _ _ (c .before .before .before .before .before .o .given .1) _ _ (omega arith) (c .before .before .lent-turns .ensures)
 
 pub type-tree-spec : {M : Type 1} → statement M
 type-tree-spec =

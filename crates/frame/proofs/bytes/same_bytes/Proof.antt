@@ -1,14 +1,14 @@
-use mathlib.Core.Path.{_≡_, refl, sym}
+use mathlib.Core.Path.{_≡_}
 use Prim.Native.Nat.{ℕ, _+_, _≤_, _<_, _-_}
 use native.Mathlib.Omega.{arith}
 use lib.ListN.{length, getD}
 use borrow.Author.Count.{below-more, below-none}
-use Rattle.typing.specs.Buffers.{Alike}
-use Rattle.typing.proofs.BufferLaws.{bytes-differ, bytes-same}
-use Rattle.typing.proofs.type_bytes.same_bytes.Statement.{statement}
-use Rattle.typing.proofs.type_bytes.same_bytes.Tie as tie
-use Rattle.typing.proofs.type_bytes.same_bytes.Reads as reads
-use Rattle.typing.proofs.type_bytes.same_bytes.Lts as lts
+use Rattle.frame.specs.Bytes.{Alike}
+use Rattle.frame.proofs.SameBytes.{bytes-differ, bytes-same}
+use Rattle.frame.proofs.bytes.same_bytes.Statement.{statement}
+use Rattle.frame.proofs.bytes.same_bytes.Tie as tie
+use Rattle.frame.proofs.bytes.same_bytes.Reads as reads
+use Rattle.frame.proofs.bytes.same_bytes.Lts as lts
 
 abbrev Inv-loop : tie.InvT-loop
 Inv-loop s a b n i₀ i = (i ≤ n) × Alike s a b i
@@ -16,43 +16,43 @@ Inv-loop s a b n i₀ i = (i ≤ n) × Alike s a b i
 abbrev μ-loop : tie.MeasureT-loop
 μ-loop s a b n i₀ i = n - i
 
--- src/type_bytes.rt:30:5
+-- src/bytes.rt:30:5
 loop-holds : tie.Need-loop-holds Inv-loop μ-loop
 loop-holds c = (omega arith, below-none _)
 
--- src/type_bytes.rt:31:14
+-- src/bytes.rt:31:14
 add-if1 : tie.Need-add-if1 Inv-loop μ-loop
 add-if1 c = omega arith
 
--- src/type_bytes.rt:31:12
+-- src/bytes.rt:31:12
 shared-slice-read-if1 : tie.Need-shared-slice-read-if1 Inv-loop μ-loop
 shared-slice-read-if1 c = omega arith
 
--- src/type_bytes.rt:31:26
+-- src/bytes.rt:31:26
 add-if1-2 : tie.Need-add-if1-2 Inv-loop μ-loop
 add-if1-2 c = omega arith
 
--- src/type_bytes.rt:31:24
+-- src/bytes.rt:31:24
 shared-slice-read-if1-2 : tie.Need-shared-slice-read-if1-2 Inv-loop μ-loop
 shared-slice-read-if1-2 c = omega arith
 
--- src/type_bytes.rt:32:13
+-- src/bytes.rt:32:13
 returns : tie.Need-returns Inv-loop μ-loop
 returns c = bytes-differ _ _ _ _ (c .before .before .before .before .loop .i) (c .before .before .before .loop-test .taken) (c .if1 .taken)
 
--- src/type_bytes.rt:34:9
+-- src/bytes.rt:34:9
 add-i : tie.Need-add-i Inv-loop μ-loop
 add-i c = omega arith
 
--- src/type_bytes.rt:30:5
+-- src/bytes.rt:30:5
 loop-less : tie.Need-loop-less Inv-loop μ-loop
 loop-less c = omega arith
 
--- src/type_bytes.rt:30:5
+-- src/bytes.rt:30:5
 loop-again : tie.Need-loop-again Inv-loop μ-loop
 loop-again c = (omega arith, below-more _ _ (c .before .before .before .before .loop .inv .1) (c .if1 .left))
 
--- src/type_bytes.rt:25:1
+-- src/bytes.rt:25:1
 returns-2 : tie.Need-returns-2 Inv-loop μ-loop
 returns-2 c = bytes-same _ _ _ _ (c .before .loop .i) (c .loop-test .left) (c .before .loop .inv .1)
 
