@@ -173,7 +173,7 @@ fn names_in_full(s: &[u8]) -> bool
     }
 }
 
-// The same. Nearly all frames have small numbers only, and a small table is cleared in less time than such a frame is read.
+// The same. Nearly all frames have small numbers only: those don't pay for clearing the table of all numbers.
 pub fn names_ok(s: &[u8]) -> bool
     requires { ⌜ (length (now s) ≤ frameLimit) × ((t : Tree) × IsAt (now s) predicate 0 t (length (now s))) ⌝ }
     ensures { λ r. ⌜ ((t : Tree) → IsAt (now (s .entry)) predicate 0 t (length (now (s .entry))) → r ≡ namesAgree t) ⌝ }
