@@ -1,6 +1,6 @@
 // Subtrees of the frame, one after the other.
-use frame::bytes::wide16;
 use emit::put::put_copy;
+use frame::bytes::wide16;
 use nav::places::end_at;
 use nav::places::next_at;
 use nav::places::start_at;

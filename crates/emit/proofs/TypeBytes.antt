@@ -1,4 +1,4 @@
--- What the first byte of a type says of the type that stands there; the ways out of `type_end` and `to_expression`.
+-- What the first byte of a type says of the type that stands there; the ways out of `to_expression`.
 use mathlib.Core.Path.{_≡_, refl, sym, ap, ap₂, _∙_, subst}
 use mathlib.Core.List.{List, [], _∷_, _++_, append-assoc, append-nil}
 use Prim.Native.Nat.{ℕ, zero, suc, _+_, _-_, _≤_, _<_}
@@ -11,9 +11,11 @@ use Rattle.frame.specs.Encoding.{encNumber, encTy, encTys, encHead, enc, encs}
 use Rattle.frame.specs.Spans.{Spans}
 use Rattle.frame.proofs.Spans.{span-first, span-left, span-right}
 use Rattle.frame.proofs.Numbers.{number-length}
+use Rattle.frame.proofs.ReadTypes.{ty-long}
 use Rattle.typing.specs.TypeExpression.{toExpression}
 use Rattle.emit.specs.Out.{Puts}
 use Rattle.emit.specs.Copied.{between}
+use Rattle.typing.specs.Buffers.{TypeAt as Standing, EndOf}
 use Rattle.emit.specs.Written.{TypeAt, HasType, TypeEnd, Expressed, givenBytes}
 use Rattle.emit.specs.declared.type_expression.Written.{Written}
 use Rattle.emit.proofs.Puts.{puts-then, puts-as, between-span}
@@ -38,19 +40,18 @@ module _ {s : List ℕ} {at : ℕ} where
 pub type-within : (s : List ℕ) (at : ℕ) → HasType s at → at < length s
 type-within s at h = lead-is (h .0) (h .1) .1
 
-some : (t : Ty) → 0 < length (encTy t)
-unfolding encTy
-some bool = omega arith
-some int = omega arith
-some (given n) = omega arith
-some (pow t) = omega arith
-some (prod t u) = omega arith
+-- what the end of a type asks and answers
+pub as-type : (s : List ℕ) (at : ℕ) → HasType s at → Standing s at
+as-type s at h = record { type = h .0; end = _; span = h .1 }
+
+pub as-end : (s : List ℕ) (at q : ℕ) → EndOf s at q → TypeEnd s at q
+as-end s at q p = record { end = λ t a. p .is t _ a }
 
 -- a type is not empty, and ends in the bytes
 pub type-past : (s : List ℕ) (at q : ℕ) → HasType s at → TypeEnd s at q → (at < q) × (q ≤ length s)
 type-past s at q h e =
     let z = e .end (h .0) (h .1) in
-    (omega (arith, some (h .0)), omega (arith, h .1 .within))
+    (omega (arith, ty-long (h .0)), omega (arith, h .1 .within))
 
 -- what stands there ends where its length says
 pub type-at : {s : List ℕ} {at p : ℕ} (t : Ty) → Spans s at p (encTy t) → TypeAt s at t

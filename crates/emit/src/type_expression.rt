@@ -6,29 +6,12 @@ use crate::put::put_word;
 ghost use Prim.Native.Nat.{_+_, _≤_};
 ghost use lib.ListN.{length};
 ghost use Rattle.emit.specs.Out.{Puts};
-ghost use Rattle.emit.specs.Written.{HasType, TypeEnd, Expressed, givenBytes};
+ghost use Rattle.emit.specs.Written.{HasType, Expressed, givenBytes};
 
 // Where the type that was written ends, and the cursor behind what was written.
 pub struct Written {
     pub end: usize,
     pub cursor: usize,
-}
-
-// The end of the type at `at`.
-pub fn type_end(types: &[u8], at: usize) -> usize
-    requires { ⌜ HasType (now types) at ⌝ }
-    ensures { λ r. ⌜ TypeEnd (now (types .entry)) at r ⌝ }
-{
-    let b = types[at];
-    match b {
-        2 => at + 3,
-        3 => type_end(types, at + 1),
-        4 => {
-            let p = type_end(types, at + 1);
-            type_end(types, p)
-        }
-        _ => at + 1,
-    }
 }
 
 // The identifier of a given set: its number stands behind the type byte, and the type of the identifier is its power.

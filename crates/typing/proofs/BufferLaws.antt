@@ -1,9 +1,9 @@
--- Laws of types as bytes: bytes one by one and spans; what the first byte of a type says; copies.
--- Main results: span-get, span-by (a span by its bytes), span-kept (a span below what is written), copied-span (what a copy is),
--- ends-other .. ends-prod (a type by its first byte), type-room.
+-- Laws of types as bytes: bytes one by one and spans; the end of a type; copies.
+-- Main results: span-get, span-by (a span by its bytes), span-kept (a span below what is written), copied-span (what a copy is);
+-- type-stands, type-ends (the end of a type).
 use mathlib.Core.Path.{_≡_, refl, sym, ap, ap₂, _∙_, subst}
 use mathlib.Core.Bool.{Bool, true, false}
-use mathlib.Core.List.{List, [], _∷_, _++_}
+use mathlib.Core.List.{List, [], _∷_, _++_, append-nil}
 use Prim.Native.Nat.{ℕ, zero, suc, _+_, _-_, _≤_, _<_}
 use native.Mathlib.Omega.{arith}
 use lib.ListN.{length, take, drop, getD, set, length-append, length-take, length-drop, length-set}
@@ -12,11 +12,12 @@ use lib.Dec.{ltb, leb}
 use borrow.Author.Count.{below-more, below-none}
 use borrow.Author.Tests.{ltb-true, ltb-false, leb-true, leb-false}
 use Rattle.frame.proofs.Inversion.{true-not}
-use Rattle.frame.specs.Types.{Ty, bool, int, given, pow, prod}
-use Rattle.frame.specs.Encoding.{encNumber, encTy}
+use Rattle.frame.specs.Types.{Ty}
+use Rattle.frame.specs.Encoding.{encTy, encTys}
 use Rattle.frame.specs.Spans.{Spans}
 use Rattle.frame.proofs.Spans.{span-first, FirstOf, span-left, span-right}
 use Rattle.frame.proofs.Numbers.{number-length}
+use Rattle.frame.specs.Post.{TypesStand, SkipPost}
 use Rattle.typing.specs.Buffers.{TypeAt, EndOf, Copied, Apart}
 
 -- ---- spans, byte by byte
@@ -44,76 +45,16 @@ copied-span {s} {a} {e} {xs} n o p to en sp c h =
     let z : length xs ≡ n = omega (arith, sp .long) in
     span-by p to (to + n) xs (omega arith) (omega (arith, c .long)) (λ j k. c .put j (omega (arith, z, k)) ∙ span-get sp j k)
 
--- ---- a type by its first byte
-pub ends-other : (s : List ℕ) (at : ℕ) → (getD s at 0 ≡ 2 → ⊥) → (getD s at 0 ≡ 3 → ⊥) → (getD s at 0 ≡ 4 → ⊥) → (t : Ty) (e : ℕ) → Spans s at e (encTy t) → at + 1 ≡ e
-unfolding encTy
-ends-other s at f g h bool e a = a .long
-ends-other s at f g h int e a = a .long
-ends-other s at f g h (given n) e a = absurd (f (span-first a .byte))
-ends-other s at f g h (pow t) e a = absurd (g (span-first a .byte))
-ends-other s at f g h (prod t u) e a = absurd (h (span-first a .byte))
+-- ---- the end of a type
+one-span : (s : List ℕ) (at e : ℕ) (t : Ty) → Spans s at e (encTy t) → Spans s at e (encTys (t ∷ []))
+unfolding encTys
+one-span s at e t a = rw append-nil a
 
-pub ends-given : (s : List ℕ) (at : ℕ) → getD s at 0 ≡ 2 → (t : Ty) (e : ℕ) → Spans s at e (encTy t) → at + 3 ≡ e
-unfolding encTy
-ends-given s at h bool e a = absurd (omega (arith, span-first a .byte))
-ends-given s at h int e a = absurd (omega (arith, span-first a .byte))
-ends-given s at h (given n) e a = omega (arith, a .long, number-length 2 n)
-ends-given s at h (pow t) e a = absurd (omega (arith, span-first a .byte))
-ends-given s at h (prod t u) e a = absurd (omega (arith, span-first a .byte))
+pub type-stands : (s : List ℕ) (at : ℕ) → TypeAt s at → TypesStand s at 1
+type-stands s at a = (a .type ∷ [], a .end, refl, one-span s at (a .end) (a .type) (a .span))
 
-pub ends-pow : (s : List ℕ) (at : ℕ) → getD s at 0 ≡ 3 → (t : Ty) (e : ℕ) → Spans s at e (encTy t) → (u : Ty) × Spans s (at + 1) e (encTy u)
-unfolding encTy
-ends-pow s at h bool e a = absurd (omega (arith, span-first a .byte))
-ends-pow s at h int e a = absurd (omega (arith, span-first a .byte))
-ends-pow s at h (given n) e a = absurd (omega (arith, span-first a .byte))
-ends-pow s at h (pow t) e a = (t, span-first a .rest)
-ends-pow s at h (prod t u) e a = absurd (omega (arith, span-first a .byte))
-
-pub ends-prod : (s : List ℕ) (at : ℕ) → getD s at 0 ≡ 4 → (t : Ty) (e : ℕ) → Spans s at e (encTy t)
-    → (u : Ty) × (v : Ty) × (m : ℕ) × Spans s (at + 1) m (encTy u) × Spans s m e (encTy v)
-unfolding encTy
-ends-prod s at h bool e a = absurd (omega (arith, span-first a .byte))
-ends-prod s at h int e a = absurd (omega (arith, span-first a .byte))
-ends-prod s at h (given n) e a = absurd (omega (arith, span-first a .byte))
-ends-prod s at h (pow t) e a = absurd (omega (arith, span-first a .byte))
-ends-prod s at h (prod t u) e a = (t, u, at + 1 + length (encTy t), span-left (encTy t) (encTy u) (span-first a .rest), span-right (encTy t) (encTy u) (span-first a .rest))
-
--- a type has a byte
-pub type-some : (t : Ty) → 0 < length (encTy t)
-unfolding encTy
-type-some bool = omega arith
-type-some int = omega arith
-type-some (given n) = omega arith
-type-some (pow t) = omega arith
-type-some (prod t u) = omega arith
-
-pub type-room : (s : List ℕ) (at : ℕ) → TypeAt s at → at < length s
-type-room s at a = omega (arith, type-some (a .type), a .span .long, a .span .within)
-
--- ---- the ways through type_end
-module _ (s : List ℕ) (at : ℕ) where
-  pub pow-below : getD s at 0 ≡ 3 → TypeAt s at → TypeAt s (at + 1)
-  pow-below h a = let u = ends-pow s at h (a .type) (a .end) (a .span) in record { type = u .0; end = a .end; span = u .1 }
-
-  pub pow-end : getD s at 0 ≡ 3 → (r : ℕ) → EndOf s (at + 1) r → EndOf s at r
-  pow-end h r b = record { is = λ t e a. (let u = ends-pow s at h t e a in b .is (u .0) e (u .1)) }
-
-  pub left-below : getD s at 0 ≡ 4 → TypeAt s at → TypeAt s (at + 1)
-  left-below h a = let u = ends-prod s at h (a .type) (a .end) (a .span) in record { type = u .0; end = u .2; span = u .3 }
-
-  pub right-below : getD s at 0 ≡ 4 → TypeAt s at → (m : ℕ) → EndOf s (at + 1) m → TypeAt s m × (at < m)
-  right-below h a m b =
-      let u = ends-prod s at h (a .type) (a .end) (a .span) in
-      let z = b .is (u .0) (u .2) (u .3) in
-      (record { type = u .1; end = a .end; span = subst (λ (i : ℕ). Spans s i (a .end) (encTy (u .1))) (sym z) (u .4) }, omega (arith, u .3 .long))
-
-  pub prod-end : getD s at 0 ≡ 4 → (m r : ℕ) → EndOf s (at + 1) m → EndOf s m r → EndOf s at r
-  prod-end h m r b c =
-      record {
-        is = λ t e a. (let u = ends-prod s at h t e a in
-            let z = b .is (u .0) (u .2) (u .3) in
-            c .is (u .1) e (subst (λ (i : ℕ). Spans s i e (encTy (u .1))) (sym z) (u .4)));
-      }
+pub type-ends : (s : List ℕ) (at r : ℕ) → SkipPost s at 1 r → EndOf s at r
+type-ends s at r p = record { is = λ t e a. p .ends (t ∷ []) e refl (one-span s at e t a) }
 
 -- ---- copies
 module _ (s : List ℕ) (a : ℕ) (o : List ℕ) (to : ℕ) where
@@ -149,6 +90,3 @@ apart-up a e to h = record { clear = λ i j k l z. omega arith }
 
 pub apart-down : (a e to : ℕ) → to ≤ a → Apart a e to
 apart-down a e to h = record { clear = λ i j k l z. omega arith }
-
-pub given-room : (s : List ℕ) (at : ℕ) → getD s at 0 ≡ 2 → TypeAt s at → at + 3 ≤ length s
-given-room s at h a = omega (arith, ends-given s at h (a .type) (a .end) (a .span), a .span .within)

@@ -1,6 +1,7 @@
 -- The ways out of `match_pattern`: at each, what the code found is what `matches` says.
 -- Main results: packed-end, by-symbol (the pattern of a word); row-none .. row-type (types in a row); the laws fit-end .. next-same
 -- (one for each way out).
+use Rattle.frame.proofs.ReadTypes.{ty-long}
 use mathlib.Core.Path.{_≡_, refl, sym, ap, ap₂, _∙_, subst, subst₂, subst₃}
 use mathlib.Core.Bool.{Bool, true, false, _&&_}
 use mathlib.Core.List.{List, [], _∷_, _++_, append-assoc}
@@ -29,7 +30,7 @@ use Rattle.frame.specs.Bytes.{Alike, SameBytes}
 use Rattle.typing.specs.PatternPosts.{TysFit, RowAt, Slots, EnvAt, MatchPre, Matching, MatchPost}
 use Rattle.typing.specs.declared.patterns.Fit.{Fit}
 use Rattle.typing.specs.declared.patterns.Fit.the-variants as F
-use Rattle.typing.proofs.BufferLaws.{span-get, span-by, type-some}
+use Rattle.typing.proofs.BufferLaws.{span-get, span-by}
 use Rattle.typing.proofs.Same.{same-ty-of}
 
 -- ---- the pattern of a word
@@ -56,7 +57,7 @@ by-symbol p b eb z X f (d ∷ ps) h = let c = packed-cons d ps p h in subst (λ 
 pub row-none : (types : List ℕ) (at n : ℕ) (us : List Ty) → RowAt types at n us → n ≤ at → us ≡ []
 unfolding encTys
 row-none types at n [] r h = refl
-row-none types at n (t ∷ us) r h = absurd (omega (arith, r .span .long, length-append (encTy t) (encTys us), type-some t))
+row-none types at n (t ∷ us) r h = absurd (omega (arith, r .span .long, length-append (encTy t) (encTys us), ty-long t))
 
 pub row-some : (types : List ℕ) (at n : ℕ) (us : List Ty) → RowAt types at n us → at < n → (t : Ty) × (vs : List Ty) × (us ≡ t ∷ vs)
 unfolding encTys
@@ -236,7 +237,7 @@ module _ (p : ℕ) (types : List ℕ) (at n : ℕ) (s e : List ℕ) (k : ℕ) wh
 
       pub first-past : (q : ℕ) → EndOf types at q → (us : List Ty) → RowAt types at n us → at < q
       first-past q en us row =
-          firstly (λ vs. at < q) (λ t vs r. omega (arith, en .is t (at + length (encTy t)) (row-first types at n t vs r), type-some t)) us row
+          firstly (λ vs. at < q) (λ t vs r. omega (arith, en .is t (at + length (encTy t)) (row-first types at n t vs r), ty-long t)) us row
 
       off-first : ((rest : List ℕ) (t : Ty) (vs ρ : List Ty) → RowAt types at n (t ∷ vs) → EnvAt types n s e ρ → length ρ ≡ k → matches (b ∷ rest) (t ∷ vs) ρ ≡ differs) → Post s e F.Differs
       off-first f = off (λ rest us ρ row env c. firstly (λ vs. matches (b ∷ rest) vs ρ ≡ differs) (λ t vs r. f rest t vs ρ r env c) us row)
@@ -339,4 +340,4 @@ slot-span env c v h = let a = env .spans v (omega (arith, c)) in omega (arith, a
 
 -- and are some
 pub slot-some : {types : List ℕ} {n : ℕ} {s e : List ℕ} {ρ : List Ty} {k : ℕ} → EnvAt types n s e ρ → length ρ ≡ k → (v : ℕ) → v < k → getD s v 0 < getD e v 0
-slot-some {ρ = ρ} env c v h = let a = env .spans v (omega (arith, c)) in omega (arith, a .long, type-some (ty v ρ))
+slot-some {ρ = ρ} env c v h = let a = env .spans v (omega (arith, c)) in omega (arith, a .long, ty-long (ty v ρ))

@@ -21,6 +21,7 @@ use Rattle.frame.proofs.Numbers.{number-span, number-back, number-two}
 use Rattle.frame.proofs.Inversion.{true-not}
 use Rattle.typing.specs.Members.{In}
 use Rattle.typing.specs.Identifiers.{Named, named}
+use Rattle.frame.proofs.ReadTypes.{ty-long}
 use Rattle.frame.specs.Bytes.{SameParts}
 use Rattle.typing.specs.Claims.{Clash, TypeAt, givenMark, Says, by-mark, by-place, Told, Noted, PowerPost, SameType, Held, NamePost, GivenPost}
 use Rattle.typing.proofs.Claims.{in-left, in-right, in-either, type-unique}
@@ -35,14 +36,6 @@ zeros m n = go (ltb n m) refl
 
 pub told-none : (s : List ℕ) (m : ℕ) → Told s (replicate m 0) []
 told-none s m = record { all = λ n t i. absurd i; only = λ n h. absurd (h (zeros m n)) }
-
-pub ty-long : (t : Ty) → 1 ≤ length (encTy t)
-unfolding encTy
-ty-long bool = omega arith
-ty-long int = omega arith
-ty-long (given n) = omega arith
-ty-long (pow t) = omega arith
-ty-long (prod t u) = omega arith
 
 -- ---- one claim
 module _ (s table : List ℕ) (done : List Named) (h : Told s table done) (n : ℕ) (t : Ty) where

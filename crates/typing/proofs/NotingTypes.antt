@@ -1,6 +1,7 @@
 -- The given sets in types, noted from left to right: the ways out of note_types.
 -- Main results: types-room, types-step (what the first byte says), types-end, types-beyond, types-clash, types-given,
 -- types-pow, types-prod, types-leaf.
+use Rattle.frame.proofs.ReadTypes.{ty-long}
 use mathlib.Core.Path.{_≡_, refl, sym, ap, _∙_, subst}
 use mathlib.Core.Bool.{Bool, true, false}
 use mathlib.Core.List.{List, [], _∷_, _++_, append-assoc, append-nil}
@@ -19,7 +20,7 @@ use Rattle.typing.specs.Identifiers.{Named, named, givensTy, givensTys}
 use Rattle.typing.specs.Claims.{powers, Noted, Held, Short, GivenPost, TypesAt, TypesAnswer, TypesPost}
 use Rattle.typing.specs.declared.identifiers.Noting.{Noting}
 use Rattle.typing.specs.declared.identifiers.Noting.the-variants.{Ends, Clashed, Beyond}
-use Rattle.typing.proofs.Noting.{ty-long, noted-nil, noted-then, noted-early, held-then}
+use Rattle.typing.proofs.Noting.{noted-nil, noted-then, noted-early, held-then}
 
 -- ---- types in a row
 pub tys-long : (us : List Ty) → length us ≤ length (encTys us)

@@ -19,7 +19,7 @@ use Rattle.frame.proofs.Spans.{span-left, span-right}
 use Rattle.frame.proofs.ReadTypes.{ty-back}
 use Rattle.typing.specs.Typing.{typeAt}
 use Rattle.typing.specs.Bound.{Opened, Below, OpenPost}
-use Rattle.typing.proofs.Noting.{ty-long}
+use Rattle.frame.proofs.ReadTypes.{ty-long}
 use Rattle.typing.proofs.NotingTypes.{tys-long}
 
 -- a type that stands at a position

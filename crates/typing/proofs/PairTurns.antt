@@ -1,5 +1,6 @@
 -- The ways out of `match_pairs`.
 -- Main results: env-empty, pairs-none, pairs-last, pairs-differ, pairs-more.
+use Rattle.frame.proofs.ReadTypes.{ty-long}
 use mathlib.Core.Path.{_≡_, refl, sym, ap, ap₂, _∙_, subst, subst₂}
 use mathlib.Core.Bool.{Bool, true, false, _&&_}
 use mathlib.Core.List.{List, [], _∷_, _++_}
@@ -16,7 +17,6 @@ use Rattle.typing.specs.declared.patterns.Fit.the-variants as F
 use Rattle.typing.specs.declared.patterns.Pairs.{Pairs}
 use Rattle.typing.specs.declared.patterns.Pairs.the-variants as P
 use Rattle.typing.proofs.MatchTurns.{row-none, row-some, row-first, row-rest, row-within, row-type}
-use Rattle.typing.proofs.BufferLaws.{type-some}
 
 pub env-empty : (types : List ℕ) (n : ℕ) (s e : List ℕ) → Slots s e → EnvAt types n s e []
 env-empty types n s e h = record { slots = h; few = omega arith; fit = tt; spans = λ i k. absurd (omega arith); low = λ i k. absurd (omega arith) }
@@ -57,7 +57,7 @@ module _ (ps types : List ℕ) (at n : ℕ) (s e : List ℕ) where
           subst (λ (x : ℕ). RowAt types x n vs) (sym (en .is t (at + length (encTy t)) (row-first types at n t vs row))) (row-rest types at n t vs row)
 
       pub pairs-past : {w : ℕ} → PairsPre w types at n s e → at < q
-      pairs-past p = firstly (λ vs. at < q) (λ t vs r. omega (arith, en .is t (at + length (encTy t)) (row-first types at n t vs r), type-some t)) (p .us) (p .row)
+      pairs-past p = firstly (λ vs. at < q) (λ t vs r. omega (arith, en .is t (at + length (encTy t)) (row-first types at n t vs r), ty-long t)) (p .us) (p .row)
 
       pub pairs-last : n ≤ q → PairsPost ps types at n s e s e (P.Last at)
       unfolding pairsFit

@@ -9,16 +9,7 @@ pub fn type_end(s: &[u8], at: usize) -> usize
     requires { ⌜ TypeAt (now s) at ⌝ }
     ensures { λ r. ⌜ EndOf (now (s .entry)) at r ⌝ }
 {
-    let b = s[at];
-    match b {
-        2 => at + 3,
-        3 => type_end(s, at + 1),
-        4 => {
-            let m = type_end(s, at + 1);
-            type_end(s, m)
-        }
-        _ => at + 1,
-    }
+    frame::reading::skip_types(s, at, 1)
 }
 
 // The bytes of s from a up to e, into the buffer from `to` on.

@@ -1,3 +1,4 @@
+use Rattle.emit.proofs.TypeBytes.{as-type, as-end}
 use native.Mathlib.Omega.{arith}
 use Rattle.emit.proofs.TypeBytes.{type-past}
 use Rattle.emit.proofs.MadeTypes.{inner-has, type-power, type-plain}
@@ -10,7 +11,7 @@ use Rattle.emit.proofs.put.put_byte.Reads as put-byte-reads
 use Rattle.emit.proofs.put.put_copy.Reads as put-copy-reads
 use Rattle.emit.proofs.template.inner_at.Reads as inner-at-reads
 use Rattle.emit.proofs.template.is_power.Reads as is-power-reads
-use Rattle.emit.proofs.type_expression.type_end.Reads as type-end-reads
+use Rattle.typing.proofs.type_bytes.type_end.Reads as type-end-reads
 
 -- src/template.rt:51:9
 inner-at-requires : tie.Need-inner-at-requires
@@ -18,7 +19,7 @@ inner-at-requires c κs = search needs
 
 -- src/template.rt:52:9
 type-end-requires : tie.Need-type-end-requires
-type-end-requires c κs = inner-has _ _ _ _ (c .before .before .pre) (c .inner-at .ensures)
+type-end-requires c κs = as-type _ _ (inner-has _ _ _ _ (c .before .before .pre) (c .inner-at .ensures))
 
 -- src/template.rt:53:8
 is-power-requires : tie.Need-is-power-requires
@@ -30,19 +31,19 @@ put-byte-requires c κs = search needs
 
 -- src/template.rt:55:9
 put-copy-requires : tie.Need-put-copy-requires
-put-copy-requires c κs = let z = type-past _ _ _ (inner-has _ _ _ _ (c .before .before .before .before .before .before .before .before .pre) (c .before .before .before .before .before .before .inner-at .ensures)) (c .before .before .before .before .before .type-end .ensures) in (omega arith, z .1)
+put-copy-requires c κs = let z = type-past _ _ _ (inner-has _ _ _ _ (c .before .before .before .before .before .before .before .before .pre) (c .before .before .before .before .before .before .inner-at .ensures)) (as-end _ _ _ (c .before .before .before .before .before .type-end .ensures)) in (omega arith, z .1)
 
 -- src/template.rt:55:9
 returns : tie.Need-returns
-returns c = type-power _ _ _ _ _ (c .before .before .before .before .before .before .before .inner-at .ensures) (c .before .before .before .before .before .is-power .ensures) _ _ _ _ _ _ _ (c .before .before .before .before .before .before .type-end .ensures) (c .before .before .before .before .if1 .taken) (c .before .before .put-byte .ensures) (c .put-copy .ensures)
+returns c = type-power _ _ _ _ _ (c .before .before .before .before .before .before .before .inner-at .ensures) (c .before .before .before .before .before .is-power .ensures) _ _ _ _ _ _ _ (as-end _ _ _ (c .before .before .before .before .before .before .type-end .ensures)) (c .before .before .before .before .if1 .taken) (c .before .before .put-byte .ensures) (c .put-copy .ensures)
 
 -- src/template.rt:57:5
 put-copy-requires-2 : tie.Need-put-copy-requires-2
-put-copy-requires-2 c κs = let z = type-past _ _ _ (inner-has _ _ _ _ (c .before .before .before .before .before .before .pre) (c .before .before .before .before .inner-at .ensures)) (c .before .before .before .type-end .ensures) in (omega arith, z .1)
+put-copy-requires-2 c κs = let z = type-past _ _ _ (inner-has _ _ _ _ (c .before .before .before .before .before .before .pre) (c .before .before .before .before .inner-at .ensures)) (as-end _ _ _ (c .before .before .before .type-end .ensures)) in (omega arith, z .1)
 
 -- src/template.rt:47:1
 returns-2 : tie.Need-returns-2
-returns-2 c = type-plain _ _ _ _ _ (c .before .before .before .before .before .inner-at .ensures) (c .before .before .before .is-power .ensures) _ _ _ _ _ (c .before .before .before .before .type-end .ensures) (c .before .before .if1 .left) (c .put-copy2 .ensures)
+returns-2 c = type-plain _ _ _ _ _ (c .before .before .before .before .before .inner-at .ensures) (c .before .before .before .is-power .ensures) _ _ _ _ _ (as-end _ _ _ (c .before .before .before .before .type-end .ensures)) (c .before .before .if1 .left) (c .put-copy2 .ensures)
 
 pub put-type-spec : {M : Type 1} → statement M
 put-type-spec =

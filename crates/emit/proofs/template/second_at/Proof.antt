@@ -1,10 +1,11 @@
+use Rattle.emit.proofs.TypeBytes.{as-type, as-end}
 use Rattle.emit.proofs.MadeTypes.{parts-within, product-has, second-below, second-none}
 use borrow.Author.Needs.{needs}
 use Rattle.emit.proofs.template.second_at.Statement.{statement}
 use Rattle.emit.proofs.template.second_at.Tie as tie
 use Rattle.emit.proofs.template.second_at.Reads as reads
 use Rattle.emit.proofs.template.second_at.Lts as lts
-use Rattle.emit.proofs.type_expression.type_end.Reads as type-end-reads
+use Rattle.typing.proofs.type_bytes.type_end.Reads as type-end-reads
 
 -- src/template.rt:83:8
 shared-slice-read-if1 : tie.Need-shared-slice-read-if1
@@ -16,11 +17,11 @@ add-type-end c = search needs
 
 -- src/template.rt:84:9
 type-end-requires : tie.Need-type-end-requires
-type-end-requires c κs = product-has _ _ (c .if1 .taken) (c .before .before .before .pre)
+type-end-requires c κs = as-type _ _ (product-has _ _ (c .if1 .taken) (c .before .before .before .pre))
 
 -- src/template.rt:84:9
 returns : tie.Need-returns
-returns c = second-below _ _ (c .before .if1 .taken) _ (c .type-end .ensures)
+returns c = second-below _ _ (c .before .if1 .taken) _ (as-end _ _ _ (c .type-end .ensures))
 
 -- src/template.rt:79:1
 returns-2 : tie.Need-returns-2
