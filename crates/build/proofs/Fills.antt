@@ -17,7 +17,7 @@ use Rattle.frame.specs.Places.{Ctx, found, find}
 use Rattle.frame.proofs.Inversion.{true-not}
 use Rattle.frame.proofs.SameTrees.{both-true}
 use Rattle.frame.proofs.Splices.{find-lt}
-use Rattle.frame.proofs.TagTables.{flag}
+use Rattle.frame.proofs.TagTables.{allBelow, below, flag}
 use Rattle.typing.specs.Typing.{typeOf}
 use Rattle.nav.specs.PlaceTables.{Table}
 use Rattle.emit.specs.Out.{Puts}
