@@ -14,7 +14,6 @@ pub mod Checked
 pub mod Matching
 pub mod RuleShapes
 pub mod ClassShapes
-pub mod PairClasses
 pub mod PatternRules
 pub mod TagRules
 pub mod RuleTables
