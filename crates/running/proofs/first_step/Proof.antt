@@ -13,7 +13,7 @@ use Rattle.typing.proofs.binding.binding_ok.Reads as binding-ok-reads
 
 -- src/lib.rt:78:9
 read-again-requires : tie.Need-read-again-requires
-read-again-requires c κs = (c .before .before .pre .t, read-as _ (λ i. c .before .shared-slice-known .given i .fits) _ (c .before .before .pre .checks))
+read-again-requires c κs = (c .before .pre .t, read-as _ (λ i. c .shared-slice-known .given i .fits) _ (c .before .pre .checks))
 
 -- src/lib.rt:81:30
 enum-known-answer : tie.Need-enum-known-answer
