@@ -1,6 +1,6 @@
 -- The nodes from a position to the end of a frame, and the ways out of `place_nodes` and `read_again`.
--- Main results: encs-append, wfs-append, frame-rest, first-at, rest-after (what stands there); places-end, places-never, places-room,
--- places-next; again.
+-- Main results: encs-append, wfs-append, frame-rest, first-at, rest-after (what stands there); placing-begins, placing-stands, placing-goes,
+-- placing-done; again-pre, again.
 use mathlib.Core.Path.{_≡_, refl, sym, ap, ap₂, _∙_, subst}
 use mathlib.Core.Bool.{Bool}
 use mathlib.Core.List.{List, [], _∷_, _++_, append-assoc, append-nil}
@@ -11,21 +11,20 @@ use lib.Seq.{sets}
 use Rattle.frame.specs.Types.{Ty}
 use Rattle.frame.specs.Trees.{Head, head, Tree, node, Forest, nil, cons, count, append, nodes, nodesIn}
 use Rattle.frame.specs.Tags.{Sort, predicate}
-use Rattle.frame.specs.TagCodes.{kindsFor}
+use Rattle.frame.specs.TagCodes.{firstSort, laterSort, kindsFor}
 use Rattle.frame.specs.Encoding.{encHead, enc, encs, starts, startsIn}
-use Rattle.frame.specs.Reading.{readHead, frameLimit, tree, parse}
+use Rattle.frame.specs.Reading.{okH, readHead, frameLimit, tree, parse}
 use Rattle.frame.specs.WellFormed.{Wf, Wfs}
 use Rattle.frame.specs.Spans.{Bytes, Spans}
 use Rattle.frame.specs.At.{IsAt, Rest}
-use Rattle.frame.specs.Post.{headAnswer, frameAnswer, tableSize, tableOf, HeadStands, KnownPost, Room, PlacesPre, PlacesPost}
-use Rattle.frame.specs.declared.reading.HeadAnswer.{HeadAnswer}
-use Rattle.frame.specs.declared.reading.HeadAnswer.the-variants as H
+use Rattle.frame.specs.Post.{headAnswer, frameAnswer, tableSize, tableOf, HeadStands, HeadEnd, Room, PlacesPre, PlacesPost}
 use Rattle.frame.specs.declared.reading.FrameAnswer.the-variants as F
 use Rattle.frame.proofs.Spans.{span-left, span-right, span-join}
 use Rattle.frame.proofs.Frames.{parse-inv}
 use Rattle.frame.proofs.Extents.{nodes-enc, starts-length}
 use Rattle.frame.proofs.FrameTurns.{sets-zeros}
-use Rattle.frame.proofs.View.{at-span, at-wf, stands-at, parse-at, kids-span, kids-wf, View, view, no-view}
+use Rattle.frame.proofs.View.{at-span, at-wf, stands-at, parse-at, kids-span, kids-wf, View, view}
+use Rattle.frame.proofs.KnownTurns.{head-at}
 
 -- ---- forests joined
 pub encs-append : (ts us : Forest) → encs (append ts us) ≡ encs ts ++ encs us
@@ -95,24 +94,23 @@ places-end s at k t₀ h = record { by = λ ts es a. go ts es a }
         some : (u : Tree) → 0 < nodes u
         some (node h ks) = omega arith
 
-module _ (s : List ℕ) (bs : Bytes s) (at k : ℕ) (l : at < length s) (h : HeadAnswer) (eh : KnownPost s at h) where
-  pub places-never : (c : ℕ) → h ≡ H.Refused c → (t₀ t₁ : List ℕ) (r : ℕ) → PlacesPost s at k t₀ t₁ r
-  places-never c hr t₀ t₁ r =
-      record { by = λ ts es a. (let f = first-at s at ts es l a in no-view s (f .e) at (f .t) (f .q) (f .stands) h (eh .by (f .e) (f .t) (f .q) (f .stands)) c hr) }
+-- the tree by its head
+seen : (s : List ℕ) → Bytes s → (e : Sort) (at : ℕ) (t : Tree) (q : ℕ) → IsAt s e at t q → (h : Head) (tp p : ℕ) (es : List Sort) → readHead s at e ≡ okH h tp p es
+    → (g n m : ℕ) × (a b : Bool) × View s e at t q g n tp p m a b
+seen s bs e at t q w (head g n us) tp p es eq =
+    (g, n, length es, firstSort es, laterSort es, view s e at t q w (headAnswer (readHead s at e)) refl bs g n tp p (length es) (firstSort es) (laterSort es) (ap headAnswer eq))
 
-  module _ (g n tp p m : ℕ) (a b : Bool) (hi : h ≡ H.Is g n tp p m a b) where
-    seen : (e : Sort) (t : Tree) (q : ℕ) → IsAt s e at t q → View s e at t q g n tp p m a b
-    seen e t q w = view s e at t q w h (eh .by e t q w) bs g n tp p m a b hi
-
+module _ (s : List ℕ) (bs : Bytes s) (at k : ℕ) (l : at < length s) where
+  module _ (p : ℕ) where
     -- after the head come the children, then the later trees
     abbrev After : Forest → List Sort → Type 0
     After ts es = (ks later : Forest) × (sorts : List Sort) × Rest s p (append ks later) sorts × (at + 2 ≤ p) × (nodesIn ts ≡ suc (nodesIn (append ks later)))
         × (startsIn ts at ≡ at ∷ startsIn (append ks later) p)
 
-    after-node : (t : Tree) (later : Forest) (e : Sort) (sorts : List Sort) (q : ℕ) → Rest s q later sorts → (v : View s e at t q g n tp p m a b) → at + length (enc t) ≡ q
-        → After (cons t later) (e ∷ sorts)
+    after-node : (t : Tree) (later : Forest) (e : Sort) (sorts : List Sort) (q : ℕ) → Rest s q later sorts → (g n tp m : ℕ) (a b : Bool) (v : View s e at t q g n tp p m a b)
+        → at + length (enc t) ≡ q → After (cons t later) (e ∷ sorts)
     unfolding nodes starts enc
-    after-node t later e sorts q o v z =
+    after-node t later e sorts q o g n tp m a b v z =
         let ks = v .ks in
         let x : ℕ = count ks in
         let sp = kids-span s bs (kindsFor m a b) p (v .top .types .within) ks q (v .below) in
@@ -134,15 +132,18 @@ module _ (s : List ℕ) (bs : Bytes s) (at k : ℕ) (l : at < length s) (h : Hea
               ∙ ap (λ (xs : List ℕ). at ∷ xs) (sym (starts-append ks later p)),
         )
 
-    after : (ts : Forest) (es : List Sort) → Rest s at ts es → After ts es
-    after ts es r =
+    after : HeadEnd s at p → (ts : Forest) (es : List Sort) → Rest s at ts es → After ts es
+    after he ts es r =
         let f = first-at s at ts es l r in
         let z : at + length (enc (f .t)) ≡ f .q = at-span s bs (f .e) at (f .t) (f .q) (f .stands) .long in
-        subst (λ (us : Forest). After us es) (sym (f .is)) (after-node (f .t) (f .later) (f .e) (f .sorts) (f .q) (f .after) (seen (f .e) (f .t) (f .q) (f .stands)) z)
+        let k = head-at s at (f .e) (f .t) (f .q) (f .stands) in
+        let y : k .p ≡ p = sym (he .by (f .e) (f .t) (f .q) (f .stands) (k .h) (k .tp) (k .p) (k .es) (k .headed)) in
+        let v = seen s bs (f .e) at (f .t) (f .q) (f .stands) (k .h) (k .tp) p (k .es) (k .headed ∙ ap (λ (i : ℕ). okH (k .h) (k .tp) i (k .es)) y) in
+        subst (λ (us : Forest). After us es) (sym (f .is)) (after-node (f .t) (f .later) (f .e) (f .sorts) (f .q) (f .after) (v .0) (v .1) (k .tp) (v .2) (v .3) (v .4) (v .5) z)
 
-    pub places-next : (t₀ : List ℕ) → PlacesPre s at k t₀ → (at + 2 ≤ p) × PlacesPre s p (k + 1) (set t₀ k at)
-    places-next t₀ w =
-        let x = after (w .ts) (w .es) (w .rest) in (
+    pub places-next : HeadEnd s at p → (t₀ : List ℕ) → PlacesPre s at k t₀ → (at + 2 ≤ p) × PlacesPre s p (k + 1) (set t₀ k at)
+    places-next he t₀ w =
+        let x = after he (w .ts) (w .es) (w .rest) in (
           x .4,
           record {
             room = record { within = omega (arith, x .3 .span .long); short = w .room .short; room = omega (arith, w .room .room, x .4) };
@@ -153,10 +154,10 @@ module _ (s : List ℕ) (bs : Bytes s) (at k : ℕ) (l : at < length s) (h : Hea
           },
         )
 
-    pub places-more : (t₀ t₁ : List ℕ) (r : ℕ) → PlacesPost s p (k + 1) (set t₀ k at) t₁ r → PlacesPost s at k t₀ t₁ r
-    places-more t₀ t₁ r post =
+    pub places-more : HeadEnd s at p → (t₀ t₁ : List ℕ) (r : ℕ) → PlacesPost s p (k + 1) (set t₀ k at) t₁ r → PlacesPost s at k t₀ t₁ r
+    places-more he t₀ t₁ r post =
         record {
-          by = λ ts es w. (let x = after ts es w in
+          by = λ ts es w. (let x = after he ts es w in
               let o = post .by (append (x .0) (x .1)) (x .2) (x .3) in
               let z : k + 1 ≡ suc k = omega arith in (
                 omega (arith, o .0, x .5),
@@ -165,6 +166,26 @@ module _ (s : List ℕ) (bs : Bytes s) (at k : ℕ) (l : at < length s) (h : Hea
                     ∙ ap (sets t₀ k) (sym (x .6)),
               ));
         }
+
+-- ---- the loop of `place_nodes`: what is left, and what its end says of all
+pub record Placing (s : List ℕ) (at k : ℕ) (t₀ : List ℕ) (p j : ℕ) (t : List ℕ) : Type 0 where
+  pub left : PlacesPre s p j t
+  pub back : (t₁ : List ℕ) (r : ℕ) → PlacesPost s p j t t₁ r → PlacesPost s at k t₀ t₁ r
+
+pub placing-begins : (s : List ℕ) (at k : ℕ) (t₀ : List ℕ) → PlacesPre s at k t₀ → Placing s at k t₀ at k t₀
+placing-begins s at k t₀ w = record { left = w; back = λ t₁ r p. p }
+
+module _ (s : List ℕ) (bs : Bytes s) (at k : ℕ) (t₀ : List ℕ) (p j : ℕ) (t : List ℕ) (w : Placing s at k t₀ p j t) where
+  pub placing-stands : p < length s → HeadStands s p
+  placing-stands l = let f = first-at s p (w .left .ts) (w .left .es) l (w .left .rest) in (f .e, f .t, f .q, f .stands)
+
+  pub placing-goes : p < length s → (q : ℕ) → HeadEnd s p q → (p + 2 ≤ q) × (q ≤ length s) × Placing s at k t₀ q (j + 1) (set t j p)
+  placing-goes l q he =
+      let x = places-next s bs p j l q he t (w .left) in
+      (x .0, x .1 .room .within, record { left = x .1; back = λ t₁ r post. w .back t₁ r (places-more s bs p j l q he t t₁ r post) })
+
+  pub placing-done : length s ≤ p → PlacesPost s at k t₀ t j
+  placing-done l = w .back t j (places-end s p j t l)
 
 -- ---- `read_again`
 module _ (s : List ℕ) (bs : Bytes s) (t : Tree) (e : parse s ≡ tree t) where

@@ -1,21 +1,23 @@
 -- The ways out of `skip_types` and `known_head`, on plain values.
--- Main results: stand-room, skip-end; stand-given .. stand-leaf (what is handed on), skip-given .. skip-leaf (what is handed back); known-types,
--- known-room, known-range, known-found.
-use mathlib.Core.Path.{_≡_, sym, ap, ap₂, _∙_, subst}
-use mathlib.Core.Bool.{true}
+-- Main results: stand-room, skip-end, hand-on, hand-back (types in a row, by the first byte); head-at, known-two, known-types, known-room,
+-- known-range, known-found, known-end (a head that stands there).
+use mathlib.Core.Path.{_≡_, refl, sym, ap, ap₂, _∙_, subst}
+use mathlib.Core.Bool.{Bool, true, false}
 use mathlib.Core.List.{List, [], _∷_, _++_, append-assoc}
 use Prim.Native.Nat.{ℕ, zero, suc, _+_, _-_, _≤_, _<_}
 use native.Mathlib.Omega.{arith}
 use lib.ListN.{length, getD, length-append}
+use lib.Dec.{eqb}
+use borrow.Author.Tests.{ne-eqb, lt-ltb}
 use Rattle.frame.specs.Types.{Ty, bool, int, given, pow, prod}
 use Rattle.frame.specs.Trees.{Head, Tree}
-use Rattle.frame.specs.Tags.{Sort, Form, width, inRange, typesOf, classOf, formOf}
+use Rattle.frame.specs.Tags.{pick, Sort, Form, width, inRange, typesOf, classOf, formOf}
 use Rattle.frame.specs.TagCodes.{formAtCode, formCode}
 use Rattle.frame.specs.Encoding.{encNumber, encTy, encTys}
 use Rattle.frame.specs.Reading.{numberAt, okTs, withTys, okH, readHead, ok, readNode}
 use Rattle.frame.specs.Spans.{Bytes, Spans}
 use Rattle.frame.specs.At.{IsAt}
-use Rattle.frame.specs.Post.{headAnswer, TypesStand, SkipPost, HeadStands, KnownPost}
+use Rattle.frame.specs.Post.{headAnswer, TypesStand, SkipPost, leadOf, partsOf, HeadStands, HeadEnd, KnownPost}
 use Rattle.frame.specs.declared.reading.HeadAnswer.{HeadAnswer}
 use Rattle.frame.proofs.Inversion.{no-not, tagAt, behind, HeadInv, head-inv, node-inv}
 use Rattle.frame.proofs.Spans.{span-first, span-right}
@@ -64,87 +66,94 @@ skip-end s at m z = record { ends = λ us q l a. none us q l a }
     none [] q l a = omega (arith, a .long)
     none (u ∷ us) q l a = absurd (omega arith)
 
-module _ (s : List ℕ) (at m : ℕ) (z : m ≡ 0 → ⊥) where
-  abbrev Onward : ℕ → ℕ → Type 0
-  Onward to n = (us : List Ty) (q : ℕ) → length us ≡ m → Spans s at q (encTys us) → (rest : List Ty) × (length rest ≡ n) × Spans s to q (encTys rest)
+-- the types that are left behind the first byte's
+leaf-lead : (b : ℕ) → b < 2 → (leadOf b ≡ 1) × (partsOf b ≡ 0)
+leaf-lead b h =
+    let z : b ≡ 2 → ⊥ = omega arith in
+    (ap (λ (x : Bool). pick x 3 1) (ne-eqb b 2 z), ap (λ (x : Bool). pick x 0 (b - 2)) (lt-ltb b 3 (omega arith)))
 
-  on-given : getD s at 0 ≡ 2 → Onward (at + 3) (m - 1)
-  on-given b us q l a = go (next s at m z us q l a)
-    where
-      go : Next s at m q → (rest : List Ty) × (length rest ≡ m - 1) × Spans s (at + 3) q (encTys rest)
-      go (leaf-next rest e k x) = absurd (omega arith)
-      go (given-next rest e k x) = (rest, k, x)
-      go (pow-next rest e k x) = absurd (omega arith)
-      go (prod-next rest e k x) = absurd (omega arith)
+module _ (s : List ℕ) (at m : ℕ) (z : m ≡ 0 → ⊥) (to n : ℕ) (et : to ≡ at + leadOf (getD s at 0)) (en : n ≡ m - 1 + partsOf (getD s at 0)) where
+  abbrev Left : ℕ → Type 0
+  Left q = (rest : List Ty) × (length rest ≡ n) × Spans s to q (encTys rest)
 
-  on-pow : getD s at 0 ≡ 3 → Onward (at + 1) m
-  on-pow b us q l a = go (next s at m z us q l a)
-    where
-      go : Next s at m q → (rest : List Ty) × (length rest ≡ m) × Spans s (at + 1) q (encTys rest)
-      go (leaf-next rest e k x) = absurd (omega arith)
-      go (given-next rest e k x) = absurd (omega arith)
-      go (pow-next rest e k x) = (rest, k, x)
-      go (prod-next rest e k x) = absurd (omega arith)
+  by-lead : (q b step parts : ℕ) → getD s at 0 ≡ b → leadOf b ≡ step → partsOf b ≡ parts → (rest : List Ty) → length rest ≡ m - 1 + parts → Spans s (at + step) q (encTys rest) → Left q
+  by-lead q b step parts eb es ep rest l x =
+      let zt : at + step ≡ to = sym (et ∙ ap (λ (i : ℕ). at + leadOf i) eb ∙ ap (λ (i : ℕ). at + i) es) in
+      let zn : m - 1 + parts ≡ n = sym (en ∙ ap (λ (i : ℕ). m - 1 + partsOf i) eb ∙ ap (λ (i : ℕ). m - 1 + i) ep) in
+      (rest, l ∙ zn, subst (λ (i : ℕ). Spans s i q (encTys rest)) zt x)
 
-  on-prod : getD s at 0 ≡ 4 → Onward (at + 1) (m + 1)
-  on-prod b us q l a = go (next s at m z us q l a)
+  onward : (us : List Ty) (q : ℕ) → length us ≡ m → Spans s at q (encTys us) → Left q
+  onward us q l a = go (next s at m z us q l a)
     where
-      go : Next s at m q → (rest : List Ty) × (length rest ≡ m + 1) × Spans s (at + 1) q (encTys rest)
-      go (leaf-next rest e k x) = absurd (omega arith)
-      go (given-next rest e k x) = absurd (omega arith)
-      go (pow-next rest e k x) = absurd (omega arith)
-      go (prod-next rest e k x) = (rest, k, x)
-
-  on-leaf : (getD s at 0 ≡ 2 → ⊥) → (getD s at 0 ≡ 3 → ⊥) → (getD s at 0 ≡ 4 → ⊥) → Onward (at + 1) (m - 1)
-  on-leaf b c d us q l a = go (next s at m z us q l a)
-    where
-      go : Next s at m q → (rest : List Ty) × (length rest ≡ m - 1) × Spans s (at + 1) q (encTys rest)
-      go (leaf-next rest e k x) = (rest, k, x)
-      go (given-next rest e k x) = absurd (b e)
-      go (pow-next rest e k x) = absurd (c e)
-      go (prod-next rest e k x) = absurd (d e)
+      go : Next s at m q → Left q
+      go (leaf-next rest e k x) = let w = leaf-lead (getD s at 0) e in by-lead q (getD s at 0) 1 0 refl (w .0) (w .1) rest (omega arith) x
+      go (given-next rest e k x) = by-lead q 2 3 0 e refl refl rest (omega arith) x
+      go (pow-next rest e k x) = by-lead q 3 1 1 e refl refl rest (omega arith) x
+      go (prod-next rest e k x) = by-lead q 4 1 2 e refl refl rest (omega arith) x
 
   -- what is handed on, and what is handed back
-  hand-on : (to n : ℕ) → Onward to n → TypesStand s at m → TypesStand s to n
-  hand-on to n f h = let x = f (h .0) (h .1) (h .2) (h .3) in (x .0, h .1, x .1, x .2)
+  pub hand-on : TypesStand s at m → TypesStand s to n
+  hand-on h = let x = onward (h .0) (h .1) (h .2) (h .3) in (x .0, h .1, x .1, x .2)
 
-  hand-back : (to n r : ℕ) → Onward to n → SkipPost s to n r → SkipPost s at m r
-  hand-back to n r f p = record { ends = λ us q l a. (let x = f us q l a in p .ends (x .0) q (x .1) (x .2)) }
+  pub hand-back : (r : ℕ) → SkipPost s to n r → SkipPost s at m r
+  hand-back r p = record { ends = λ us q l a. (let x = onward us q l a in p .ends (x .0) q (x .1) (x .2)) }
 
-  pub stand-given : getD s at 0 ≡ 2 → TypesStand s at m → TypesStand s (at + 3) (m - 1)
-  stand-given b = hand-on (at + 3) (m - 1) (on-given b)
+  pub further : TypesStand s at m → (at < to) × (to + n ≤ length s)
+  further h = (by (getD s at 0) refl, stand-room s to n (hand-on h))
+    where
+      lead-some : (b : Bool) → 0 < pick b 3 1
+      lead-some true = omega arith
+      lead-some false = omega arith
 
-  pub stand-pow : getD s at 0 ≡ 3 → TypesStand s at m → TypesStand s (at + 1) m
-  stand-pow b = hand-on (at + 1) m (on-pow b)
+      by : (b : ℕ) → getD s at 0 ≡ b → at < to
+      by b e = let w = lead-some (eqb (getD s at 0) 2) in omega (arith, et)
 
-  pub stand-prod : getD s at 0 ≡ 4 → TypesStand s at m → TypesStand s (at + 1) (m + 1)
-  stand-prod b = hand-on (at + 1) (m + 1) (on-prod b)
+-- ---- the loop of `skip_types`: what is left, and what its end says of all
+pub record Skipping (s : List ℕ) (at m p left : ℕ) : Type 0 where
+  pub stands : TypesStand s p left
+  pub back : (r : ℕ) → SkipPost s p left r → SkipPost s at m r
 
-  pub stand-leaf : (getD s at 0 ≡ 2 → ⊥) → (getD s at 0 ≡ 3 → ⊥) → (getD s at 0 ≡ 4 → ⊥) → TypesStand s at m → TypesStand s (at + 1) (m - 1)
-  stand-leaf b c d = hand-on (at + 1) (m - 1) (on-leaf b c d)
+pub skip-begins : (s : List ℕ) (at m : ℕ) → TypesStand s at m → Skipping s at m at m
+skip-begins s at m h = record { stands = h; back = λ r p. p }
 
-  pub skip-given : getD s at 0 ≡ 2 → (r : ℕ) → SkipPost s (at + 3) (m - 1) r → SkipPost s at m r
-  skip-given b r = hand-back (at + 3) (m - 1) r (on-given b)
+module _ (s : List ℕ) (at m p left : ℕ) (w : Skipping s at m p left) (z : 0 < left) (x y : ℕ) (ex : x ≡ leadOf (getD s p 0)) (ey : y ≡ partsOf (getD s p 0)) where
+  some : left ≡ 0 → ⊥
+  some e = omega arith
 
-  pub skip-pow : getD s at 0 ≡ 3 → (r : ℕ) → SkipPost s (at + 1) m r → SkipPost s at m r
-  skip-pow b r = hand-back (at + 1) m r (on-pow b)
+  pub skip-goes : Skipping s at m (p + x) (left - 1 + y)
+  skip-goes =
+      let et : p + x ≡ p + leadOf (getD s p 0) = ap (λ (i : ℕ). p + i) ex in
+      let en : left - 1 + y ≡ left - 1 + partsOf (getD s p 0) = ap (λ (i : ℕ). left - 1 + i) ey in
+      record {
+        stands = hand-on s p left some (p + x) (left - 1 + y) et en (w .stands);
+        back = λ r q. w .back r (hand-back s p left some (p + x) (left - 1 + y) et en r q);
+      }
 
-  pub skip-prod : getD s at 0 ≡ 4 → (r : ℕ) → SkipPost s (at + 1) (m + 1) r → SkipPost s at m r
-  skip-prod b r = hand-back (at + 1) (m + 1) r (on-prod b)
+  pub skip-further : (p < p + x) × (p + x + (left - 1 + y) ≤ length s)
+  skip-further =
+      let et : p + x ≡ p + leadOf (getD s p 0) = ap (λ (i : ℕ). p + i) ex in
+      let en : left - 1 + y ≡ left - 1 + partsOf (getD s p 0) = ap (λ (i : ℕ). left - 1 + i) ey in
+      further s p left some (p + x) (left - 1 + y) et en (w .stands)
 
-  pub skip-leaf : (getD s at 0 ≡ 2 → ⊥) → (getD s at 0 ≡ 3 → ⊥) → (getD s at 0 ≡ 4 → ⊥) → (r : ℕ) → SkipPost s (at + 1) (m - 1) r → SkipPost s at m r
-  skip-leaf b c d r = hand-back (at + 1) (m - 1) r (on-leaf b c d)
+-- the first byte alone: what it leads
+pub skip-lead : (s : List ℕ) (at m p left : ℕ) → Skipping s at m p left → 0 < left → (x : ℕ) → x ≡ leadOf (getD s p 0) → (p < p + x) × (p + x ≤ length s)
+skip-lead s at m p left w z x ex =
+    let f = skip-further s at m p left w z x (partsOf (getD s p 0)) ex refl in
+    (f .0, omega (arith, f .1))
+
+pub skip-done : (s : List ℕ) (at m p left : ℕ) → Skipping s at m p left → left ≤ 0 → SkipPost s at m p
+skip-done s at m p left w z = w .back p (skip-end s p left (omega arith))
 
 -- ---- the head of a tree that stands somewhere
 pub record Head-at (s : List ℕ) (at : ℕ) (e : Sort) : Type 0 where
-  h : Head
-  tp : ℕ
-  p : ℕ
-  es : List Sort
-  headed : readHead s at e ≡ okH h tp p es
-  inv : HeadInv s at e h tp p es
+  pub h : Head
+  pub tp : ℕ
+  pub p : ℕ
+  pub es : List Sort
+  pub headed : readHead s at e ≡ okH h tp p es
+  pub inv : HeadInv s at e h tp p es
 
-head-at : (s : List ℕ) (at : ℕ) (e : Sort) (t : Tree) (q : ℕ) → IsAt s e at t q → Head-at s at e
+pub head-at : (s : List ℕ) (at : ℕ) (e : Sort) (t : Tree) (q : ℕ) → IsAt s e at t q → Head-at s at e
 unfolding readNode
 head-at s at e t q a = go (a .0) (a .1)
   where
@@ -216,3 +225,15 @@ module _ (s : List ℕ) (at tag : ℕ) (et : tag ≡ numberAt 2 s at) (form : �
               ∙ ap (λ (i : ℕ). headAnswer (withTys (formOf (tagAt s at)) (tagAt s at) (behind s at) (k .tp) (okTs (v .ts) i))) z
               ∙ ap₂ (λ (h : Head) (es : List Sort). headAnswer (okH h (k .tp) (k .p) es)) (sym (v .is)) (sym (v .sorts))
               ∙ ap headAnswer (sym (k .headed))
+
+      pub known-end : Bytes s → (to : ℕ) → SkipPost s (at + 2 + w) m to → HeadEnd s at to
+      unfolding head-at tys-of
+      known-end bs to sk = record { by = λ e t q a. at-end e t q a }
+        where
+          at-end : (e : Sort) (t : Tree) (q : ℕ) → IsAt s e at t q → (h : Head) (tp p : ℕ) (es : List Sort) → readHead s at e ≡ okH h tp p es → to ≡ p
+          at-end e t q a h tp p es eq =
+              let k = head-at s at e t q a in
+              let ty = tys-of bs e t q a in
+              let z : to ≡ k .p = sk .ends (ty .0) (ty .1) (ty .2) (ty .3) in
+              let y = k .headed in
+              cc

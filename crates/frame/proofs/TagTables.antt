@@ -1,6 +1,6 @@
 -- The code's tables of tags say what `table` and `formAt` say, for every tag: each table by one computed test and one law.
 -- Main results: below, entry, flag (a computed test); past-all, last-entry (the last arm of a match); form-code, code-form, code-small,
--- beyond; row-far, row-none, row-some, row-form (the ways out of `row_of` and `form_of`).
+-- beyond; row-far, row-none, row-some, row-form, row-zero (the ways out of `row_of` and `form_of`).
 use mathlib.Core.Path.{_≡_, refl, sym, ap, ap₂, _∙_, subst, subst₂}
 use mathlib.Core.Bool.{Bool, true, false, _&&_}
 use mathlib.Core.List.{List, [], _∷_}
@@ -251,3 +251,6 @@ module _ (t : ℕ) (h : t / 50 < 20) (entry : ℕ) (e : entry ≡ blockEntry (t 
 pub row-form : (t r w : ℕ) → r ≡ rowOf t → w ≡ getD formWords (r / 12) 0
     → (w / 2 ^ (5 * (r % 12)) % 32 ≡ formCode (classOf t)) × (w / 2 ^ (5 * (r % 12)) % 32 < 20)
 row-form t r w e ew = rw ew (rw e (right t .form, right t .few))
+
+pub row-zero : (t r : ℕ) → r ≡ rowOf t → r ≡ 0 → (0 ≡ formCode (classOf t)) × (0 < 20)
+row-zero t r e z = (let y : rowOf t ≡ 0 = sym e ∙ z in ap formAtRow (sym y) ∙ right t .form, omega arith)

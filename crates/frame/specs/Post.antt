@@ -5,9 +5,10 @@ use mathlib.Core.Bool.{Bool}
 use mathlib.Core.List.{List, _++_}
 use lib.ListN.{length, replicate}
 use lib.Seq.{sets}
+use lib.Dec.{eqb, ltb}
 use Rattle.frame.specs.Types.{Ty, given}
-use Rattle.frame.specs.Trees.{head, Tree, Forest, nodes, nodesIn}
-use Rattle.frame.specs.Tags.{Sort}
+use Rattle.frame.specs.Trees.{Head, head, Tree, Forest, nodes, nodesIn}
+use Rattle.frame.specs.Tags.{pick, Sort}
 use Rattle.frame.specs.TagCodes.{firstSort, laterSort}
 use Rattle.frame.specs.Encoding.{encTys, starts, startsIn}
 use Rattle.frame.specs.Reading.{TyRes, okT, noT, byteOf, TysRes, okTs, noTs, HeadRes, okH, noH, Res, ok, no, FRes, okF, noF, readHead, readMany, readNode, Parsed, tree, bad, frameLimit}
@@ -50,9 +51,20 @@ TypesStand s at m = (us : List Ty) × (q : ℕ) × (length us ≡ m) × Spans s 
 pub record SkipPost (s : List ℕ) (at m r : ℕ) : Type 0 where
   pub ends : (us : List Ty) (q : ℕ) → length us ≡ m → Spans s at q (encTys us) → r ≡ q
 
+-- how many bytes of a type stand before its parts, and how many parts it has, by its first byte
+abbrev pub leadOf : ℕ → ℕ
+leadOf b = pick (eqb b 2) 3 1
+
+abbrev pub partsOf : ℕ → ℕ
+partsOf b = pick (ltb b 3) 0 (b - 2)
+
 -- a tree of some sort stands at `at`
 abbrev pub HeadStands : List ℕ → ℕ → Type 0
 HeadStands s at = (e : Sort) × (t : Tree) × (q : ℕ) × IsAt s e at t q
+
+-- r is where its head ends
+pub record HeadEnd (s : List ℕ) (at r : ℕ) : Type 0 where
+  pub by : (e : Sort) (t : Tree) (q : ℕ) → IsAt s e at t q → (h : Head) (tp p : ℕ) (es : List Sort) → readHead s at e ≡ okH h tp p es → r ≡ p
 
 -- r is the answer of the definition
 pub record KnownPost (s : List ℕ) (at : ℕ) (r : HeadAnswer) : Type 0 where

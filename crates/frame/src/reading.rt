@@ -10,7 +10,7 @@ ghost use Rattle.frame.specs.Trees.{Tree};
 ghost use Rattle.frame.specs.Tags.{inRange};
 ghost use Rattle.frame.specs.TagCodes.{formAtCode, sortFor, kindsFor};
 ghost use Rattle.frame.specs.Reading.{numberAt, readTy, readTys, okTs, withTys, readHead, parse, tree};
-ghost use Rattle.frame.specs.Post.{typeAnswer, givenAt, typesAnswer, headAnswer, TypesStand, SkipPost, HeadStands, KnownPost, PlacesPre, PlacesPost, Room, NodePost, KidsPost, frameAnswer, tableOf};
+ghost use Rattle.frame.specs.Post.{typeAnswer, givenAt, typesAnswer, headAnswer, TypesStand, SkipPost, leadOf, partsOf, HeadStands, HeadEnd, KnownPost, PlacesPre, PlacesPost, Room, NodePost, KidsPost, frameAnswer, tableOf};
 use crate::refusals::BAD_COUNT;
 use crate::refusals::BAD_LENGTH;
 use crate::refusals::BAD_TAG;
@@ -189,21 +189,44 @@ pub fn read_head(s: &[u8], at: usize, e: bool) -> HeadAnswer
     }
 }
 
-// Where m types in a row end that were read before: a power has one part, and a product two.
+// How many bytes of a type stand before its parts: a given set has its number behind the type byte.
+fn type_bytes(b: u8) -> usize
+    ensures { λ r. ⌜ r ≡ leadOf b ⌝ }
+{
+    if b == 2 { 3 } else { 1 }
+}
+
+// How many parts a type has: a power one, a product two.
+fn type_parts(b: u8) -> usize
+    ensures { λ r. ⌜ r ≡ partsOf b ⌝ }
+{
+    if b < 3 { 0 } else { crate::tags::wide(b) - 2 }
+}
+
+// Where m types in a row end that were read before.
 pub fn skip_types(s: &[u8], at: usize, m: usize) -> usize
     requires { ⌜ TypesStand (now s) at m ⌝ }
     ensures { λ r. ⌜ SkipPost (now (s .entry)) at m r ⌝ }
 {
-    if m == 0 {
-        return at;
+    let mut p = at;
+    let mut left = m;
+    while 0 < left {
+        let b = s[p];
+        p += type_bytes(b);
+        left = left - 1 + type_parts(b);
     }
-    let b = s[at];
-    match b {
-        2 => skip_types(s, at + 3, m - 1),
-        3 => skip_types(s, at + 1, m),
-        4 => skip_types(s, at + 1, m + 1),
-        _ => skip_types(s, at + 1, m - 1),
-    }
+    p
+}
+
+// Where the head ends of a tree that was read before.
+fn head_end(s: &[u8], at: usize) -> usize
+    requires { ⌜ HeadStands (now s) at ⌝ }
+    ensures { λ r. ⌜ HeadEnd (now (s .entry)) at r ⌝ }
+{
+    let form = crate::tags::form_of(number(s, at, 2));
+    let w = crate::tags::width_of(form);
+    let x = number(s, at + 2, w);
+    skip_types(s, at + 2 + w, crate::tags::types_of(form, x))
 }
 
 // The head of a tree that was read before: nothing of it is checked again.
@@ -309,25 +332,14 @@ fn place_nodes(s: &[u8], at: usize, starts: &mut [u16; 2048], k: usize) -> usize
     requires { ⌜ PlacesPre (now s) at k (now starts) ⌝ }
     ensures { λ r. ⌜ PlacesPost (now (s .entry)) at k (now (starts .entry)) (now (starts .exit)) r ⌝ }
 {
-    if s.len() <= at {
-        return k;
+    let mut p = at;
+    let mut j = k;
+    while p < s.len() {
+        starts[j] = p as u16;
+        p = head_end(s, p);
+        j += 1;
     }
-    let h = known_head(s, at);
-    match h {
-        HeadAnswer::Refused(_c) => k,
-        HeadAnswer::Is {
-            tag: _,
-            payload: _,
-            types: _,
-            children,
-            count: _,
-            first: _,
-            later: _,
-        } => {
-            starts[k] = at as u16;
-            place_nodes(s, children, starts, k + 1)
-        }
-    }
+    j
 }
 
 // What `read` answers, of a frame that was read before.

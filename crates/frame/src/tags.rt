@@ -94,6 +94,9 @@ pub fn form_of(tag: usize) -> usize
     ensures { λ r. ⌜ (r ≡ formCode (classOf tag)) × (r < 20) ⌝ }
 {
     let row = row_of(tag);
+    if row == 0 {
+        return 0;
+    }
     (form_word(row / 12) >> (5 * (row % 12))) % 32
 }
 
