@@ -1,5 +1,6 @@
 -- A turn with the node at hand by value, and all turns.
--- Main results: step-close, step-bad, step-open (the ways out of a turn); Going, with going-start, going-down, going-up and going-done.
+-- Main results: step-close, step-bad, step-open (the ways out of a turn); Going, with going-start, going-down, going-up and going-done;
+-- leaf-judge, leaf-turns (a root without operands).
 use mathlib.Core.Path.{_≡_, refl, sym, ap, _∙_, subst, subst₂}
 use mathlib.Core.Bool.{Bool, true, false}
 use mathlib.Core.List.{List, [], _∷_}
@@ -8,11 +9,11 @@ use native.Mathlib.Omega.{arith}
 use lib.ListN.{length, getD, set, length-set}
 use lib.Seq.{getD-set-same, getD-set-other}
 use lib.Dec.{eqb}
-use borrow.Author.Tests.{eqb-true, eqb-false}
+use borrow.Author.Tests.{eq-eqb, eqb-true, eqb-false}
 use Rattle.frame.specs.Tags.{classOf}
 use Rattle.frame.specs.Spans.{Bytes}
 use Rattle.typing.specs.Patterns.{ruleAt, Judged, typed, wrong, judge}
-use Rattle.typing.specs.PatternPosts.{JudgePre}
+use Rattle.typing.specs.PatternPosts.{JudgePre, Judging, JudgePost}
 use Rattle.typing.specs.Machine.{Open, closeUp}
 use Rattle.typing.specs.OpenNodes.{noNode}
 use Rattle.typing.specs.TypingPosts.{OpenPre, NodePost, closedTo, Closing, ClosePost, Running, TurnPre, stepsLeft, Ending, Turning, TurnPost, Top, StepPre, tagsAfter, leftsAfter, fromsAfter, Moving, StepPost, TurnsPre, TurnsPost}
@@ -230,3 +231,20 @@ module _ (nd₀ : OpenNode) (s leaves types₀ : List ℕ) (st₀ : State) where
               let top = top-on stack i room long t l f (lent .of-lefts) nd u c (m .0) (m .1) (a .4) (a .3) (lent .of-tags) (lent .of-froms) in
               (t₁, l₁, f₁, subst (λ (j : ℕ). Below (set stack i u) j t₁ l₁ f₁) (sym e) on, subst (λ (j : ℕ). Top c j t₁ l₁ f₁) (sym e) top, b .0, b .1, b .2, b .3 ∙ a .8));
         }
+
+-- ---- a root without operands
+module _ (nd : OpenNode) (s leaves types : List ℕ) (st : State) (pre : TurnsPre nd s leaves types st) (z : nd .left ≡ 0) where
+  pub leaf-judge : JudgePre types (nd .from) (st .end)
+  leaf-judge = step-judge nd s leaves types st (pre .step)
+
+  closing : (types₁ : List ℕ) (r : Typed) (j : Judged) → Judging j types (nd .from) types₁ r → Closing j st types (nd .from) types₁ (U.Done r)
+  closing types₁ r (typed xs) a =
+      let e : eqb (st .top) 0 ≡ true = eq-eqb (st .top) 0 (pre .root) in
+      (ap U.Done (a .0) ∙ sym (ap (λ (b : Bool). closedTo b st (nd .from + length xs)) e), a .1, a .2)
+  closing types₁ r wrong a = ap U.Done a
+
+  pub leaf-turns : (types₁ : List ℕ) → Bytes types₁ → (r : Typed) → JudgePost (ruleAt (classOf (nd .tag))) types (nd .from) (st .end) types₁ r → TurnsPost nd s leaves types st types₁ r
+  leaf-turns types₁ bs r jp =
+      let cp : ClosePost (nd .tag) st types (nd .from) types₁ (U.Done r) = record { answer = λ ts row. closing types₁ r (judge (ruleAt (classOf (nd .tag))) ts) (jp .answer ts row) } in
+      going-done nd s leaves types st pre [] types nd st (going-start nd s leaves types st (pre .root) []) types₁ (U.Done r)
+      (step-close nd s leaves types st (pre .step) z types₁ bs (U.Done r) cp) r refl

@@ -230,6 +230,23 @@ fn lent_turns(
     turns(s, leaves, &mut stack, types, first, start)
 }
 
+// The same; a root without operands is closed at once, and no stack is lent for it.
+fn all_turns(
+    s: &[u8],
+    leaves: &[u16; 2048],
+    types: &mut [u8],
+    first: OpenNode,
+    start: State,
+) -> Typed
+    requires { ⌜ TurnsPre first (now s) (now leaves) (now types) start ⌝ }
+    ensures { λ r. ⌜ TurnsPost first (now (s .entry)) (now (leaves .entry)) (now (types .entry)) start (now (types .exit)) r ⌝ }
+{
+    if first.left == 0 {
+        return judge_types(first.tag, types, first.from, start.end);
+    }
+    lent_turns(s, leaves, types, first, start)
+}
+
 // The type of the tree at `at`, whose root has this place: its bytes stand at the start of `types`. Bad is number 10.
 pub fn type_tree(s: &[u8], at: usize, place: usize, leaves: &[u16; 2048], types: &mut [u8]) -> Typed
     requires { ⌜ TypePre (now s) at place (now leaves) (now types) ⌝ }
@@ -246,5 +263,5 @@ pub fn type_tree(s: &[u8], at: usize, place: usize, leaves: &[u16; 2048], types:
         end: m,
         top: 0,
     };
-    lent_turns(s, leaves, types, root, state)
+    all_turns(s, leaves, types, root, state)
 }

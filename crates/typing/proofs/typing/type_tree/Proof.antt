@@ -5,7 +5,7 @@ use Rattle.typing.proofs.typing.type_tree.Statement.{statement}
 use Rattle.typing.proofs.typing.type_tree.Tie as tie
 use Rattle.typing.proofs.typing.type_tree.Reads as reads
 use Rattle.typing.proofs.typing.type_tree.Lts as lts
-use Rattle.typing.proofs.typing.lent_turns.Reads as lent-turns-reads
+use Rattle.typing.proofs.typing.all_turns.Reads as all-turns-reads
 use Rattle.typing.proofs.typing.open_node.Reads as open-node-reads
 use Rattle.frame.proofs.bytes.wide16.Reads as wide16-reads
 
@@ -46,8 +46,8 @@ add-t12 : tie.Need-add-t12
 add-t12 c = search needs
 
 -- src/typing.rt:257:5
-lent-turns-requires : tie.Need-lent-turns-requires
-lent-turns-requires c κs = tree-turns (c .before .before .before .before .before .before .before .before .before .before .before .before .args .s .now) (c .before .before .before .before .before .before .before .before .before .before .before .before .args .at) (c .before .before .before .before .before .before .before .before .before .before .before .before .args .place) (c .before .before .before .before .before .before .before .before .before .before .before .before .args .leaves .now) (c .before .before .before .before .before .before .before .before .before .before .before .before .args .types .now) _ (c .before .before .before .before .before .before .before .before .wide16 .ensures .0) _ (c .before .before .before .before .before .before .open-node .result) (c .before .before .before .before .before .before .open-node .ensures) (c .before .before .before .before .before .before .before .before .before .before .before .before .pre .frame) _ _ _ (c .before .before .o .given .1) (c .before .before .before .before .before .before .before .before .before .before .before .before .pre)
+all-turns-requires : tie.Need-all-turns-requires
+all-turns-requires c κs = tree-turns (c .before .before .before .before .before .before .before .before .before .before .before .before .args .s .now) (c .before .before .before .before .before .before .before .before .before .before .before .before .args .at) (c .before .before .before .before .before .before .before .before .before .before .before .before .args .place) (c .before .before .before .before .before .before .before .before .before .before .before .before .args .leaves .now) (c .before .before .before .before .before .before .before .before .before .before .before .before .args .types .now) _ (c .before .before .before .before .before .before .before .before .wide16 .ensures .0) _ (c .before .before .before .before .before .before .open-node .result) (c .before .before .before .before .before .before .open-node .ensures) (c .before .before .before .before .before .before .before .before .before .before .before .before .pre .frame) _ _ _ (c .before .before .o .given .1) (c .before .before .before .before .before .before .before .before .before .before .before .before .pre)
 
 -- src/typing.rt:242:1
 same-length-2 : tie.Need-same-length-2
@@ -55,7 +55,7 @@ same-length-2 c = search needs
 
 -- src/typing.rt:242:1
 returns-2 : tie.Need-returns-2
-returns-2 c = tree-ends (c .before .before .before .before .before .before .before .before .before .before .before .before .before .before .before .args .s .now) (c .before .before .before .before .before .before .before .before .before .before .before .before .before .before .before .args .at) (c .before .before .before .before .before .before .before .before .before .before .before .before .before .before .before .args .place) (c .before .before .before .before .before .before .before .before .before .before .before .before .before .before .before .args .leaves .now) (c .before .before .before .before .before .before .before .before .before .before .before .before .before .before .before .args .types .now) _ (c .before .before .before .before .before .before .before .before .before .before .before .wide16 .ensures .0) _ (c .before .before .before .before .before .before .before .before .before .open-node .result) (c .before .before .before .before .before .before .before .before .before .open-node .ensures) (c .before .before .before .before .before .before .before .before .before .before .before .before .before .before .before .pre .frame) _ _ _ (c .before .before .before .before .before .o .given .1) _ _ (omega arith) (c .before .before .lent-turns .ensures)
+returns-2 c = tree-ends (c .before .before .before .before .before .before .before .before .before .before .before .before .before .before .before .args .s .now) (c .before .before .before .before .before .before .before .before .before .before .before .before .before .before .before .args .at) (c .before .before .before .before .before .before .before .before .before .before .before .before .before .before .before .args .place) (c .before .before .before .before .before .before .before .before .before .before .before .before .before .before .before .args .leaves .now) (c .before .before .before .before .before .before .before .before .before .before .before .before .before .before .before .args .types .now) _ (c .before .before .before .before .before .before .before .before .before .before .before .wide16 .ensures .0) _ (c .before .before .before .before .before .before .before .before .before .open-node .result) (c .before .before .before .before .before .before .before .before .before .open-node .ensures) (c .before .before .before .before .before .before .before .before .before .before .before .before .before .before .before .pre .frame) _ _ _ (c .before .before .before .before .before .o .given .1) _ _ (omega arith) (c .before .before .all-turns .ensures)
 
 pub type-tree-spec : {M : Type 1} → statement M
 type-tree-spec =
@@ -70,6 +70,6 @@ type-tree-spec =
     same-length
     returns
     add-t12
-    lent-turns-requires
+    all-turns-requires
     same-length-2
     returns-2)
