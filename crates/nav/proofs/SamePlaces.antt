@@ -1,5 +1,5 @@
 -- The sorts of places, sameness by places, and the reader's table.
--- Main results: place-sort; sort-done; tags-differ, both-there, same-done; framed-read (what the reader answers is a frame
+-- Main results: place-sort; sort-done; tags-differ, early-differ, both-there, same-done; framed-read (what the reader answers is a frame
 -- with its table); only-child, two-children.
 use mathlib.Core.Path.{_≡_, refl, sym, ap, _∙_}
 use mathlib.Core.Bool.{Bool, true, false}
@@ -25,7 +25,7 @@ use Rattle.frame.proofs.SameTrees.{same-tree, same-tree-refl}
 use Rattle.frame.proofs.Splices.{find-some}
 use Rattle.nav.specs.Stands.{Stands}
 use Rattle.nav.specs.Compared.{BothStand, SamePost}
-use Rattle.nav.specs.PlaceTables.{Framed, NextsFrom, TagPost, sortOf, SortPost, BothPlaced, SameAtPost, isYes}
+use Rattle.nav.specs.PlaceTables.{Framed, NextsFrom, TagPost, sortOf, SortPost, BothPlaced, EarlyPost, SameAtPost, isYes}
 use Rattle.nav.specs.declared.sameness.Same.{Same}
 use Rattle.nav.specs.declared.sameness.Same.the-variants.{Yes, No}
 use Rattle.nav.proofs.Hops.{Sorted, place-stands, place-sorted, child-first, child-next}
@@ -79,6 +79,16 @@ module _ (s st : List ℕ) (a b x y : ℕ) (ex : x ≡ getD st a 0) (ey : y ≡ 
   pub tags-differ : (numberAt 2 s x ≡ numberAt 2 s y → ⊥) → SameAtPost s st a b false
   tags-differ d = record {
     same = λ t n Γ Δ v w fr f g. same-no v w (λ z. d (tag-at a x ex t n Γ v fr f ∙ ap tagOf z ∙ sym (tag-at b y ey t n Δ w fr g)));
+  }
+
+  -- what stands at a place
+  stands-at : (k i : ℕ) → i ≡ getD st k 0 → (t : Tree) (n : ℕ) (Γ : Ctx) (v : Tree) → Framed s t st n → find t [] k ≡ found Γ v → (e : Sort) × Stands s i e v
+  stands-at k i ei t n Γ v fr f = let o = place-sorted s t st n fr k Γ v f in (o .0, rw ei (place-stands s t st n fr k Γ v f (o .0) (o .1)))
+
+  pub early-differ : (r : Bool) → EarlyPost s x y r → r ≡ true → SameAtPost s st a b false
+  early-differ r post z = record {
+    same = λ t n Γ Δ v w fr f g. (let l = stands-at a x ex t n Γ v fr f in let m = stands-at b y ey t n Δ w fr g in
+        same-no v w (λ q. post .differ z (l .0) (m .0) v w (l .1) (m .1) q));
   }
 
   module _ (tag form : ℕ) (ta : tag ≡ numberAt 2 s x) (tb : tag ≡ numberAt 2 s y) (ef : form ≡ formCode (classOf tag)) (e : Bool) (ee : e ≡ sameSort (formAtCode form .sort) expression) where

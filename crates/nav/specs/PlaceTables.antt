@@ -10,7 +10,7 @@ use Rattle.frame.specs.Trees.{Tree, node, count, tagOf, nodes}
 use Rattle.frame.specs.Tags.{Sort, predicate, formOf}
 use Rattle.frame.specs.TagCodes.{isExpression}
 use Rattle.frame.specs.Encoding.{enc, starts}
-use Rattle.frame.specs.Reading.{frameLimit}
+use Rattle.frame.specs.Reading.{numberAt, frameLimit}
 use Rattle.frame.specs.WellFormed.{Wf}
 use Rattle.frame.specs.Places.{Ctx, found, find}
 use Rattle.frame.specs.Post.{tableSize}
@@ -102,6 +102,17 @@ pub record SortPost (s st : List ℕ) (k : ℕ) (r : Bool) : Type 0 where
 pub record BothPlaced (s st : List ℕ) (a b : ℕ) : Type 0 where
   pub left : Placed s st a
   pub right : Placed s st b
+
+-- trees with this tag stand at x and at y
+pub record EarlyPre (s : List ℕ) (x y tag : ℕ) : Type 0 where
+  pub left : Rooted s x
+  pub right : Rooted s y
+  pub of-left : tag ≡ numberAt 2 s x
+  pub of-right : tag ≡ numberAt 2 s y
+
+-- they differ where r says so
+pub record EarlyPost (s : List ℕ) (x y : ℕ) (r : Bool) : Type 0 where
+  pub differ : r ≡ true → (e d : Sort) (t u : Tree) → Stands s x e t → Stands s y d u → t ≡ u → ⊥
 
 pub record SameAtPost (s st : List ℕ) (a b : ℕ) (r : Bool) : Type 0 where
   pub same : (t : Tree) (n : ℕ) (Γ Δ : Ctx) (v w : Tree) → Framed s t st n → find t [] a ≡ found Γ v → find t [] b ≡ found Δ w → r ≡ sameTree v w

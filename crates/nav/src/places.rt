@@ -1,11 +1,17 @@
 // From place to place. `starts` is the reader's table of node starts; `nexts` says for each place which place follows its
 // subtree. With both, children and ends are found without reading the bytes between.
 use crate::sameness::Same;
+use frame::bytes::same_bytes;
 use frame::bytes::wide16;
 ghost use mathlib.Core.Path.{_≡_};
 ghost use Prim.Native.Nat.{_<_};
 ghost use lib.ListN.{getD};
-ghost use Rattle.nav.specs.PlaceTables.{Rooted, ArityPost, hops, HopsIn, NextsPre, NextsPost, Placed, PlacedIn, TagPost, ChildrenPost, EndAtPost, SortPost, BothPlaced, SameAtPost, isYes};
+ghost use Rattle.nav.specs.PlaceTables.{Rooted, ArityPost, hops, HopsIn, NextsPre, NextsPost, Placed, PlacedIn, TagPost, ChildrenPost, EndAtPost, SortPost, BothPlaced, EarlyPre, EarlyPost, SameAtPost, isYes};
+
+// The tags from the first to the last of these are those of nodes with two operands.
+const FIRST_BINARY: usize = 101;
+
+const LAST_BINARY: usize = 252;
 
 // How many children the node that starts at `at` has: its tag says it, or the count byte behind the tag.
 pub fn children_at(s: &[u8], at: usize) -> usize
@@ -109,6 +115,21 @@ fn is_yes(x: Same) -> bool
     }
 }
 
+// Whether the trees at x and y, both with this tag, differ in their first six bytes. A node with two operands has that many: so most
+// trees that differ are told apart without their heads being read.
+fn differ_early(s: &[u8], x: usize, y: usize, tag: usize) -> bool
+    requires { ⌜ EarlyPre (now s) x y tag ⌝ }
+    ensures { λ r. ⌜ EarlyPost (now (s .entry)) x y r ⌝ }
+{
+    if tag < FIRST_BINARY {
+        return false;
+    }
+    if LAST_BINARY < tag {
+        return false;
+    }
+    !same_bytes(s, x + 2, y + 2, 4)
+}
+
 // Whether the subtrees at places a and b are the same. Trees with the same tag are of the same sort.
 pub fn same_at(s: &[u8], starts: &[u16; 2048], a: usize, b: usize) -> bool
     requires { ⌜ BothPlaced (now s) (now starts) a b ⌝ }
@@ -118,6 +139,9 @@ pub fn same_at(s: &[u8], starts: &[u16; 2048], a: usize, b: usize) -> bool
     let y = start_at(starts, b);
     let tag = frame::reading::number(s, x, 2);
     if tag != frame::reading::number(s, y, 2) {
+        return false;
+    }
+    if differ_early(s, x, y, tag) {
         return false;
     }
     let e = frame::tags::is_sort(frame::tags::form_of(tag), true);
