@@ -23,7 +23,7 @@ use Rattle.typing.specs.TypingPosts.{TypePre, TypePost, Typing}
 use Rattle.typing.specs.declared.patterns.Typed.{Typed}
 use Rattle.typing.specs.declared.patterns.Typed.the-variants as T
 use Rattle.typing.proofs.BufferLaws.{copied-span, span-kept, span-by, span-get}
-use Rattle.nav.specs.PlaceTables.{Framed, Table, PlacedIn, EndAtPost}
+use Rattle.nav.specs.PlaceTables.{arity, Framed, Table, PlacedIn, ChildrenPost, EndAtPost}
 use Rattle.nav.proofs.Hops.{framed-few, place-end, place-sorted, place-stands}
 use Rattle.emit.specs.Programs.{template}
 use Rattle.emit.specs.Written.{TypeAt}
@@ -31,14 +31,10 @@ use Rattle.emit.specs.Holds.{boolAt, MadeFrom}
 use Rattle.emit.specs.declared.template.Ranges.{Ranges}
 use Rattle.rewriter.specs.Decision.{hasBinders}
 use Rattle.frame.proofs.Extents.{nodes-enc}
-use Rattle.build.specs.Operands.{asksTypes, Held, TypeOfPre, TypeOfPost, TypesPre, TypesPost, RangesPre, RangesPost}
+use Rattle.build.specs.Operands.{asksTypes, Held, TypeOfPre, WorkFor, TypeOfPost, TypesPre, TypesPost, RangesPre, RangesPost}
 use Rattle.build.proofs.Subtrees.{held-leaves, held-typed, held-short, two-places, span-at, binders-at}
 
 -- ---- one operand's type
--- a buffer for the types of a frame of so many bytes: a node has two bytes at least
-abbrev pub Roomy : List ℕ → List ℕ → Type 0
-Roomy s work = 32 * length s + 64 ≤ length work
-
 module _ (s st leaves : List ℕ) (k : ℕ) where
   module _ (n : ℕ) (t : Tree) (h : Held s st leaves n t) (Δ : Ctx) (v : Tree) (f : find t [] k ≡ found Δ v) where
     few : (k + nodes v ≤ 2048) × (64 * nodes v ≤ 32 * length s)
@@ -54,15 +50,26 @@ module _ (s st leaves : List ℕ) (k : ℕ) where
         let w = place-stands s t st n (h .framed) k Δ v f (o .0) (o .1) in
         (o .0, (getD st k 0 + length (enc v), stands-at s (o .0) (getD st k 0) v (getD st k 0 + length (enc v)) (w .bytes) (w .formed)))
 
-    typing : (work : List ℕ) (a : Typed) → Roomy s work → TypePost s (getD st k 0) k leaves work a → Typing a v Δ work
+    typing : (work : List ℕ) (a : Typed) → WorkFor s st leaves k work → TypePost s (getD st k 0) k leaves work a → Typing a v Δ work
     typing work a l p =
         let x = stands in
-        p .answer (x .0) v (x .1 .0) Δ (x .1 .1) (held-leaves s st leaves n t h k Δ v f) (few .0) (omega (arith, few .1))
+        p .answer (x .0) v (x .1 .0) Δ (x .1 .1) (held-leaves s st leaves n t h k Δ v f) (few .0) (l .room n t h Δ v f)
+
+  -- a node has two bytes at least
+  pub work-all : (work : List ℕ) → 32 * length s + 64 ≤ length work → WorkFor s st leaves k work
+  work-all work l = record { room = λ n t h Δ v f. omega (arith, few n t h Δ v f .1) }
+
+  pub work-own : (work : List ℕ) → length work ≡ 128 → (r : ℕ) → ChildrenPost s st k r → r ≡ 0 → WorkFor s st leaves k work
+  work-own work l r post z = record { room = λ n t h Δ v f. alone v (post .many t n Δ v (h .framed) f) }
+    where
+      alone : (v : Tree) → r ≡ arity v → 64 * nodes v + 64 ≤ length work
+      alone (node h nil) e = omega arith
+      alone (node h (cons u us)) e = absurd (omega arith)
 
   pub type-of-few : (types : List ℕ) (to : ℕ) → TypeOfPre s st leaves k types to → k < 2048
   type-of-few types to p = omega (arith, p .below, framed-few s (p .t) st (p .n) (p .held .framed))
 
-  pub type-of-pre : (types : List ℕ) (to : ℕ) → TypeOfPre s st leaves k types to → (at : ℕ) → at ≡ getD st k 0 → (work : List ℕ) → Roomy s work → TypePre s at k leaves work
+  pub type-of-pre : (types : List ℕ) (to : ℕ) → TypeOfPre s st leaves k types to → (at : ℕ) → at ≡ getD st k 0 → (work : List ℕ) → WorkFor s st leaves k work → TypePre s at k leaves work
   type-of-pre types to p at ea work d =
       let v = find-some (p .t) [] k (p .below) in
       let x = stands (p .n) (p .t) (p .held) (v .0) (v .1) (v .2) in
@@ -76,10 +83,10 @@ module _ (s st leaves : List ℕ) (k : ℕ) where
         leafs = held-leaves s st leaves (p .n) (p .t) (p .held) k (v .0) (v .1) (v .2);
         frame = p .held .framed .short;
         places = y .0;
-        buffer = omega (arith, y .1);
+        buffer = d .room (p .n) (p .t) (p .held) (v .0) (v .1) (v .2);
       })
 
-  module _ (types : List ℕ) (to : ℕ) (p : TypeOfPre s st leaves k types to) (at : ℕ) (ea : at ≡ getD st k 0) (work : List ℕ) (l : Roomy s work) where
+  module _ (types : List ℕ) (to : ℕ) (p : TypeOfPre s st leaves k types to) (at : ℕ) (ea : at ≡ getD st k 0) (work : List ℕ) (l : WorkFor s st leaves k work) where
     answer-at : (a : Typed) → TypePost s at k leaves work a → TypePost s (getD st k 0) k leaves work a
     answer-at a post = subst (λ (i : ℕ). TypePost s i k leaves work a) ea post
 

@@ -2,7 +2,7 @@
 use mathlib.Core.Path.{_≡_}
 use mathlib.Core.Bool.{Bool, true, false}
 use mathlib.Core.List.{List, [], _∷_}
-use Prim.Native.Nat.{ℕ, _+_, _≤_, _<_}
+use Prim.Native.Nat.{ℕ, _+_, _*_, _≤_, _<_}
 use lib.ListN.{length, getD}
 use Rattle.frame.specs.Types.{Ty, bool}
 use Rattle.frame.specs.Trees.{head, Tree, node, Forest, nodes}
@@ -47,6 +47,10 @@ pub record TypeOfPre (s st leaves : List ℕ) (k : ℕ) (types : List ℕ) (to :
   pub below : k < nodes t
   pub long : length types ≡ 129
   pub room : to + 64 ≤ 129
+
+-- the buffer has room for a type of 64 bytes for each node of the subtree at place k
+pub record WorkFor (s st leaves : List ℕ) (k : ℕ) (work : List ℕ) : Type 0 where
+  pub room : (n : ℕ) (t : Tree) → Held s st leaves n t → (Δ : Ctx) (v : Tree) → find t [] k ≡ found Δ v → 64 * nodes v + 64 ≤ length work
 
 pub record TypeOfPost (s st leaves : List ℕ) (k : ℕ) (o p : List ℕ) (to : ℕ) : Type 0 where
   pub long : length p ≡ length o

@@ -1,15 +1,16 @@
 // What a pattern is filled with: the operands and binders as they stand in the frame, and the operands' types.
 use emit::template::Ranges;
+use nav::places::arity_at;
 use nav::places::end_at;
 use nav::places::start_at;
 use typing::patterns::Typed;
 use typing::type_bytes::copy_in;
 use typing::typing::type_tree;
 ghost use mathlib.Core.Path.{_≡_};
-ghost use Prim.Native.Nat.{_+_, _*_, _≤_, _<_};
-ghost use lib.ListN.{length, getD};
+ghost use Prim.Native.Nat.{_+_, _<_};
+ghost use lib.ListN.{getD};
 ghost use Rattle.emit.specs.Programs.{template};
-ghost use Rattle.build.specs.Operands.{asksTypes, TypeOfPre, TypeOfPost, TypesPre, TypesPost, RangesPre, RangesPost, FillPre, FillPost};
+ghost use Rattle.build.specs.Operands.{asksTypes, TypeOfPre, WorkFor, TypeOfPost, TypesPre, TypesPost, RangesPre, RangesPost, FillPre, FillPost};
 
 // By place, one bit: whether the right side has a type that is made from an operand's. No place from 64 on has one.
 const ASKS_TYPES: usize = 0xfeeba8ff7006110;
@@ -24,7 +25,7 @@ fn asks_types(pattern: usize) -> bool
     (ASKS_TYPES >> pattern) % 2 == 1
 }
 
-// The type of the subtree at place k, into the buffer from `to` on; `work` has room for a type of 64 bytes for each node.
+// The type of the subtree at place k, into the buffer from `to` on; `work` has room for a type of 64 bytes for each of its nodes.
 fn type_with(
     s: &[u8],
     starts: &[u16; 2048],
@@ -34,7 +35,7 @@ fn type_with(
     types: &mut [u8],
     to: usize,
 )
-    requires { ⌜ TypeOfPre (now s) (now starts) (now leaves) k (now types) to × (32 * length (now s) + 64 ≤ length (now work)) ⌝ }
+    requires { ⌜ TypeOfPre (now s) (now starts) (now leaves) k (now types) to × WorkFor (now s) (now starts) (now leaves) k (now work) ⌝ }
     ensures { λ r. ⌜ TypeOfPost (now (s .entry)) (now (starts .entry)) (now (leaves .entry)) k (now (types .entry)) (now (types .exit)) to ⌝ }
 {
     let at = start_at(starts, k);
@@ -45,7 +46,7 @@ fn type_with(
     }
 }
 
-// The same, with room for 2,048 nodes; a short frame has few nodes, and a buffer takes time to clear.
+// The same, with room for 2,048 nodes; most operands have no operands, a short frame has few nodes, and a buffer takes time to clear.
 fn type_of_place(
     s: &[u8],
     starts: &[u16; 2048],
@@ -57,6 +58,11 @@ fn type_of_place(
     requires { ⌜ TypeOfPre (now s) (now starts) (now leaves) k (now types) to ⌝ }
     ensures { λ r. ⌜ TypeOfPost (now (s .entry)) (now (starts .entry)) (now (leaves .entry)) k (now (types .entry)) (now (types .exit)) to ⌝ }
 {
+    if arity_at(s, starts, k) == 0 {
+        let mut own = [0u8; 128];
+        type_with(s, starts, leaves, k, &mut own, types, to);
+        return;
+    }
     if s.len() <= 254 {
         let mut small = [0u8; 8192];
         type_with(s, starts, leaves, k, &mut small, types, to);

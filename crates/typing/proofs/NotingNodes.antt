@@ -17,16 +17,16 @@ use Rattle.frame.specs.Encoding.{encNumber, encTy, encTys, encHead, enc, encs}
 use Rattle.frame.specs.Reading.{numberAt, frameLimit}
 use Rattle.frame.specs.WellFormed.{TyWf, TysWf, numberIn, HeadWf, Wf, Wfs}
 use Rattle.frame.specs.Spans.{Bytes, Spans}
-use Rattle.frame.specs.At.{IsAt}
+use Rattle.frame.specs.At.{IsAt, Rest}
 use Rattle.frame.proofs.Spans.{span-left, span-right}
 use Rattle.frame.proofs.Numbers.{number-back}
 use Rattle.frame.proofs.ReadBack.{enc-long}
 use Rattle.frame.proofs.TagTables.{code-form}
-use Rattle.frame.proofs.View.{at-span, at-wf}
+use Rattle.frame.proofs.AgainTurns.{encs-append, wfs-append, frame-rest}
 use Rattle.typing.specs.Typing.{carriedTy}
 use Rattle.typing.specs.Members.{All}
 use Rattle.typing.specs.Identifiers.{identTag, Named, named, givensTys, identOf, namesAgree}
-use Rattle.typing.specs.Claims.{powers, claims, claimsIn, Clash, TypeAt, Told, Noted, Held, TypesAt, TypesAnswer, Short, TypesPost, NamePost, Rest, NamesAnswer, NamesPost}
+use Rattle.typing.specs.Claims.{powers, claims, claimsIn, Clash, TypeAt, Told, Noted, Held, TypesAt, TypesAnswer, Short, TypesPost, NamePost, NamesAnswer, NamesPost}
 use Rattle.typing.specs.declared.identifiers.Noting.{Noting}
 use Rattle.typing.specs.declared.identifiers.Noting.the-variants.{Ends, Clashed, Beyond}
 use Rattle.typing.specs.declared.identifiers.Names.{Names}
@@ -36,21 +36,10 @@ use Rattle.typing.proofs.Noting.{told-none, noted-nil, noted-then, note
 use Rattle.typing.proofs.NotingTypes.{Some}
 
 -- ---- forests joined
-encs-append : (ts us : Forest) → encs (append ts us) ≡ encs ts ++ encs us
-unfolding enc
-encs-append nil us = refl
-encs-append (cons t ts) us = rw (append-assoc, encs-append ts us)
-
 claims-append : (ts us : Forest) → claimsIn (append ts us) ≡ claimsIn ts ++ claimsIn us
 unfolding claims
 claims-append nil us = refl
 claims-append (cons t ts) us = rw (append-assoc, claims-append ts us)
-
-wfs-append : (ts us : Forest) (ds es : List Sort) → Wfs ts ds → Wfs us es → Wfs (append ts us) (ds ++ es)
-wfs-append nil us [] es v w = w
-wfs-append nil us (d ∷ ds) es v w = absurd v
-wfs-append (cons t ts) us [] es v w = absurd v
-wfs-append (cons t ts) us (d ∷ ds) es v w = (v .0, wfs-append ts us ds es (v .1) w)
 
 -- ---- the next node
 -- its head, and what comes after it
@@ -313,10 +302,6 @@ module _ (s : List ℕ) (at : ℕ) (l : at < length s) (tag form w x m : ℕ) (d
           (subst (λ (c : Bool). Noted s t₁ t₂ (identOf tag (v .n) (v .us)) c) f (own-claim ts v e)) (rest .by (append (v .ks) (v .later)) (v .sorts) (at-end ts v e)))
 
 -- ---- names_ok
-pub frame-rest : (s : List ℕ) → Bytes s → (t : Tree) → IsAt s predicate 0 t (length s) → Rest s 0 (cons t nil) (predicate ∷ [])
-unfolding enc
-frame-rest s bs t a = record { span = rw append-nil (at-span s bs predicate 0 t (length s) a); wf = (at-wf s bs predicate 0 t (length s) a, tt) }
-
 -- a table with no claims at first
 module _ (s : List ℕ) (bs : Bytes s) (m : ℕ) (table : List ℕ) (r : Names) (p : NamesPost s 0 (replicate m 0) table r) (t : Tree) (a : IsAt s predicate 0 t (length s)) where
   answer : NamesAnswer s (replicate m 0) table (claims t) r

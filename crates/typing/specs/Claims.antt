@@ -8,9 +8,10 @@ use lib.ListN.{length, take, drop, getD}
 use Rattle.frame.specs.Types.{Ty, given, pow}
 use Rattle.frame.specs.Trees.{Head, head, Tree, node, Forest, nil, cons}
 use Rattle.frame.specs.Tags.{pick, Sort}
-use Rattle.frame.specs.Encoding.{encTy, encTys, encs}
+use Rattle.frame.specs.Encoding.{encTy, encTys}
 use Rattle.frame.specs.Reading.{frameLimit}
-use Rattle.frame.specs.WellFormed.{TyWf, Wfs}
+use Rattle.frame.specs.WellFormed.{TyWf}
+use Rattle.frame.specs.At.{Rest}
 use Rattle.frame.specs.Spans.{Spans}
 use Rattle.typing.specs.Members.{In, All}
 use Rattle.typing.specs.Identifiers.{Named, named, givensTys, identOf}
@@ -108,12 +109,6 @@ pub record TypesPost (s : List ℕ) (at m : ℕ) (before after : List ℕ) (r : 
 
 abbrev pub GivenPost : List ℕ → ℕ → List ℕ → List ℕ → Bool → Type 0
 GivenPost s n before after r = Noted s before after (named n (pow (given n)) ∷ []) r
-
--- trees that stand one after the other, from `at` to the end of the frame: of each node that was met its children come
--- first, then what came after the node
-pub record Rest (s : List ℕ) (at : ℕ) (ts : Forest) (es : List Sort) : Type 0 where
-  pub span : Spans s at (length s) (encs ts)
-  pub wf : Wfs ts es
 
 -- how claims were noted
 abbrev pub NamesAnswer : List ℕ → List ℕ → List ℕ → List Named → Names → Type 0

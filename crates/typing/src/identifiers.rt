@@ -11,10 +11,10 @@ ghost use lib.ListN.{length};
 ghost use Rattle.frame.specs.Types.{Ty};
 ghost use Rattle.frame.specs.Trees.{Tree, Forest};
 ghost use Rattle.frame.specs.Tags.{Sort, predicate};
-ghost use Rattle.frame.specs.At.{IsAt};
+ghost use Rattle.frame.specs.At.{IsAt, Rest};
 ghost use Rattle.frame.specs.Reading.{frameLimit};
 ghost use Rattle.typing.specs.Identifiers.{namesAgree};
-ghost use Rattle.typing.specs.Claims.{PowerPost, SameType, Held, TypeAt, TypesAt, NamePost, GivenPost, TypesPost, Rest, NamesPost};
+ghost use Rattle.typing.specs.Claims.{PowerPost, SameType, Held, TypeAt, TypesAt, NamePost, GivenPost, TypesPost, NamesPost};
 
 const IDENTIFIER: usize = 1;
 

@@ -1,4 +1,5 @@
-use Rattle.typing.proofs.NotingNodes.{frame-rest, names-agree, names-differ, names-decided}
+use Rattle.frame.proofs.AgainTurns.{frame-rest}
+use Rattle.typing.proofs.NotingNodes.{names-agree, names-differ, names-decided}
 use Rattle.typing.proofs.Noting.{told-none}
 use native.Mathlib.Omega.{arith}
 use borrow.Author.Needs.{needs}

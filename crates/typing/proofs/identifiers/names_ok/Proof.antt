@@ -1,4 +1,5 @@
-use Rattle.typing.proofs.NotingNodes.{frame-rest, names-agree, names-differ}
+use Rattle.frame.proofs.AgainTurns.{frame-rest}
+use Rattle.typing.proofs.NotingNodes.{names-agree, names-differ}
 use Rattle.typing.proofs.Noting.{told-none}
 use borrow.Author.Needs.{needs}
 use Rattle.typing.proofs.identifiers.names_ok.Statement.{statement}
