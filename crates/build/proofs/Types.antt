@@ -60,11 +60,15 @@ module _ (s st leaves : List ℕ) (k : ℕ) where
   work-all work l = record { room = λ n t h Δ v f. omega (arith, few n t h Δ v f .1) }
 
   pub work-own : (work : List ℕ) → length work ≡ 128 → (r : ℕ) → ChildrenPost s st k r → r ≡ 0 → WorkFor s st leaves k work
+  unfolding nodes
   work-own work l r post z = record { room = λ n t h Δ v f. alone v (post .many t n Δ v (h .framed) f) }
     where
       alone : (v : Tree) → r ≡ arity v → 64 * nodes v + 64 ≤ length work
       alone (node h nil) e = omega arith
       alone (node h (cons u us)) e = absurd (omega arith)
+
+  pub work-kept : (work w : List ℕ) → length w ≡ length work → WorkFor s st leaves k work → WorkFor s st leaves k w
+  work-kept work w e l = record { room = λ n t h Δ v f. omega (arith, l .room n t h Δ v f) }
 
   pub type-of-few : (types : List ℕ) (to : ℕ) → TypeOfPre s st leaves k types to → k < 2048
   type-of-few types to p = omega (arith, p .below, framed-few s (p .t) st (p .n) (p .held .framed))

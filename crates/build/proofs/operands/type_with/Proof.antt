@@ -1,3 +1,4 @@
+use Rattle.build.proofs.Types.{work-kept}
 use native.Mathlib.Omega.{arith}
 use Rattle.build.proofs.Types.{type-of-few, type-of-pre, copy-room, type-copied, type-refused}
 use borrow.Author.Needs.{needs}
@@ -23,7 +24,7 @@ enum-known-a c = search needs
 
 -- src/operands.rt:43:25
 copy-in-requires : tie.Need-copy-in-requires
-copy-in-requires c κs = copy-room _ _ _ _ _ _ (c .before .before .before .before .before .before .before .before .before .before .before .before .before .pre .0) _ (c .before .before .before .before .before .before .before .before .before .start-at .ensures .0) _ (omega arith) _ (c .before .before .before .before .before .before .before .type-tree .ensures) _ (c .before .before .before .a .given .1)
+copy-in-requires c κs = copy-room _ _ _ _ _ _ (c .before .before .before .before .before .before .before .before .before .before .before .before .before .pre .0) _ (c .before .before .before .before .before .before .before .before .before .start-at .ensures .0) _ (work-kept _ _ _ _ _ _ (omega arith) (c .before .before .before .before .before .before .before .before .before .before .before .before .before .pre .1)) _ (c .before .before .before .before .before .before .before .type-tree .ensures) _ (c .before .before .before .a .given .1)
 
 enum-told : tie.Need-enum-told
 enum-told c = search needs
@@ -38,7 +39,7 @@ same-length-2 c = search needs
 
 -- src/operands.rt:28:1
 returns : tie.Need-returns
-returns c = type-copied _ _ _ _ _ _ (c .before .before .before .before .before .before .before .before .before .before .before .before .before .before .before .before .pre .0) _ (c .before .before .before .before .before .before .before .before .before .before .before .before .start-at .ensures .0) _ (omega arith) _ (c .before .before .before .before .before .before .before .before .before .before .type-tree .ensures) _ (c .before .before .before .before .before .before .a .given .1) _ (c .before .before .copy-in .ensures)
+returns c = type-copied _ _ _ _ _ _ (c .before .before .before .before .before .before .before .before .before .before .before .before .before .before .before .before .pre .0) _ (c .before .before .before .before .before .before .before .before .before .before .before .before .start-at .ensures .0) _ (work-kept _ _ _ _ _ _ (omega arith) (c .before .before .before .before .before .before .before .before .before .before .before .before .before .before .before .before .pre .1)) _ (c .before .before .before .before .before .before .before .before .before .before .type-tree .ensures) _ (c .before .before .before .before .before .before .a .given .1) _ (c .before .before .copy-in .ensures)
 
 -- src/operands.rt:28:1
 same-length-3 : tie.Need-same-length-3
@@ -46,7 +47,7 @@ same-length-3 c = search needs
 
 -- src/operands.rt:28:1
 returns-2 : tie.Need-returns-2
-returns-2 c = type-refused _ _ _ _ _ _ (c .before .before .before .before .before .before .before .before .before .before .pre .0) _ (c .before .before .before .before .before .before .start-at .ensures .0) _ (omega arith) _ (c .before .before .before .before .type-tree .ensures) (c .enum-told .given .1)
+returns-2 c = type-refused _ _ _ _ _ _ (c .before .before .before .before .before .before .before .before .before .before .pre .0) _ (c .before .before .before .before .before .before .start-at .ensures .0) _ (work-kept _ _ _ _ _ _ (omega arith) (c .before .before .before .before .before .before .before .before .before .before .pre .1)) _ (c .before .before .before .before .type-tree .ensures) (c .enum-told .given .1)
 
 pub type-with-spec : {M : Type 1} → statement M
 type-with-spec =
