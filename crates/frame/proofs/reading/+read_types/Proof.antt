@@ -23,85 +23,39 @@ abbrev read-types-below : ℕ → In 1 read-types-kinds.ps
 read-types-below t =
     and 1 read-types-kinds.ps (falls 1 read-types-kinds.ps _<_ μ-read-types t) read-types.Pre
 
-read-types-returns : (t : ℕ) → read-types-lts.Need-returns (
-  read-type-reads.Asked,
-  read-type-reads.Learnt,
-  read-types-below t,
-  read-types.Post,
-) (read-types-at t) read-types.Post
+-- what the calls ask and answer
+abbrev calls-read-types : ℕ → read-types-lts.Claims
+calls-read-types t = (read-type-reads.Asked, read-type-reads.Learnt, read-types-below t, read-types.Post)
+
+read-types-returns : (t : ℕ) → read-types-lts.Need-returns (calls-read-types t) (read-types-at t) read-types.Post
 read-types-returns t c = tys-none _ _ _ (c .if1 .taken)
 
-read-types-add-read-type : (t : ℕ) → read-types-lts.Need-add-read-type (
-  read-type-reads.Asked,
-  read-type-reads.Learnt,
-  read-types-below t,
-  read-types.Post,
-) (read-types-at t) read-types.Post
+read-types-add-read-type : (t : ℕ) → read-types-lts.Need-add-read-type (calls-read-types t) (read-types-at t) read-types.Post
 read-types-add-read-type t c = omega arith
 
-read-types-read-type-requires : (t : ℕ) → read-types-lts.Need-read-type-requires (
-  read-type-reads.Asked,
-  read-type-reads.Learnt,
-  read-types-below t,
-  read-types.Post,
-) (read-types-at t) read-types.Post
+read-types-read-type-requires : (t : ℕ) → read-types-lts.Need-read-type-requires (calls-read-types t) (read-types-at t) read-types.Post
 read-types-read-type-requires t c κs = omega arith
 
-read-types-enum-known-a : (t : ℕ) → read-types-lts.Need-enum-known-a (
-  read-type-reads.Asked,
-  read-type-reads.Learnt,
-  read-types-below t,
-  read-types.Post,
-) (read-types-at t) read-types.Post
+read-types-enum-known-a : (t : ℕ) → read-types-lts.Need-enum-known-a (calls-read-types t) (read-types-at t) read-types.Post
 read-types-enum-known-a t c = search needs
 
-read-types-sub-read-types : (t : ℕ) → read-types-lts.Need-sub-read-types (
-  read-type-reads.Asked,
-  read-type-reads.Learnt,
-  read-types-below t,
-  read-types.Post,
-) (read-types-at t) read-types.Post
+read-types-sub-read-types : (t : ℕ) → read-types-lts.Need-sub-read-types (calls-read-types t) (read-types-at t) read-types.Post
 read-types-sub-read-types t c = omega arith
 
-read-types-read-types-requires : (t : ℕ) → read-types-lts.Need-read-types-requires (
-  read-type-reads.Asked,
-  read-type-reads.Learnt,
-  read-types-below t,
-  read-types.Post,
-) (read-types-at t) read-types.Post
+read-types-read-types-requires : (t : ℕ) → read-types-lts.Need-read-types-requires (calls-read-types t) (read-types-at t) read-types.Post
 read-types-read-types-requires t c κs = let fw = tys-further _ _ _ (c .before .before .before .before .if1 .left) _ (c .before .before .before .read-type .ensures) _ (c .before .a .given .1) (λ i. c .before .before .before .before .before .shared-slice-known .given i .fits) in omega arith
 
-read-types-enum-known-a-2 : (t : ℕ) → read-types-lts.Need-enum-known-a-2 (
-  read-type-reads.Asked,
-  read-type-reads.Learnt,
-  read-types-below t,
-  read-types.Post,
-) (read-types-at t) read-types.Post
+read-types-enum-known-a-2 : (t : ℕ) → read-types-lts.Need-enum-known-a-2 (calls-read-types t) (read-types-at t) read-types.Post
 read-types-enum-known-a-2 t c = search needs
 
-read-types-returns-2 : (t : ℕ) → read-types-lts.Need-returns-2 (
-  read-type-reads.Asked,
-  read-type-reads.Learnt,
-  read-types-below t,
-  read-types.Post,
-) (read-types-at t) read-types.Post
+read-types-returns-2 : (t : ℕ) → read-types-lts.Need-returns-2 (calls-read-types t) (read-types-at t) read-types.Post
 read-types-returns-2 t c = tys-more _ _ _ (c .before .before .before .before .before .if1 .left) _ (c .before .before .before .before .read-type .ensures) _ (c .before .before .a .given .1) _ (c .read-types .ensures)
 
-read-types-returns-3 : (t : ℕ) → read-types-lts.Need-returns-3 (
-  read-type-reads.Asked,
-  read-type-reads.Learnt,
-  read-types-below t,
-  read-types.Post,
-) (read-types-at t) read-types.Post
+read-types-returns-3 : (t : ℕ) → read-types-lts.Need-returns-3 (calls-read-types t) (read-types-at t) read-types.Post
 read-types-returns-3 t c = tys-no _ _ _ (c .before .before .before .before .if1 .left) _ (c .before .before .before .read-type .ensures) _ (c .before .a2 .given .1)
 
 pub +read-types-spec : {M : Type 1} → statement M
-+read-types-spec = close μ-read-types λ t. read-types-lts.spec (
-  read-type-reads.Asked,
-  read-type-reads.Learnt,
-  read-types-below t,
-  read-types.Post,
-)
++read-types-spec = close μ-read-types λ t. read-types-lts.spec (calls-read-types t)
     (read-types-at t)
     read-types.Post
     (read-types-returns t)
