@@ -1,10 +1,9 @@
 -- What the first byte of a type says of the type that stands there; the ways out of `to_expression`.
 use mathlib.Core.Path.{_≡_, refl, sym, ap, ap₂, _∙_, subst}
 use mathlib.Core.List.{List, [], _∷_, _++_, append-assoc, append-nil}
-use Prim.Native.Nat.{ℕ, zero, suc, _+_, _-_, _≤_, _<_}
+use Prim.Native.Nat.{ℕ, suc, _+_, _-_, _≤_, _<_}
 use native.Mathlib.Omega.{arith}
-use native.Mathlib.Numerals.{add-one}
-use lib.ListN.{length, take, drop, getD, length-append}
+use lib.ListN.{length, getD, length-append}
 use Rattle.frame.specs.Types.{Ty, bool, int, given, pow, prod}
 use Rattle.frame.specs.Tags.{lookup, classOf, formAt}
 use Rattle.frame.specs.Encoding.{encNumber, encTy, encTys, encHead, enc, encs}

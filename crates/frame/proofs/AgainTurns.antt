@@ -8,16 +8,15 @@ use Prim.Native.Nat.{ℕ, suc, _+_, _-_, _≤_, _<_}
 use native.Mathlib.Omega.{arith}
 use lib.ListN.{length, replicate, set, length-append, length-set}
 use lib.Seq.{sets}
-use Rattle.frame.specs.Types.{Ty}
 use Rattle.frame.specs.Trees.{Head, head, Tree, node, Forest, nil, cons, count, append, nodes, nodesIn}
 use Rattle.frame.specs.Tags.{Sort, predicate}
 use Rattle.frame.specs.TagCodes.{firstSort, laterSort, kindsFor}
 use Rattle.frame.specs.Encoding.{encHead, enc, encs, starts, startsIn}
-use Rattle.frame.specs.Reading.{okH, readHead, frameLimit, tree, parse}
-use Rattle.frame.specs.WellFormed.{Wf, Wfs}
+use Rattle.frame.specs.Reading.{okH, readHead, tree, parse}
+use Rattle.frame.specs.WellFormed.{Wfs}
 use Rattle.frame.specs.Spans.{Bytes, Spans}
 use Rattle.frame.specs.At.{IsAt, Rest}
-use Rattle.frame.specs.Post.{headAnswer, frameAnswer, tableSize, tableOf, HeadStands, HeadEnd, Room, PlacesPre, PlacesPost}
+use Rattle.frame.specs.Post.{headAnswer, frameAnswer, tableSize, tableOf, HeadStands, HeadEnd, PlacesPre, PlacesPost}
 use Rattle.frame.specs.declared.reading.FrameAnswer.the-variants as F
 use Rattle.frame.proofs.Spans.{span-left, span-right, span-join}
 use Rattle.frame.proofs.Frames.{parse-inv}

@@ -1,20 +1,19 @@
 -- The code's tables by form say what `formAt` says, and what the parts of a layout say.
 -- Main results: range-free .. children-fixed (what a layout's parts say); kinds-at (the sorts of the children by the first and the
 -- later ones); width-at .. unlisted-at (the tables, by one computed test each).
-use mathlib.Core.Path.{_≡_, refl, sym, ap, ap₂, _∙_, subst, subst₂}
-use mathlib.Core.Bool.{Bool, true, false, _&&_}
+use mathlib.Core.Path.{_≡_, refl, sym, ap, ap₂, _∙_}
+use mathlib.Core.Bool.{Bool, true, false}
 use mathlib.Core.List.{List, [], _∷_}
-use Prim.Native.Nat.{ℕ, zero, suc, _+_, _*_, _/_, _%_, _^_, _≤_, _<_}
+use Prim.Native.Nat.{ℕ, zero, suc, _*_, _/_, _%_, _^_, _≤_, _<_}
 use native.Mathlib.Omega.{arith}
-use lib.ListN.{length, getD}
+use lib.ListN.{length}
 use lib.Dec.{ltb, leb, eqb}
-use borrow.Author.Tests.{leb-true, leb-false, ltb-true, lt-ltb, lt-leb, le-leb, eqb-true, eqb-false, ne-eqb}
-use Rattle.frame.specs.Tags.{pick, Sort, predicate, expression, sameSort, repeat, Layout, these, payload, counted, binding, width, inRange, payloadOf, typesOf, sortsOf, Class, literalPred, equality, order, membership, inclusion, binaryPred, associativePred, negation, quantifiedPred, finite, partition, identifier, bound, literal, setExtension, maplet, relationSet, setMinus, cartesian, directProduct, parallelProduct, domainRestriction, rangeRestriction, upTo, arithmetic, functionImage, relationalImage, setOperation, backwardComposition, forwardComposition, override, sum, integerSet, boolSet, truthValue, integerRelation, emptySet, projection1, projection2, identity, boolExpr, cardinal, powerset, generalised, domain, range, extremum, converse, unaryMinus, quantifiedSet, comprehension, unlisted, table, classOf, formAt, formOf}
-use Rattle.frame.specs.TagCodes.{formAtCode, formCode, isExpression, sortFor, firstSort, laterSort, kindsFor, layoutKind, lowOf, highOf, fixedOf, blockEntry, rowOf, formWords}
+use borrow.Author.Tests.{leb-true, lt-ltb, lt-leb, le-leb, ne-eqb}
+use Rattle.frame.specs.Tags.{pick, Sort, predicate, expression, sameSort, repeat, Layout, these, payload, counted, binding, width, inRange, payloadOf, typesOf, sortsOf}
+use Rattle.frame.specs.TagCodes.{formAtCode, isExpression, sortFor, firstSort, laterSort, kindsFor, layoutKind, lowOf, highOf, fixedOf}
 use Rattle.frame.proofs.Inversion.{true-not}
 use Rattle.frame.proofs.ReadTrees.{repeat-length}
 use Rattle.frame.proofs.SameTrees.{both-true}
-use Rattle.frame.proofs.EveryTag.{alongRows, every-tag, unlisted-past}
 use Rattle.frame.proofs.TagTables.{below, entry, flag}
 
 -- ---- by form: what the parts of a layout say

@@ -18,6 +18,7 @@ pub mod NodeTurns
 pub mod View
 pub mod FrameTurns
 pub mod LineTurns
+pub mod LineWrites
 pub mod AtPlace
 pub mod Splices
 pub mod Within

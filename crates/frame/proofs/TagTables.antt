@@ -1,18 +1,17 @@
 -- The code's tables of tags say what `table` and `formAt` say, for every tag: each table by one computed test and one law.
 -- Main results: below, entry, flag (a computed test); past-all, last-entry (the last arm of a match); form-code, code-form, code-small,
 -- beyond; row-far, row-none, row-some, row-form, row-zero (the ways out of `row_of` and `form_of`).
-use mathlib.Core.Path.{_≡_, refl, sym, ap, ap₂, _∙_, subst, subst₂}
+use mathlib.Core.Path.{_≡_, refl, sym, ap, _∙_, subst}
 use mathlib.Core.Bool.{Bool, true, false, _&&_}
-use mathlib.Core.List.{List, [], _∷_}
+use mathlib.Core.List.{List}
 use Prim.Native.Nat.{ℕ, zero, suc, _+_, _*_, _/_, _%_, _^_, _≤_, _<_}
 use native.Mathlib.Omega.{arith}
-use lib.ListN.{length, getD}
+use lib.ListN.{getD}
 use lib.Dec.{ltb, leb, eqb}
-use borrow.Author.Tests.{leb-true, leb-false, ltb-true, lt-ltb, lt-leb, le-leb, eqb-true, eqb-false, ne-eqb}
-use Rattle.frame.specs.Tags.{pick, Sort, predicate, expression, sameSort, repeat, Layout, these, payload, counted, binding, width, inRange, payloadOf, typesOf, sortsOf, Class, literalPred, equality, order, membership, inclusion, binaryPred, associativePred, negation, quantifiedPred, finite, partition, identifier, bound, literal, setExtension, maplet, relationSet, setMinus, cartesian, directProduct, parallelProduct, domainRestriction, rangeRestriction, upTo, arithmetic, functionImage, relationalImage, setOperation, backwardComposition, forwardComposition, override, sum, integerSet, boolSet, truthValue, integerRelation, emptySet, projection1, projection2, identity, boolExpr, cardinal, powerset, generalised, domain, range, extremum, converse, unaryMinus, quantifiedSet, comprehension, unlisted, table, classOf, formAt, formOf}
-use Rattle.frame.specs.TagCodes.{formAtCode, formCode, isExpression, sortFor, firstSort, laterSort, kindsFor, layoutKind, lowOf, highOf, fixedOf, blockEntry, rowOf, formWords}
+use borrow.Author.Tests.{leb-true, leb-false, ltb-true, lt-leb, le-leb, eqb-true, eqb-false}
+use Rattle.frame.specs.Tags.{pick, Class, literalPred, equality, order, membership, inclusion, binaryPred, associativePred, negation, quantifiedPred, finite, partition, identifier, bound, literal, setExtension, maplet, relationSet, setMinus, cartesian, directProduct, parallelProduct, domainRestriction, rangeRestriction, upTo, arithmetic, functionImage, relationalImage, setOperation, backwardComposition, forwardComposition, override, sum, integerSet, boolSet, truthValue, integerRelation, emptySet, projection1, projection2, identity, boolExpr, cardinal, powerset, generalised, domain, range, extremum, converse, unaryMinus, quantifiedSet, comprehension, unlisted, table, classOf, formAt, formOf}
+use Rattle.frame.specs.TagCodes.{formAtCode, formCode, blockEntry, rowOf, formWords}
 use Rattle.frame.proofs.Inversion.{true-not}
-use Rattle.frame.proofs.ReadTrees.{repeat-length}
 use Rattle.frame.proofs.SameTrees.{both-true}
 use Rattle.frame.proofs.EveryTag.{alongRows, every-tag, unlisted-past}
 

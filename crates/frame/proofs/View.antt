@@ -5,17 +5,17 @@
 -- first child and the others); head-of, view, no-view (by a head that was read).
 use mathlib.Core.Path.{_≡_, refl, sym, ap, ap₂, _∙_, subst}
 use mathlib.Core.Bool.{Bool}
-use mathlib.Core.List.{List, [], _∷_}
-use Prim.Native.Nat.{ℕ, zero, suc, _+_, _-_, _≤_, _<_}
+use mathlib.Core.List.{List, []}
+use Prim.Native.Nat.{ℕ, zero, suc, _+_, _-_, _≤_}
 use native.Mathlib.Omega.{arith}
 use lib.ListN.{length}
 use borrow.Author.Tests.{ne-eqb, le-ltb}
 use Rattle.frame.specs.Types.{Ty}
 use Rattle.frame.specs.Trees.{Head, head, Tree, node, Forest, nil, cons, count, nodes}
 use Rattle.frame.specs.Tags.{Sort, predicate, formOf, width, sortsOf}
-use Rattle.frame.specs.TagCodes.{sortFor, firstSort, laterSort, kindsFor}
+use Rattle.frame.specs.TagCodes.{sortFor, kindsFor}
 use Rattle.frame.specs.Encoding.{encTys, enc, encs}
-use Rattle.frame.specs.Reading.{HeadRes, okH, readHead, ok, okF, readMany, readNode, frameLimit, Parsed, tree, bad, parse}
+use Rattle.frame.specs.Reading.{okH, readHead, ok, okF, readMany, readNode, frameLimit, Parsed, tree, bad, parse}
 use Rattle.frame.specs.WellFormed.{numberIn, HeadWf, Wf, Wfs}
 use Rattle.frame.specs.Spans.{Bytes, Spans}
 use Rattle.frame.specs.At.{IsAt, KidsAt}

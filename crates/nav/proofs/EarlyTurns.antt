@@ -1,6 +1,6 @@
 -- Trees with one tag that differ in their first six bytes: the ways out of `differ_early`.
 -- Main results: early-room, early-none, early-bytes; early-done (what it says of two places).
-use mathlib.Core.Path.{_≡_, refl, sym, ap, _∙_, subst}
+use mathlib.Core.Path.{_≡_, refl, sym, ap, _∙_}
 use mathlib.Core.Bool.{Bool, true, false, not, _&&_, _||_}
 use mathlib.Core.List.{List, [], _∷_, _++_}
 use Prim.Native.Nat.{ℕ, _+_, _≤_, _<_}
@@ -8,7 +8,6 @@ use native.Mathlib.Omega.{arith}
 use lib.ListN.{length, getD, length-append}
 use lib.Dec.{leb}
 use borrow.Author.Tests.{le-leb}
-use Rattle.frame.specs.Types.{Ty}
 use Rattle.frame.specs.Trees.{head, Tree, node, Forest, nil, cons, count, tagOf}
 use Rattle.frame.specs.Tags.{Sort, Layout, these, payload, counted, binding, Class, table, classOf, formAt, formOf, sortsOf}
 use Rattle.frame.specs.Encoding.{encHead, enc, encs}

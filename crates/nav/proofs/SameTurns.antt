@@ -6,8 +6,7 @@ use mathlib.Core.Bool.{Bool, true, false}
 use mathlib.Core.List.{List}
 use Prim.Native.Nat.{ℕ, _+_, _-_, _≤_, _<_}
 use native.Mathlib.Omega.{arith}
-use lib.ListN.{length, getD, take, drop, length-take, length-drop}
-use lib.Seq.{ext-getD, getD-take, getD-drop}
+use lib.ListN.{length, getD, take, drop}
 use Rattle.frame.specs.Trees.{head, Tree, node, Forest, nil, cons, count}
 use Rattle.frame.specs.Tags.{Sort}
 use Rattle.frame.specs.TagCodes.{sortFor, kindsFor}
@@ -20,7 +19,6 @@ use Rattle.frame.specs.At.{IsAt}
 use Rattle.frame.proofs.View.{stands-at}
 use Rattle.frame.specs.declared.reading.HeadAnswer.{HeadAnswer}
 use Rattle.frame.specs.declared.reading.HeadAnswer.the-variants as H
-use Rattle.frame.proofs.Inversion.{true-not}
 use Rattle.frame.proofs.ReadBack.{enc-long, head-back}
 use Rattle.nav.specs.Stands.{Stands, StandAll}
 use Rattle.nav.specs.Compared.{BothStand, BothStandAll, SamePost, SameAllPost, Agreed, HeadsPost}

@@ -1,22 +1,19 @@
 -- Laws of types as bytes: bytes one by one and spans; the end of a type; copies.
 -- Main results: span-get, span-by (a span by its bytes), span-kept (a span below what is written), copied-span (what a copy is);
 -- type-stands, type-ends (the end of a type).
-use mathlib.Core.Path.{_≡_, refl, sym, ap, ap₂, _∙_, subst}
+use mathlib.Core.Path.{_≡_, refl, sym, ap, _∙_}
 use mathlib.Core.Bool.{Bool, true, false}
-use mathlib.Core.List.{List, [], _∷_, _++_, append-nil}
-use Prim.Native.Nat.{ℕ, zero, suc, _+_, _-_, _≤_, _<_}
+use mathlib.Core.List.{List, [], _∷_, append-nil}
+use Prim.Native.Nat.{ℕ, _+_, _-_, _≤_, _<_}
 use native.Mathlib.Omega.{arith}
-use lib.ListN.{length, take, drop, getD, set, length-append, length-take, length-drop, length-set}
+use lib.ListN.{length, take, drop, getD, set, length-take, length-drop, length-set}
 use lib.Seq.{getD-take, getD-drop, ext-getD, getD-set-same, getD-set-other}
 use lib.Dec.{ltb, leb}
 use borrow.Author.Count.{below-more, below-none}
 use borrow.Author.Tests.{ltb-true, ltb-false, leb-true, leb-false}
-use Rattle.frame.proofs.Inversion.{true-not}
 use Rattle.frame.specs.Types.{Ty}
 use Rattle.frame.specs.Encoding.{encTy, encTys}
 use Rattle.frame.specs.Spans.{Spans}
-use Rattle.frame.proofs.Spans.{span-first, FirstOf, span-left, span-right}
-use Rattle.frame.proofs.Numbers.{number-length}
 use Rattle.frame.specs.Post.{TypesStand, SkipPost}
 use Rattle.typing.specs.Buffers.{TypeAt, EndOf, Copied, Apart}
 

@@ -24,6 +24,7 @@ pub mod PairTurns
 pub mod FillTurns
 pub mod JudgeTurns
 pub mod OwnTurns
+pub mod OwnResults
 pub mod OpenTurns
 pub mod StackBelow
 pub mod StackTurns

@@ -2,15 +2,15 @@
 -- Main results: packed-end, by-symbol (the pattern of a word); row-none .. row-type (types in a row); the laws fit-end .. next-same
 -- (one for each way out).
 use Rattle.frame.proofs.ReadTypes.{ty-long}
-use mathlib.Core.Path.{_≡_, refl, sym, ap, ap₂, _∙_, subst, subst₂, subst₃}
-use mathlib.Core.Bool.{Bool, true, false, _&&_}
+use mathlib.Core.Path.{_≡_, refl, sym, ap, _∙_, subst, subst₃}
+use mathlib.Core.Bool.{Bool, true, false}
 use mathlib.Core.List.{List, [], _∷_, _++_, append-assoc}
 use Prim.Native.Nat.{ℕ, zero, suc, _+_, _-_, _/_, _%_, _≤_, _<_}
 use native.Mathlib.Omega.{arith}
 use lib.ListN.{length, take, drop, getD, set, length-append, length-set, take-append-drop}
 use lib.Seq.{getD-set-same, getD-set-other, length-take-le}
 use borrow.Author.Count.{below-more}
-use lib.Dec.{ltb, leb, eqb}
+use lib.Dec.{eqb}
 use borrow.Author.Tests.{lt-ltb, le-ltb, eqb-true, eqb-false, eq-eqb, ne-eqb}
 use Rattle.frame.specs.Types.{Ty, bool, int, given, pow, prod}
 use Rattle.frame.specs.Tags.{pick}
@@ -20,14 +20,14 @@ use Rattle.frame.specs.WellFormed.{TyWf}
 use Rattle.frame.specs.Spans.{Spans}
 use Rattle.frame.proofs.Spans.{span-first, span-left, span-right}
 use Rattle.frame.proofs.ReadTypes.{ty-prefix}
-use Rattle.frame.proofs.SameTrees.{both-true, same-ty, same-ty-refl}
+use Rattle.frame.proofs.SameTrees.{both-true, same-ty}
 use Rattle.frame.proofs.Inversion.{true-not}
 use Rattle.typing.specs.Typing.{ty}
-use Rattle.typing.specs.Patterns.{symbolOf, partsOf, Matched, fits, differs, atVariable, atSymbol, matches}
+use Rattle.typing.specs.Patterns.{symbolOf, partsOf, Matched, differs, matches}
 use Rattle.typing.specs.RuleNumbers.{packs, Packed}
 use Rattle.typing.specs.Buffers.{TypeAt, EndOf}
-use Rattle.frame.specs.Bytes.{Alike, SameBytes}
-use Rattle.typing.specs.PatternPosts.{TysFit, RowAt, Slots, EnvAt, MatchPre, Matching, MatchPost}
+use Rattle.frame.specs.Bytes.{SameBytes}
+use Rattle.typing.specs.PatternPosts.{TysFit, RowAt, EnvAt, MatchPre, Matching, MatchPost}
 use Rattle.typing.specs.declared.patterns.Fit.{Fit}
 use Rattle.typing.specs.declared.patterns.Fit.the-variants as F
 use Rattle.typing.proofs.BufferLaws.{span-get, span-by}

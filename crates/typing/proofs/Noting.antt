@@ -7,12 +7,11 @@ use mathlib.Core.Bool.{Bool, true, false}
 use mathlib.Core.List.{List, [], _∷_, _++_, append-assoc, append-nil}
 use Prim.Native.Nat.{ℕ, suc, _+_, _-_, _*_, _≤_, _<_}
 use native.Mathlib.Omega.{arith}
-use lib.ListN.{length, take, drop, getD, set, length-take, length-drop, length-set, replicate, length-replicate, getD-replicate, List·getD-eq-default}
-use lib.Seq.{getD-set-same, getD-set-other, ext-getD, getD-take, getD-drop}
+use lib.ListN.{length, take, drop, getD, set, length-set, replicate, length-replicate, getD-replicate, List·getD-eq-default}
+use lib.Seq.{getD-set-same, getD-set-other}
 use lib.Dec.{eqb, ltb}
 use borrow.Author.Tests.{eqb-true, eqb-false, ltb-true, ltb-false}
-use Rattle.frame.specs.Types.{Ty, bool, int, given, pow, prod}
-use Rattle.frame.specs.Tags.{pick}
+use Rattle.frame.specs.Types.{Ty, given, pow}
 use Rattle.frame.specs.Encoding.{encNumber, encTy}
 use Rattle.frame.specs.Reading.{numberAt, frameLimit}
 use Rattle.frame.specs.Spans.{Bytes, Spans}

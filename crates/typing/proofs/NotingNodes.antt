@@ -1,21 +1,20 @@
 -- The claims of the nodes of a frame, noted from left to right: the ways out of note_nodes and names_ok.
 -- Main results: node-now (what stands at the next node), nodes-end, nodes-types, nodes-beyond, nodes-other, nodes-past,
 -- nodes-clash, nodes-name; names-agree, names-differ, names-decided.
-use mathlib.Core.Path.{_≡_, refl, sym, ap, ap₂, _∙_, subst}
+use mathlib.Core.Path.{_≡_, refl, sym, ap, _∙_, subst}
 use mathlib.Core.Bool.{Bool, true, false}
 use mathlib.Core.List.{List, [], _∷_, _++_, append-assoc, append-nil}
-use Prim.Native.Nat.{ℕ, suc, _+_, _-_, _≤_, _<_}
+use Prim.Native.Nat.{ℕ, _+_, _-_, _≤_, _<_}
 use native.Mathlib.Omega.{arith}
 use lib.ListN.{length, length-append, replicate, length-replicate}
-use lib.Dec.{eqb}
 use borrow.Author.Tests.{ne-eqb, eq-eqb}
 use Rattle.frame.specs.Types.{Ty}
-use Rattle.frame.specs.Trees.{Head, head, Tree, node, Forest, nil, cons, count, append}
-use Rattle.frame.specs.Tags.{pick, Sort, predicate, formOf, formAt, classOf, lookup, width, typesOf, sortsOf, Form}
+use Rattle.frame.specs.Trees.{head, Tree, node, Forest, nil, cons, count, append}
+use Rattle.frame.specs.Tags.{Sort, predicate, formOf, formAt, classOf, lookup, width, typesOf, sortsOf, Form}
 use Rattle.frame.specs.TagCodes.{formCode, formAtCode}
 use Rattle.frame.specs.Encoding.{encNumber, encTy, encTys, encHead, enc, encs}
-use Rattle.frame.specs.Reading.{numberAt, frameLimit}
-use Rattle.frame.specs.WellFormed.{TyWf, TysWf, numberIn, HeadWf, Wf, Wfs}
+use Rattle.frame.specs.Reading.{numberAt}
+use Rattle.frame.specs.WellFormed.{TyWf, TysWf, numberIn, HeadWf}
 use Rattle.frame.specs.Spans.{Bytes, Spans}
 use Rattle.frame.specs.At.{IsAt, Rest}
 use Rattle.frame.proofs.Spans.{span-left, span-right}
@@ -26,13 +25,13 @@ use Rattle.frame.proofs.AgainTurns.{encs-append, wfs-append, frame-rest}
 use Rattle.typing.specs.Typing.{carriedTy}
 use Rattle.typing.specs.Members.{All}
 use Rattle.typing.specs.Identifiers.{identTag, Named, named, givensTys, identOf, namesAgree}
-use Rattle.typing.specs.Claims.{powers, claims, claimsIn, Clash, TypeAt, Told, Noted, Held, TypesAt, TypesAnswer, Short, TypesPost, NamePost, NamesAnswer, NamesPost}
+use Rattle.typing.specs.Claims.{powers, claims, claimsIn, TypeAt, Noted, Held, TypesAt, TypesAnswer, TypesPost, NamePost, NamesAnswer, NamesPost}
 use Rattle.typing.specs.declared.identifiers.Noting.{Noting}
 use Rattle.typing.specs.declared.identifiers.Noting.the-variants.{Ends, Clashed, Beyond}
 use Rattle.typing.specs.declared.identifiers.Names.{Names}
 use Rattle.typing.specs.declared.identifiers.Names.the-variants.{Agree, Differ, Undecided}
 use Rattle.typing.proofs.Claims.{agree-told, clash-disagree}
-use Rattle.typing.proofs.Noting.{told-none, noted-nil, noted-then, noted-early, noted-true, held-then}
+use Rattle.typing.proofs.Noting.{told-none, noted-nil, noted-then, noted-early, held-then}
 use Rattle.typing.proofs.NotingTypes.{Some}
 
 -- ---- forests joined

@@ -4,23 +4,20 @@
 use Rattle.frame.proofs.ReadTypes.{ty-long}
 use mathlib.Core.Path.{_≡_, refl, sym, ap, _∙_, subst}
 use mathlib.Core.Bool.{Bool, true, false}
-use mathlib.Core.List.{List, [], _∷_, _++_, append-assoc, append-nil}
-use Prim.Native.Nat.{ℕ, suc, _+_, _-_, _*_, _≤_, _<_}
+use mathlib.Core.List.{List, [], _∷_, _++_, append-assoc}
+use Prim.Native.Nat.{ℕ, _+_, _-_, _*_, _≤_, _<_}
 use native.Mathlib.Omega.{arith}
 use lib.ListN.{length, getD, length-append}
 use Rattle.frame.specs.Types.{Ty, bool, int, given, pow, prod}
-use Rattle.frame.specs.Encoding.{encNumber, encTy, encTys}
-use Rattle.frame.specs.Reading.{numberAt, frameLimit}
-use Rattle.frame.specs.WellFormed.{TyWf}
-use Rattle.frame.specs.Spans.{Bytes, Spans}
+use Rattle.frame.specs.Encoding.{encTy, encTys}
+use Rattle.frame.specs.Spans.{Spans}
 use Rattle.frame.proofs.Spans.{span-first}
 use Rattle.frame.proofs.Numbers.{number-back, number-two}
-use Rattle.typing.specs.Members.{All}
-use Rattle.typing.specs.Identifiers.{Named, named, givensTy, givensTys}
-use Rattle.typing.specs.Claims.{powers, Noted, Held, Short, GivenPost, TypesAt, TypesAnswer, TypesPost}
+use Rattle.typing.specs.Identifiers.{givensTy, givensTys}
+use Rattle.typing.specs.Claims.{powers, Noted, Short, GivenPost, TypesAt, TypesAnswer, TypesPost}
 use Rattle.typing.specs.declared.identifiers.Noting.{Noting}
 use Rattle.typing.specs.declared.identifiers.Noting.the-variants.{Ends, Clashed, Beyond}
-use Rattle.typing.proofs.Noting.{noted-nil, noted-then, noted-early, held-then}
+use Rattle.typing.proofs.Noting.{noted-nil, noted-then, noted-early}
 
 -- ---- types in a row
 pub tys-long : (us : List Ty) → length us ≤ length (encTys us)

@@ -1,14 +1,14 @@
 -- The list of open binders, and the ways out of open_binders.
 -- Main results: opened-length, opened-at (the type of an index), opened-below, opened-push; open-none, open-more, open-never.
 use mathlib.Core.Path.{_≡_, refl, sym, ap, _∙_, subst}
-use mathlib.Core.List.{List, [], _∷_, _++_}
+use mathlib.Core.List.{List, [], _∷_}
 use Prim.Native.Nat.{ℕ, zero, suc, _+_, _-_, _≤_, _<_}
 use native.Mathlib.Omega.{arith}
-use lib.ListN.{length, getD, set, length-set, length-append}
+use lib.ListN.{length, getD, set, length-append}
 use lib.Seq.{getD-set-same, getD-set-other}
 use Rattle.frame.specs.Types.{Ty}
 use Rattle.frame.specs.Encoding.{encTy, encTys}
-use Rattle.frame.specs.Reading.{TyRes, okT, readTy, typeLimit, frameLimit}
+use Rattle.frame.specs.Reading.{readTy, typeLimit}
 use Rattle.frame.specs.Places.{Ctx, push}
 use Rattle.frame.specs.WellFormed.{TyWf, TysWf}
 use Rattle.frame.specs.Spans.{Spans}
@@ -20,7 +20,6 @@ use Rattle.frame.proofs.ReadTypes.{ty-back}
 use Rattle.typing.specs.Typing.{typeAt}
 use Rattle.typing.specs.Bound.{Opened, Below, OpenPost}
 use Rattle.frame.proofs.ReadTypes.{ty-long}
-use Rattle.typing.proofs.NotingTypes.{tys-long}
 
 -- a type that stands at a position
 abbrev pub TyAt : List ℕ → ℕ → Ty → Type 0

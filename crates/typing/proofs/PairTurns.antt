@@ -1,22 +1,22 @@
 -- The ways out of `match_pairs`.
 -- Main results: env-empty, pairs-none, pairs-last, pairs-differ, pairs-more.
 use Rattle.frame.proofs.ReadTypes.{ty-long}
-use mathlib.Core.Path.{_≡_, refl, sym, ap, ap₂, _∙_, subst, subst₂}
+use mathlib.Core.Path.{_≡_, refl, sym, subst}
 use mathlib.Core.Bool.{Bool, true, false, _&&_}
-use mathlib.Core.List.{List, [], _∷_, _++_}
-use Prim.Native.Nat.{ℕ, zero, suc, _+_, _-_, _≤_, _<_}
+use mathlib.Core.List.{List, [], _∷_}
+use Prim.Native.Nat.{ℕ, _+_, _-_, _≤_, _<_}
 use native.Mathlib.Omega.{arith}
 use lib.ListN.{length}
 use Rattle.frame.specs.Types.{Ty}
 use Rattle.frame.specs.Encoding.{encTy}
-use Rattle.typing.specs.Patterns.{Matched, fits, differs, matches, isFit, pairsFit, lastOnes}
+use Rattle.typing.specs.Patterns.{Matched, fits, differs, matches, isFit, pairsFit}
 use Rattle.typing.specs.Buffers.{TypeAt, EndOf}
 use Rattle.typing.specs.PatternPosts.{RowAt, Slots, EnvAt, MatchPre, Matching, MatchPost, PairsPre, Pairing, PairsPost}
 use Rattle.typing.specs.declared.patterns.Fit.{Fit}
 use Rattle.typing.specs.declared.patterns.Fit.the-variants as F
 use Rattle.typing.specs.declared.patterns.Pairs.{Pairs}
 use Rattle.typing.specs.declared.patterns.Pairs.the-variants as P
-use Rattle.typing.proofs.MatchTurns.{row-none, row-some, row-first, row-rest, row-within, row-type}
+use Rattle.typing.proofs.MatchTurns.{row-none, row-some, row-first, row-rest, row-type}
 
 pub env-empty : (types : List ℕ) (n : ℕ) (s e : List ℕ) → Slots s e → EnvAt types n s e []
 env-empty types n s e h = record { slots = h; few = omega arith; fit = tt; spans = λ i k. absurd (omega arith); low = λ i k. absurd (omega arith) }

@@ -3,8 +3,8 @@
 -- leaf-judge, leaf-turns (a root without operands).
 use mathlib.Core.Path.{_≡_, refl, sym, ap, _∙_, subst, subst₂}
 use mathlib.Core.Bool.{Bool, true, false}
-use mathlib.Core.List.{List, [], _∷_}
-use Prim.Native.Nat.{ℕ, suc, _+_, _-_, _*_, _≤_, _<_}
+use mathlib.Core.List.{List, []}
+use Prim.Native.Nat.{ℕ, _+_, _-_, _<_}
 use native.Mathlib.Omega.{arith}
 use lib.ListN.{length, getD, set, length-set}
 use lib.Seq.{getD-set-same, getD-set-other}
@@ -16,7 +16,7 @@ use Rattle.typing.specs.Patterns.{ruleAt, Judged, typed, wrong, judge}
 use Rattle.typing.specs.PatternPosts.{JudgePre, Judging, JudgePost}
 use Rattle.typing.specs.Machine.{Open, closeUp}
 use Rattle.typing.specs.OpenNodes.{noNode}
-use Rattle.typing.specs.TypingPosts.{OpenPre, NodePost, closedTo, Closing, ClosePost, Running, TurnPre, stepsLeft, Ending, Turning, TurnPost, Top, StepPre, tagsAfter, leftsAfter, fromsAfter, Moving, StepPost, TurnsPre, TurnsPost}
+use Rattle.typing.specs.TypingPosts.{OpenPre, NodePost, closedTo, Closing, ClosePost, Running, stepsLeft, Ending, Turning, TurnPost, Top, StepPre, tagsAfter, leftsAfter, fromsAfter, Moving, StepPost, TurnsPre, TurnsPost}
 use Rattle.typing.specs.declared.patterns.Typed.{Typed}
 use Rattle.typing.specs.declared.patterns.Typed.the-variants as T
 use Rattle.typing.specs.declared.stack.OpenNode.{OpenNode}
@@ -26,7 +26,7 @@ use Rattle.typing.specs.declared.typing.Turned.the-variants as U
 use Rattle.typing.specs.declared.typing.Opened.{Opened}
 use Rattle.typing.specs.declared.typing.Opened.the-variants as O
 use Rattle.typing.proofs.StackBelow.{shown}
-use Rattle.typing.proofs.StackTurns.{top-held, turn-room, close-pre, turn-close, turn-space, open-pre, turn-bad, turn-open, close-as, judge-as, open-as}
+use Rattle.typing.proofs.StackTurns.{top-held, turn-room, close-pre, turn-close, turn-space, open-pre, turn-bad, turn-open, close-as, judge-as}
 
 -- ---- a turn
 module _ (nd : OpenNode) (s leaves types : List ℕ) (st : State) where

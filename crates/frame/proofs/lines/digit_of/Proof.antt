@@ -1,7 +1,7 @@
 -- `frame::lines::digit_of` meets its contract.
 use native.Mathlib.Omega.{arith}
 use borrow.Author.Needs.{needs}
-use Rattle.frame.proofs.LineTurns.{value-below, value-figure, value-between, value-letter, value-above}
+use Rattle.frame.proofs.LineWrites.{value-below, value-figure, value-between, value-letter, value-above}
 use Rattle.frame.proofs.lines.digit_of.Statement.{statement}
 use Rattle.frame.proofs.lines.digit_of.Tie as tie
 

@@ -7,7 +7,7 @@ use lib.Seq.{sets, length-sets}
 use native.Mathlib.Omega.{arith}
 use mathlib.Core.Path.{_≡_, refl, ap, _∙_}
 use Rattle.frame.specs.Lines.{writeLine}
-use Rattle.frame.proofs.LineTurns.{write-none, write-all, write-more}
+use Rattle.frame.proofs.LineWrites.{write-none, write-all, write-more}
 use Rattle.frame.proofs.lines.write_line.Statement.{statement}
 use Rattle.frame.proofs.lines.write_line.Tie as tie
 
