@@ -24,112 +24,56 @@ abbrev put-decimal-below : ℕ → In 1 put-decimal-kinds.ps
 put-decimal-below t =
     and 1 put-decimal-kinds.ps (falls 1 put-decimal-kinds.ps _<_ μ-put-decimal t) put-decimal.Pre
 
+-- what the calls ask and answer
+abbrev calls-put-decimal : ℕ → put-decimal-lts.Claims
+calls-put-decimal t = (put-byte-reads.Asked, put-byte-reads.Learnt, put-decimal-below t, put-decimal.Post)
+
 -- src/put.rt:38:39
-put-decimal-cast-put-byte : (t : ℕ) → put-decimal-lts.Need-cast-put-byte (
-  put-byte-reads.Asked,
-  put-byte-reads.Learnt,
-  put-decimal-below t,
-  put-decimal.Post,
-) (put-decimal-at t) put-decimal.Post
+put-decimal-cast-put-byte : (t : ℕ) → put-decimal-lts.Need-cast-put-byte (calls-put-decimal t) (put-decimal-at t) put-decimal.Post
 put-decimal-cast-put-byte t c = omega arith
 
 -- src/put.rt:38:34
-put-decimal-add-put-byte : (t : ℕ) → put-decimal-lts.Need-add-put-byte (
-  put-byte-reads.Asked,
-  put-byte-reads.Learnt,
-  put-decimal-below t,
-  put-decimal.Post,
-) (put-decimal-at t) put-decimal.Post
+put-decimal-add-put-byte : (t : ℕ) → put-decimal-lts.Need-add-put-byte (calls-put-decimal t) (put-decimal-at t) put-decimal.Post
 put-decimal-add-put-byte t c = omega arith
 
 -- src/put.rt:38:9
-put-decimal-put-byte-requires : (t : ℕ) → put-decimal-lts.Need-put-byte-requires (
-  put-byte-reads.Asked,
-  put-byte-reads.Learnt,
-  put-decimal-below t,
-  put-decimal.Post,
-) (put-decimal-at t) put-decimal.Post
+put-decimal-put-byte-requires : (t : ℕ) → put-decimal-lts.Need-put-byte-requires (calls-put-decimal t) (put-decimal-at t) put-decimal.Post
 put-decimal-put-byte-requires t c κs = omega (arith, decimal-single (c .before .before .before .args .n) (c .before .if1 .taken))
 
 -- src/put.rt:38:9
-put-decimal-same-length : (t : ℕ) → put-decimal-lts.Need-same-length (
-  put-byte-reads.Asked,
-  put-byte-reads.Learnt,
-  put-decimal-below t,
-  put-decimal.Post,
-) (put-decimal-at t) put-decimal.Post
+put-decimal-same-length : (t : ℕ) → put-decimal-lts.Need-same-length (calls-put-decimal t) (put-decimal-at t) put-decimal.Post
 put-decimal-same-length t c = search needs
 
 -- src/put.rt:38:9
-put-decimal-returns : (t : ℕ) → put-decimal-lts.Need-returns (
-  put-byte-reads.Asked,
-  put-byte-reads.Learnt,
-  put-decimal-below t,
-  put-decimal.Post,
-) (put-decimal-at t) put-decimal.Post
+put-decimal-returns : (t : ℕ) → put-decimal-lts.Need-returns (calls-put-decimal t) (put-decimal-at t) put-decimal.Post
 put-decimal-returns t c = appends-as _ _ _ _ _ _ (sym (decimal-one _ (c .before .before .before .before .if1 .taken))) (c .before .before .put-byte .ensures)
 
 -- src/put.rt:40:9
-put-decimal-put-decimal-requires : (t : ℕ) → put-decimal-lts.Need-put-decimal-requires (
-  put-byte-reads.Asked,
-  put-byte-reads.Learnt,
-  put-decimal-below t,
-  put-decimal.Post,
-) (put-decimal-at t) put-decimal.Post
+put-decimal-put-decimal-requires : (t : ℕ) → put-decimal-lts.Need-put-decimal-requires (calls-put-decimal t) (put-decimal-at t) put-decimal.Post
 put-decimal-put-decimal-requires t c κs = (omega arith, omega (arith, decimal-length (c .before .before .before .args .n) (c .before .if1 .left)))
 
 -- src/put.rt:41:29
-put-decimal-cast-put-byte-2 : (t : ℕ) → put-decimal-lts.Need-cast-put-byte-2 (
-  put-byte-reads.Asked,
-  put-byte-reads.Learnt,
-  put-decimal-below t,
-  put-decimal.Post,
-) (put-decimal-at t) put-decimal.Post
+put-decimal-cast-put-byte-2 : (t : ℕ) → put-decimal-lts.Need-cast-put-byte-2 (calls-put-decimal t) (put-decimal-at t) put-decimal.Post
 put-decimal-cast-put-byte-2 t c = omega arith
 
 -- src/put.rt:41:24
-put-decimal-add-put-byte-2 : (t : ℕ) → put-decimal-lts.Need-add-put-byte-2 (
-  put-byte-reads.Asked,
-  put-byte-reads.Learnt,
-  put-decimal-below t,
-  put-decimal.Post,
-) (put-decimal-at t) put-decimal.Post
+put-decimal-add-put-byte-2 : (t : ℕ) → put-decimal-lts.Need-add-put-byte-2 (calls-put-decimal t) (put-decimal-at t) put-decimal.Post
 put-decimal-add-put-byte-2 t c = omega arith
 
 -- src/put.rt:41:5
-put-decimal-put-byte-requires-2 : (t : ℕ) → put-decimal-lts.Need-put-byte-requires-2 (
-  put-byte-reads.Asked,
-  put-byte-reads.Learnt,
-  put-decimal-below t,
-  put-decimal.Post,
-) (put-decimal-at t) put-decimal.Post
+put-decimal-put-byte-requires-2 : (t : ℕ) → put-decimal-lts.Need-put-byte-requires-2 (calls-put-decimal t) (put-decimal-at t) put-decimal.Post
 put-decimal-put-byte-requires-2 t c κs = omega (arith, decimal-length (c .before .before .before .before .before .before .before .args .n) (c .before .before .before .before .before .if1 .left), c .before .before .before .put-decimal .ensures .after)
 
 -- src/put.rt:33:1
-put-decimal-same-length-2 : (t : ℕ) → put-decimal-lts.Need-same-length-2 (
-  put-byte-reads.Asked,
-  put-byte-reads.Learnt,
-  put-decimal-below t,
-  put-decimal.Post,
-) (put-decimal-at t) put-decimal.Post
+put-decimal-same-length-2 : (t : ℕ) → put-decimal-lts.Need-same-length-2 (calls-put-decimal t) (put-decimal-at t) put-decimal.Post
 put-decimal-same-length-2 t c = search needs
 
 -- src/put.rt:33:1
-put-decimal-returns-2 : (t : ℕ) → put-decimal-lts.Need-returns-2 (
-  put-byte-reads.Asked,
-  put-byte-reads.Learnt,
-  put-decimal-below t,
-  put-decimal.Post,
-) (put-decimal-at t) put-decimal.Post
+put-decimal-returns-2 : (t : ℕ) → put-decimal-lts.Need-returns-2 (calls-put-decimal t) (put-decimal-at t) put-decimal.Post
 put-decimal-returns-2 t c = appends-as _ _ _ _ _ _ (sym (decimal-more _ (c .before .before .before .before .before .before .before .before .if1 .left))) (appends-then _ _ _ _ _ _ _ _ (c .before .before .before .before .before .before .put-decimal .ensures) (c .before .before .put-byte2 .ensures))
 
 pub +put-decimal-spec : {M : Type 1} → statement M
-+put-decimal-spec = close μ-put-decimal λ t. put-decimal-lts.spec (
-  put-byte-reads.Asked,
-  put-byte-reads.Learnt,
-  put-decimal-below t,
-  put-decimal.Post,
-)
++put-decimal-spec = close μ-put-decimal λ t. put-decimal-lts.spec (calls-put-decimal t)
     (put-decimal-at t)
     put-decimal.Post
     (put-decimal-cast-put-byte t)
