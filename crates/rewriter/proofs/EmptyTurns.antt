@@ -1,5 +1,6 @@
--- The ways out of rewrite_equals_empty_set and empty_by_tag of src/equals.rt: a law for each place.
+-- The ways out of rewrite_equals_empty_set and empty_by_tag of src/equals.rt: a law over the tags for each shape of a right side.
 use mathlib.Core.Path.{_≡_, refl, sym, ap, _∙_}
+use mathlib.Core.Bool.{true}
 use mathlib.Core.List.{List, [], _∷_}
 use Prim.Native.Nat.{ℕ}
 use borrow.Author.Tests.{ne-eqb}
@@ -16,88 +17,38 @@ use Rattle.rewriter.specs.Inter.{InterPre, InterPost}
 use Rattle.rewriter.specs.RulesAt.{lookedUp}
 use Rattle.rewriter.specs.declared.decision.Decision.{Decision}
 use Rattle.rewriter.specs.declared.decision.Decision.the-variants as D
-use Rattle.rewriter.proofs.Shapes.{any, OfNode, OfChild, OfTwo, OfEach, OfPair, by-rest, by-node, by-single, by-double, by-each, by-pair, joins-and, joined-many, or-same, two-or-none}
+use Rattle.rewriter.proofs.Shapes.{any, OfNode, OfChild, OfTwo, OfEach, OfPair, by-rest, by-double, by-each, by-pair, joins-and, joined-many, or-same, two-or-none}
+use Rattle.rewriter.proofs.TagRows.{Row, row, isRow, by-children, by-doubles, by-nodes}
+
+-- ---- the tags, each with its place
+-- a right side of the node itself, or without operands
+abbrev pub nodes : List Row
+nodes = row 5 36 ∷ row 402 60 ∷ row 403 60 ∷ row 412 61 ∷ row 410 61 ∷ row 411 61 ∷ []
+
+-- a right side of the child
+abbrev pub children : List Row
+children = row 752 52 ∷ row 753 53 ∷ row 754 54 ∷ row 756 55 ∷ row 757 55 ∷ row 763 55 ∷ []
+
+-- a right side of the two children
+abbrev pub twos : List Row
+twos = row 213 40 ∷ row 214 41 ∷ row 221 42 ∷ row 204 43 ∷ row 205 44 ∷ row 217 45 ∷ row 218 46 ∷ row 219 47 ∷ row 220 48 ∷ row 227 49 ∷ row 215 50 ∷ row 216 51 ∷ []
 
 module _ (s st nx : List ℕ) (k tag : ℕ) (pt : TagPost s st k tag) where
-  pub empty-36 : OfNode rewriteEqualsEmptySet s st nx k tag 5 36
+  pub empty-node : (g p : ℕ) → isRow nodes g p ≡ true → OfNode rewriteEqualsEmptySet s st nx k tag g p
   unfolding onTag lookup classOf formAt typeOf side rewriteEqualsEmptySet
-  empty-36 = by-node rewriteEqualsEmptySet s st nx k tag pt 5 36 refl refl (λ Γ n us ks. refl)
+  empty-node = by-nodes rewriteEqualsEmptySet s st nx k tag pt nodes refl refl (λ Γ n us ks. refl)
+
+  pub empty-child : (g p : ℕ) → isRow children g p ≡ true → OfChild rewriteEqualsEmptySet s st nx k tag g p
+  unfolding onTag lookup classOf formAt typeOf side rewriteEqualsEmptySet
+  empty-child = by-children rewriteEqualsEmptySet s st nx k tag pt children refl refl expression (λ x. refl) (λ Γ n us a. refl)
+
+  pub empty-two : (g p : ℕ) → isRow twos g p ≡ true → OfTwo rewriteEqualsEmptySet s st nx k tag g p
+  unfolding onTag lookup classOf formAt side rewriteEqualsEmptySet
+  empty-two = by-doubles rewriteEqualsEmptySet s st nx k tag pt twos refl refl expression expression (λ x. refl) (λ Γ n us a b. refl)
 
   pub empty-39 : OfEach rewriteEqualsEmptySet s st nx k tag 301 39
   unfolding onTag lookup classOf formAt side rewriteEqualsEmptySet
   empty-39 = by-each rewriteEqualsEmptySet s st nx k tag pt 301 39 refl refl (λ n us m. refl) joins-and (λ Γ n us ks l. ap (to 39) (joined-many 351 (λ a. side 39 Γ a a us) ks l))
-
-  pub empty-40 : OfTwo rewriteEqualsEmptySet s st nx k tag 213 40
-  unfolding onTag lookup classOf formAt side rewriteEqualsEmptySet
-  empty-40 = by-double rewriteEqualsEmptySet s st nx k tag pt 213 40 refl refl expression expression (λ x. refl) (λ Γ n us a b. refl)
-
-  pub empty-41 : OfTwo rewriteEqualsEmptySet s st nx k tag 214 41
-  unfolding onTag lookup classOf formAt side rewriteEqualsEmptySet
-  empty-41 = by-double rewriteEqualsEmptySet s st nx k tag pt 214 41 refl refl expression expression (λ x. refl) (λ Γ n us a b. refl)
-
-  pub empty-42 : OfTwo rewriteEqualsEmptySet s st nx k tag 221 42
-  unfolding onTag lookup classOf formAt side rewriteEqualsEmptySet
-  empty-42 = by-double rewriteEqualsEmptySet s st nx k tag pt 221 42 refl refl expression expression (λ x. refl) (λ Γ n us a b. refl)
-
-  pub empty-43 : OfTwo rewriteEqualsEmptySet s st nx k tag 204 43
-  unfolding onTag lookup classOf formAt side rewriteEqualsEmptySet
-  empty-43 = by-double rewriteEqualsEmptySet s st nx k tag pt 204 43 refl refl expression expression (λ x. refl) (λ Γ n us a b. refl)
-
-  pub empty-44 : OfTwo rewriteEqualsEmptySet s st nx k tag 205 44
-  unfolding onTag lookup classOf formAt side rewriteEqualsEmptySet
-  empty-44 = by-double rewriteEqualsEmptySet s st nx k tag pt 205 44 refl refl expression expression (λ x. refl) (λ Γ n us a b. refl)
-
-  pub empty-45 : OfTwo rewriteEqualsEmptySet s st nx k tag 217 45
-  unfolding onTag lookup classOf formAt side rewriteEqualsEmptySet
-  empty-45 = by-double rewriteEqualsEmptySet s st nx k tag pt 217 45 refl refl expression expression (λ x. refl) (λ Γ n us a b. refl)
-
-  pub empty-46 : OfTwo rewriteEqualsEmptySet s st nx k tag 218 46
-  unfolding onTag lookup classOf formAt side rewriteEqualsEmptySet
-  empty-46 = by-double rewriteEqualsEmptySet s st nx k tag pt 218 46 refl refl expression expression (λ x. refl) (λ Γ n us a b. refl)
-
-  pub empty-47 : OfTwo rewriteEqualsEmptySet s st nx k tag 219 47
-  unfolding onTag lookup classOf formAt side rewriteEqualsEmptySet
-  empty-47 = by-double rewriteEqualsEmptySet s st nx k tag pt 219 47 refl refl expression expression (λ x. refl) (λ Γ n us a b. refl)
-
-  pub empty-48 : OfTwo rewriteEqualsEmptySet s st nx k tag 220 48
-  unfolding onTag lookup classOf formAt side rewriteEqualsEmptySet
-  empty-48 = by-double rewriteEqualsEmptySet s st nx k tag pt 220 48 refl refl expression expression (λ x. refl) (λ Γ n us a b. refl)
-
-  pub empty-49 : OfTwo rewriteEqualsEmptySet s st nx k tag 227 49
-  unfolding onTag lookup classOf formAt side rewriteEqualsEmptySet
-  empty-49 = by-double rewriteEqualsEmptySet s st nx k tag pt 227 49 refl refl expression expression (λ x. refl) (λ Γ n us a b. refl)
-
-  pub empty-50 : OfTwo rewriteEqualsEmptySet s st nx k tag 215 50
-  unfolding onTag lookup classOf formAt side rewriteEqualsEmptySet
-  empty-50 = by-double rewriteEqualsEmptySet s st nx k tag pt 215 50 refl refl expression expression (λ x. refl) (λ Γ n us a b. refl)
-
-  pub empty-51 : OfTwo rewriteEqualsEmptySet s st nx k tag 216 51
-  unfolding onTag lookup classOf formAt side rewriteEqualsEmptySet
-  empty-51 = by-double rewriteEqualsEmptySet s st nx k tag pt 216 51 refl refl expression expression (λ x. refl) (λ Γ n us a b. refl)
-
-  pub empty-52 : OfChild rewriteEqualsEmptySet s st nx k tag 752 52
-  unfolding onTag lookup classOf formAt typeOf side rewriteEqualsEmptySet
-  empty-52 = by-single rewriteEqualsEmptySet s st nx k tag pt 752 52 refl refl expression (λ x. refl) (λ Γ n us a. refl)
-
-  pub empty-53 : OfChild rewriteEqualsEmptySet s st nx k tag 753 53
-  unfolding onTag lookup classOf formAt typeOf side rewriteEqualsEmptySet
-  empty-53 = by-single rewriteEqualsEmptySet s st nx k tag pt 753 53 refl refl expression (λ x. refl) (λ Γ n us a. refl)
-
-  pub empty-54 : OfChild rewriteEqualsEmptySet s st nx k tag 754 54
-  unfolding onTag lookup classOf formAt typeOf side rewriteEqualsEmptySet
-  empty-54 = by-single rewriteEqualsEmptySet s st nx k tag pt 754 54 refl refl expression (λ x. refl) (λ Γ n us a. refl)
-
-  pub empty-55-756 : OfChild rewriteEqualsEmptySet s st nx k tag 756 55
-  unfolding onTag lookup classOf formAt typeOf side rewriteEqualsEmptySet
-  empty-55-756 = by-single rewriteEqualsEmptySet s st nx k tag pt 756 55 refl refl expression (λ x. refl) (λ Γ n us a. refl)
-
-  pub empty-55-757 : OfChild rewriteEqualsEmptySet s st nx k tag 757 55
-  unfolding onTag lookup classOf formAt typeOf side rewriteEqualsEmptySet
-  empty-55-757 = by-single rewriteEqualsEmptySet s st nx k tag pt 757 55 refl refl expression (λ x. refl) (λ Γ n us a. refl)
-
-  pub empty-55-763 : OfChild rewriteEqualsEmptySet s st nx k tag 763 55
-  unfolding onTag lookup classOf formAt typeOf side rewriteEqualsEmptySet
-  empty-55-763 = by-single rewriteEqualsEmptySet s st nx k tag pt 763 55 refl refl expression (λ x. refl) (λ Γ n us a. refl)
 
   pub empty-56 : OfPair rewriteEqualsEmptySet s st nx k tag 304 56
   unfolding onTag lookup classOf formAt side rewriteEqualsEmptySet
@@ -114,26 +65,6 @@ module _ (s st nx : List ℕ) (k tag : ℕ) (pt : TagPost s st k tag) where
   pub empty-59 : OfTwo rewriteEqualsEmptySet s st nx k tag 801 59
   unfolding onTag lookup classOf formAt side rewriteEqualsEmptySet
   empty-59 = by-double rewriteEqualsEmptySet s st nx k tag pt 801 59 refl refl predicate expression (λ x. refl) (λ Γ n us a b. refl)
-
-  pub empty-60-402 : OfNode rewriteEqualsEmptySet s st nx k tag 402 60
-  unfolding onTag lookup classOf formAt typeOf side rewriteEqualsEmptySet
-  empty-60-402 = by-node rewriteEqualsEmptySet s st nx k tag pt 402 60 refl refl (λ Γ n us ks. refl)
-
-  pub empty-60-403 : OfNode rewriteEqualsEmptySet s st nx k tag 403 60
-  unfolding onTag lookup classOf formAt typeOf side rewriteEqualsEmptySet
-  empty-60-403 = by-node rewriteEqualsEmptySet s st nx k tag pt 403 60 refl refl (λ Γ n us ks. refl)
-
-  pub empty-61-412 : OfNode rewriteEqualsEmptySet s st nx k tag 412 61
-  unfolding onTag lookup classOf formAt typeOf side rewriteEqualsEmptySet
-  empty-61-412 = by-node rewriteEqualsEmptySet s st nx k tag pt 412 61 refl refl (λ Γ n us ks. refl)
-
-  pub empty-61-410 : OfNode rewriteEqualsEmptySet s st nx k tag 410 61
-  unfolding onTag lookup classOf formAt typeOf side rewriteEqualsEmptySet
-  empty-61-410 = by-node rewriteEqualsEmptySet s st nx k tag pt 410 61 refl refl (λ Γ n us ks. refl)
-
-  pub empty-61-411 : OfNode rewriteEqualsEmptySet s st nx k tag 411 61
-  unfolding onTag lookup classOf formAt typeOf side rewriteEqualsEmptySet
-  empty-61-411 = by-node rewriteEqualsEmptySet s st nx k tag pt 411 61 refl refl (λ Γ n us ks. refl)
 
   -- an intersection
   pub inter-here : tag ≡ 302 → Here s st nx k → InterPre s st nx k

@@ -1,6 +1,7 @@
--- The ways out of rewrite_finite and finite_restricted_at of src/finite.rt: a law for each place.
+-- The ways out of rewrite_finite and finite_restricted_at of src/finite.rt: a law over the tags for each shape of a right side.
 use mathlib.Core.Path.{_≡_, refl, sym, ap, _∙_}
-use mathlib.Core.List.{List, []}
+use mathlib.Core.Bool.{true}
+use mathlib.Core.List.{List, [], _∷_}
 use Prim.Native.Nat.{ℕ, _+_, _<_}
 use lib.ListN.{getD}
 use borrow.Author.Tests.{ne-eqb}
@@ -18,65 +19,35 @@ use Rattle.rewriter.specs.RulesAt.{finiteRestricted}
 use Rattle.rewriter.specs.FiniteSet.{SetPre, SetPost}
 use Rattle.rewriter.specs.declared.decision.Decision.{Decision}
 use Rattle.rewriter.specs.declared.decision.Decision.the-variants as D
-use Rattle.rewriter.proofs.Shapes.{Double, double, OfNode, OfChild, OfTwo, OfEach, by-rest, by-node, by-single, by-double, by-each, joins-and, or-same, two-here, by-two}
+use Rattle.rewriter.proofs.Shapes.{Double, double, OfNode, OfChild, OfTwo, OfEach, by-rest, by-double, by-each, joins-and, or-same, two-here, by-two}
+use Rattle.rewriter.proofs.TagRows.{Row, row, isRow, by-children, by-nodes}
 use Rattle.rewriter.proofs.LogicTurns.{on-left}
 
+-- ---- the tags, each with its place
+-- a right side of the node itself, or without operands
+abbrev pub nodes : List Row
+nodes = row 407 1 ∷ row 402 2 ∷ row 403 2 ∷ row 401 2 ∷ row 404 3 ∷ row 412 4 ∷ row 5 5 ∷ row 221 10 ∷ row 410 13 ∷ row 411 13 ∷ []
+
+-- a right side of the child
+abbrev pub children : List Row
+children = row 752 7 ∷ row 763 9 ∷ []
+
 module _ (s st nx : List ℕ) (k tag : ℕ) (pt : TagPost s st k tag) where
-  pub finite-1 : OfNode rewriteFinite s st nx k tag 407 1
+  pub finite-node : (g p : ℕ) → isRow nodes g p ≡ true → OfNode rewriteFinite s st nx k tag g p
   unfolding onTag lookup classOf formAt typeOf side rewriteFinite
-  finite-1 = by-node rewriteFinite s st nx k tag pt 407 1 refl refl (λ Γ n us ks. refl)
+  finite-node = by-nodes rewriteFinite s st nx k tag pt nodes refl refl (λ Γ n us ks. refl)
 
-  pub finite-2-402 : OfNode rewriteFinite s st nx k tag 402 2
+  pub finite-child : (g p : ℕ) → isRow children g p ≡ true → OfChild rewriteFinite s st nx k tag g p
   unfolding onTag lookup classOf formAt typeOf side rewriteFinite
-  finite-2-402 = by-node rewriteFinite s st nx k tag pt 402 2 refl refl (λ Γ n us ks. refl)
-
-  pub finite-2-403 : OfNode rewriteFinite s st nx k tag 403 2
-  unfolding onTag lookup classOf formAt typeOf side rewriteFinite
-  finite-2-403 = by-node rewriteFinite s st nx k tag pt 403 2 refl refl (λ Γ n us ks. refl)
-
-  pub finite-2-401 : OfNode rewriteFinite s st nx k tag 401 2
-  unfolding onTag lookup classOf formAt typeOf side rewriteFinite
-  finite-2-401 = by-node rewriteFinite s st nx k tag pt 401 2 refl refl (λ Γ n us ks. refl)
-
-  pub finite-3 : OfNode rewriteFinite s st nx k tag 404 3
-  unfolding onTag lookup classOf formAt typeOf side rewriteFinite
-  finite-3 = by-node rewriteFinite s st nx k tag pt 404 3 refl refl (λ Γ n us ks. refl)
-
-  pub finite-4 : OfNode rewriteFinite s st nx k tag 412 4
-  unfolding onTag lookup classOf formAt typeOf side rewriteFinite
-  finite-4 = by-node rewriteFinite s st nx k tag pt 412 4 refl refl (λ Γ n us ks. refl)
-
-  pub finite-5 : OfNode rewriteFinite s st nx k tag 5 5
-  unfolding onTag lookup classOf formAt typeOf side rewriteFinite
-  finite-5 = by-node rewriteFinite s st nx k tag pt 5 5 refl refl (λ Γ n us ks. refl)
+  finite-child = by-children rewriteFinite s st nx k tag pt children refl refl expression (λ x. refl) (λ Γ n us a. refl)
 
   pub finite-6 : OfEach rewriteFinite s st nx k tag 301 6
   unfolding onTag lookup classOf formAt side rewriteFinite
   finite-6 = by-each rewriteFinite s st nx k tag pt 301 6 refl refl (λ n us m. refl) joins-and (λ Γ n us ks l. refl)
 
-  pub finite-7 : OfChild rewriteFinite s st nx k tag 752 7
-  unfolding onTag lookup classOf formAt typeOf side rewriteFinite
-  finite-7 = by-single rewriteFinite s st nx k tag pt 752 7 refl refl expression (λ x. refl) (λ Γ n us a. refl)
-
   pub finite-8 : OfTwo rewriteFinite s st nx k tag 214 8
   unfolding onTag lookup classOf formAt side rewriteFinite
   finite-8 = by-double rewriteFinite s st nx k tag pt 214 8 refl refl expression expression (λ x. refl) (λ Γ n us a b. refl)
-
-  pub finite-9 : OfChild rewriteFinite s st nx k tag 763 9
-  unfolding onTag lookup classOf formAt typeOf side rewriteFinite
-  finite-9 = by-single rewriteFinite s st nx k tag pt 763 9 refl refl expression (λ x. refl) (λ Γ n us a. refl)
-
-  pub finite-10 : OfNode rewriteFinite s st nx k tag 221 10
-  unfolding onTag lookup classOf formAt typeOf side rewriteFinite
-  finite-10 = by-node rewriteFinite s st nx k tag pt 221 10 refl refl (λ Γ n us ks. refl)
-
-  pub finite-13-410 : OfNode rewriteFinite s st nx k tag 410 13
-  unfolding onTag lookup classOf formAt typeOf side rewriteFinite
-  finite-13-410 = by-node rewriteFinite s st nx k tag pt 410 13 refl refl (λ Γ n us ks. refl)
-
-  pub finite-13-411 : OfNode rewriteFinite s st nx k tag 411 13
-  unfolding onTag lookup classOf formAt typeOf side rewriteFinite
-  finite-13-411 = by-node rewriteFinite s st nx k tag pt 411 13 refl refl (λ Γ n us ks. refl)
 
   -- a comprehension set: by its predicate and its value
   module _ (key : tag ≡ 803) where

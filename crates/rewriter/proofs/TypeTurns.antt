@@ -1,6 +1,7 @@
--- The ways out of rewrite_equals_type of src/equals.rt: a law for each place.
+-- The ways out of rewrite_equals_type of src/equals.rt: a law over the tags for each shape of a right side.
 use mathlib.Core.Path.{_≡_, refl, ap}
-use mathlib.Core.List.{List}
+use mathlib.Core.Bool.{true}
+use mathlib.Core.List.{List, [], _∷_}
 use Prim.Native.Nat.{ℕ}
 use borrow.Author.Tests.{ne-eqb}
 use Rattle.frame.specs.Trees.{head, Tree, node, tagOf}
@@ -14,47 +15,21 @@ use Rattle.emit.proofs.RightSides.{side}
 use Rattle.rewriter.specs.Decides.{Decides}
 use Rattle.rewriter.specs.declared.decision.Decision.the-variants as D
 use Rattle.rewriter.proofs.Shapes.{OfChild, OfTwo, OfEach, by-rest, by-single, by-double, by-each, joins-and, joined-many}
+use Rattle.rewriter.proofs.TagRows.{Row, row, isRow, by-doubles}
+
+-- ---- the tags, each with its place
+-- a right side of the two children
+abbrev pub twos : List Row
+twos = row 213 25 ∷ row 214 26 ∷ row 221 27 ∷ row 217 28 ∷ row 218 29 ∷ row 219 30 ∷ row 220 31 ∷ row 215 32 ∷ row 216 32 ∷ []
 
 module _ (s st nx : List ℕ) (k tag : ℕ) (pt : TagPost s st k tag) where
+  pub type-two : (g p : ℕ) → isRow twos g p ≡ true → OfTwo rewriteEqualsType s st nx k tag g p
+  unfolding onTag lookup classOf formAt side rewriteEqualsType
+  type-two = by-doubles rewriteEqualsType s st nx k tag pt twos refl refl expression expression (λ x. refl) (λ Γ n us a b. refl)
+
   pub type-24 : OfEach rewriteEqualsType s st nx k tag 302 24
   unfolding onTag lookup classOf formAt side rewriteEqualsType
   type-24 = by-each rewriteEqualsType s st nx k tag pt 302 24 refl refl (λ n us m. refl) joins-and (λ Γ n us ks l. ap (to 24) (joined-many 351 (λ a. side 24 Γ a a us) ks l))
-
-  pub type-25 : OfTwo rewriteEqualsType s st nx k tag 213 25
-  unfolding onTag lookup classOf formAt side rewriteEqualsType
-  type-25 = by-double rewriteEqualsType s st nx k tag pt 213 25 refl refl expression expression (λ x. refl) (λ Γ n us a b. refl)
-
-  pub type-26 : OfTwo rewriteEqualsType s st nx k tag 214 26
-  unfolding onTag lookup classOf formAt side rewriteEqualsType
-  type-26 = by-double rewriteEqualsType s st nx k tag pt 214 26 refl refl expression expression (λ x. refl) (λ Γ n us a b. refl)
-
-  pub type-27 : OfTwo rewriteEqualsType s st nx k tag 221 27
-  unfolding onTag lookup classOf formAt side rewriteEqualsType
-  type-27 = by-double rewriteEqualsType s st nx k tag pt 221 27 refl refl expression expression (λ x. refl) (λ Γ n us a b. refl)
-
-  pub type-28 : OfTwo rewriteEqualsType s st nx k tag 217 28
-  unfolding onTag lookup classOf formAt side rewriteEqualsType
-  type-28 = by-double rewriteEqualsType s st nx k tag pt 217 28 refl refl expression expression (λ x. refl) (λ Γ n us a b. refl)
-
-  pub type-29 : OfTwo rewriteEqualsType s st nx k tag 218 29
-  unfolding onTag lookup classOf formAt side rewriteEqualsType
-  type-29 = by-double rewriteEqualsType s st nx k tag pt 218 29 refl refl expression expression (λ x. refl) (λ Γ n us a b. refl)
-
-  pub type-30 : OfTwo rewriteEqualsType s st nx k tag 219 30
-  unfolding onTag lookup classOf formAt side rewriteEqualsType
-  type-30 = by-double rewriteEqualsType s st nx k tag pt 219 30 refl refl expression expression (λ x. refl) (λ Γ n us a b. refl)
-
-  pub type-31 : OfTwo rewriteEqualsType s st nx k tag 220 31
-  unfolding onTag lookup classOf formAt side rewriteEqualsType
-  type-31 = by-double rewriteEqualsType s st nx k tag pt 220 31 refl refl expression expression (λ x. refl) (λ Γ n us a b. refl)
-
-  pub type-32-215 : OfTwo rewriteEqualsType s st nx k tag 215 32
-  unfolding onTag lookup classOf formAt side rewriteEqualsType
-  type-32-215 = by-double rewriteEqualsType s st nx k tag pt 215 32 refl refl expression expression (λ x. refl) (λ Γ n us a b. refl)
-
-  pub type-32-216 : OfTwo rewriteEqualsType s st nx k tag 216 32
-  unfolding onTag lookup classOf formAt side rewriteEqualsType
-  type-32-216 = by-double rewriteEqualsType s st nx k tag pt 216 32 refl refl expression expression (λ x. refl) (λ Γ n us a b. refl)
 
   pub type-33 : OfChild rewriteEqualsType s st nx k tag 755 33
   unfolding onTag lookup classOf formAt typeOf side rewriteEqualsType
