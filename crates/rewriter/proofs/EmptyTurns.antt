@@ -11,13 +11,14 @@ use Rattle.typing.specs.Typing.{typeOf}
 use Rattle.nav.specs.PlaceTables.{TagPost}
 use Rattle.rules.specs.Change.{to, same, onTag}
 use Rattle.rules.specs.EqualsEmptySet.{interEmpty, rewriteEqualsEmptySet}
+use Rattle.emit.proofs.Joins.{and-bytes}
 use Rattle.emit.proofs.RightSides.{side}
 use Rattle.rewriter.specs.Decides.{Here, Decides, Unlike}
 use Rattle.rewriter.specs.Inter.{InterPre, InterPost}
 use Rattle.rewriter.specs.RulesAt.{lookedUp}
 use Rattle.rewriter.specs.declared.decision.Decision.{Decision}
 use Rattle.rewriter.specs.declared.decision.Decision.the-variants as D
-use Rattle.rewriter.proofs.Shapes.{any, OfNode, OfChild, OfTwo, OfEach, OfPair, by-rest, by-double, by-each, by-pair, joins-and, joined-many, or-same, two-or-none}
+use Rattle.rewriter.proofs.Shapes.{any, OfNode, OfChild, OfTwo, OfEach, OfPair, by-rest, by-double, by-each, by-pair, joined-many, or-same, two-or-none}
 use Rattle.rewriter.proofs.TagRows.{Row, row, isRow, by-children, by-doubles, by-nodes}
 
 -- ---- the tags, each with its place
@@ -48,7 +49,7 @@ module _ (s st nx : List ℕ) (k tag : ℕ) (pt : TagPost s st k tag) where
 
   pub empty-39 : OfEach rewriteEqualsEmptySet s st nx k tag 301 39
   unfolding onTag lookup classOf formAt side rewriteEqualsEmptySet
-  empty-39 = by-each rewriteEqualsEmptySet s st nx k tag pt 301 39 refl refl (λ n us m. refl) joins-and (λ Γ n us ks l. ap (to 39) (joined-many 351 (λ a. side 39 Γ a a us) ks l))
+  empty-39 = by-each rewriteEqualsEmptySet s st nx k tag pt 301 39 refl refl (λ n us m. refl) and-bytes (λ Γ n us ks l. ap (to 39) (joined-many 351 (λ a. side 39 Γ a a us) ks l))
 
   pub empty-56 : OfPair rewriteEqualsEmptySet s st nx k tag 304 56
   unfolding onTag lookup classOf formAt side rewriteEqualsEmptySet
@@ -60,7 +61,7 @@ module _ (s st nx : List ℕ) (k tag : ℕ) (pt : TagPost s st k tag) where
 
   pub empty-58 : OfEach rewriteEqualsEmptySet s st nx k tag 305 58
   unfolding onTag lookup classOf formAt side rewriteEqualsEmptySet
-  empty-58 = by-each rewriteEqualsEmptySet s st nx k tag pt 305 58 refl refl (λ n us m. refl) joins-and (λ Γ n us ks l. ap (to 58) (joined-many 351 (λ a. side 58 Γ a a us) ks l))
+  empty-58 = by-each rewriteEqualsEmptySet s st nx k tag pt 305 58 refl refl (λ n us m. refl) and-bytes (λ Γ n us ks l. ap (to 58) (joined-many 351 (λ a. side 58 Γ a a us) ks l))
 
   pub empty-59 : OfTwo rewriteEqualsEmptySet s st nx k tag 801 59
   unfolding onTag lookup classOf formAt side rewriteEqualsEmptySet

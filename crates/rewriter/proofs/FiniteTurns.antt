@@ -13,13 +13,14 @@ use Rattle.nav.specs.PlaceTables.{Table, TagPost}
 use Rattle.nav.proofs.Hops.{place-sorted}
 use Rattle.rules.specs.Change.{to, same, onTag}
 use Rattle.rules.specs.Finite.{finite, finiteLambda, rewriteFinite}
+use Rattle.emit.proofs.Joins.{and-bytes}
 use Rattle.emit.proofs.RightSides.{side}
 use Rattle.rewriter.specs.Decides.{Here, HereTwo, Decides, DecidesTwo}
 use Rattle.rewriter.specs.RulesAt.{finiteRestricted}
 use Rattle.rewriter.specs.FiniteSet.{SetPre, SetPost}
 use Rattle.rewriter.specs.declared.decision.Decision.{Decision}
 use Rattle.rewriter.specs.declared.decision.Decision.the-variants as D
-use Rattle.rewriter.proofs.Shapes.{Double, double, OfNode, OfChild, OfTwo, OfEach, by-rest, by-double, by-each, joins-and, or-same, two-here, by-two}
+use Rattle.rewriter.proofs.Shapes.{Double, double, OfNode, OfChild, OfTwo, OfEach, by-rest, by-double, by-each, or-same, two-here, by-two}
 use Rattle.rewriter.proofs.TagRows.{Row, row, isRow, by-children, by-nodes}
 use Rattle.rewriter.proofs.LogicTurns.{on-left}
 
@@ -43,7 +44,7 @@ module _ (s st nx : List ℕ) (k tag : ℕ) (pt : TagPost s st k tag) where
 
   pub finite-6 : OfEach rewriteFinite s st nx k tag 301 6
   unfolding onTag lookup classOf formAt side rewriteFinite
-  finite-6 = by-each rewriteFinite s st nx k tag pt 301 6 refl refl (λ n us m. refl) joins-and (λ Γ n us ks l. refl)
+  finite-6 = by-each rewriteFinite s st nx k tag pt 301 6 refl refl (λ n us m. refl) and-bytes (λ Γ n us ks l. refl)
 
   pub finite-8 : OfTwo rewriteFinite s st nx k tag 214 8
   unfolding onTag lookup classOf formAt side rewriteFinite

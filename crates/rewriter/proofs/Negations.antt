@@ -1,26 +1,24 @@
 -- The ways out of src/negation.rt.
--- Main results: unequal-20 to unequal-23, unequal-none; not-16 to not-19, not-equal, not-none (on what is negated); not-other, of-inner.
+-- Main results: unequal-20 to unequal-23, unequal-none; not-compared, not-equal, not-none (on what is negated); not-other, of-inner.
 use mathlib.Core.Path.{_≡_, refl, sym, _∙_}
 use mathlib.Core.Bool.{true}
 use mathlib.Core.List.{List, [], _∷_}
 use Prim.Native.Nat.{ℕ, _+_, _<_}
 use lib.ListN.{getD}
 use borrow.Author.Tests.{ne-eqb}
-use Rattle.frame.specs.Types.{Ty}
-use Rattle.frame.specs.Trees.{head, Tree, node, nil, cons, tagOf, leaf, two}
+use Rattle.frame.specs.Trees.{head, Tree, node, tagOf, leaf, two}
 use Rattle.frame.specs.Tags.{predicate, expression, lookup, classOf, formAt}
 use Rattle.frame.specs.Operators.{#Equal, #True, #False}
-use Rattle.frame.specs.Places.{Ctx, under}
 use Rattle.nav.specs.PlaceTables.{TagPost}
 use Rattle.rules.specs.Change.{to, same, onTag, with1}
 use Rattle.rules.specs.Negation.{rewriteNot, rewriteNotInner}
-use Rattle.emit.proofs.RightSides.{sides, isIn, side}
-use Rattle.rewriter.specs.Decision.{Bound}
+use Rattle.emit.proofs.RightSides.{side}
 use Rattle.rewriter.specs.Decides.{Here, HereTwo, DecidesOne, DecidesTwo, Unlike}
 use Rattle.rewriter.specs.RulesAt.{unequal}
 use Rattle.rewriter.specs.declared.decision.Decision.{Decision}
 use Rattle.rewriter.specs.declared.decision.Decision.the-variants as D
-use Rattle.rewriter.proofs.Shapes.{Takes, by-rest, by-other, by-double, two-here, by-two}
+use Rattle.rewriter.proofs.Shapes.{OfTwo, by-rest, by-other, two-here, by-two}
+use Rattle.rewriter.proofs.TagRows.{Row, row, isRow, by-doubles}
 use Rattle.rewriter.proofs.LogicTurns.{on-left, on-right-at-left}
 use Rattle.rewriter.proofs.Descents.{here-child, by-child}
 
@@ -83,30 +81,16 @@ module _ (s st nx : List ℕ) (a b : ℕ) (right : ℕ) (pr : TagPost s st b rig
         }
 
 -- ---- by the tag of what is negated
+-- the comparisons, each with its place
+abbrev pub comparisons : List Row
+comparisons = row 104 16 ∷ row 106 17 ∷ row 105 18 ∷ row 103 19 ∷ []
+
 module _ (s st nx : List ℕ) (k tag : ℕ) (pt : TagPost s st k tag) where
+  pub not-compared : (g p : ℕ) → isRow comparisons g p ≡ true → OfTwo (λ Γ. rewriteNotInner) s st nx k tag g p
+  unfolding onTag lookup classOf formAt side
+  not-compared = by-doubles (λ Γ. rewriteNotInner) s st nx k tag pt comparisons refl refl expression expression (λ x. refl) (λ Γ n us a b. refl)
+
   module _ (j : ℕ) (ej : k + 1 < 2048 → j ≡ getD nx (k + 1) 0) where
-    -- a comparison
-    compared : (g place : ℕ) → Bound place g → isIn sides place ≡ true → Takes g (expression ∷ expression ∷ [])
-        → ((Γ : Ctx) (n : ℕ) (us : List Ty) (a b : Tree) → rewriteNotInner (node (head g n us) (cons a (cons b nil))) ≡ to place (side place (under g us Γ) a b us))
-        → tag ≡ g → (r : Decision) → r ≡ D.Fixed place place (k + 1) j k → DecidesOne rewriteNotInner s st nx k r
-    compared g place bd has tk ans key = by-double (λ Γ. rewriteNotInner) s st nx k tag pt g place bd has expression expression tk ans key j ej
-
-    pub not-16 : tag ≡ 104 → (r : Decision) → r ≡ D.Fixed 16 16 (k + 1) j k → DecidesOne rewriteNotInner s st nx k r
-    unfolding onTag lookup classOf formAt side
-    not-16 = compared 104 16 refl refl (λ x. refl) (λ Γ n us a b. refl)
-
-    pub not-17 : tag ≡ 106 → (r : Decision) → r ≡ D.Fixed 17 17 (k + 1) j k → DecidesOne rewriteNotInner s st nx k r
-    unfolding onTag lookup classOf formAt side
-    not-17 = compared 106 17 refl refl (λ x. refl) (λ Γ n us a b. refl)
-
-    pub not-18 : tag ≡ 105 → (r : Decision) → r ≡ D.Fixed 18 18 (k + 1) j k → DecidesOne rewriteNotInner s st nx k r
-    unfolding onTag lookup classOf formAt side
-    not-18 = compared 105 18 refl refl (λ x. refl) (λ Γ n us a b. refl)
-
-    pub not-19 : tag ≡ 103 → (r : Decision) → r ≡ D.Fixed 19 19 (k + 1) j k → DecidesOne rewriteNotInner s st nx k r
-    unfolding onTag lookup classOf formAt side
-    not-19 = compared 103 19 refl refl (λ x. refl) (λ Γ n us a b. refl)
-
     -- ¬ a = b: at the two children
     pub equation-here : tag ≡ 101 → Here s st nx k → HereTwo s st nx (k + 1) j
     unfolding lookup classOf formAt

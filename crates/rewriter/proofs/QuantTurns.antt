@@ -20,13 +20,14 @@ use Rattle.rules.specs.Simplify.{simplifyForall, simplifyExists}
 use Rattle.rules.specs.Negation.{isEmpty, rewritePartition}
 use Rattle.emit.specs.Template.{filled}
 use Rattle.emit.specs.Programs.{template}
+use Rattle.emit.proofs.Joins.{and-bytes, or-bytes}
 use Rattle.emit.proofs.RightSides.{side, right-side}
 use Rattle.rewriter.specs.Decision.{filling, Bound, joint, FixedMeans, Means}
 use Rattle.rewriter.specs.Decides.{Here, Decides}
 use Rattle.rewriter.specs.RulesAt.{partitionOf, forallOf, existsOf}
 use Rattle.rewriter.specs.declared.decision.Decision.{Decision}
 use Rattle.rewriter.specs.declared.decision.Decision.the-variants as D
-use Rattle.rewriter.proofs.Shapes.{Takes, single, double, any, place-few, fixed-at, Counts, few-of, Joins, each-means, joins-and, joins-or, by-other}
+use Rattle.rewriter.proofs.Shapes.{Takes, single, double, any, place-few, fixed-at, Counts, few-of, Joins, each-means, by-other}
 use Rattle.rewriter.proofs.Descents.{here-child}
 
 -- ---- partition(S), partition(S, T)
@@ -145,7 +146,7 @@ module _ (s st nx : List ℕ) (k tag : ℕ) (pt : TagPost s st k tag) where
     pub out-85 : tag ≡ 851 → body ≡ 351 → (r : Decision) → r ≡ D.Each 85 (k + 1) k → Decides forallOf s st nx k r
     unfolding onTag lookup classOf formAt side
     out-85 key z =
-        each-of-body body pb 851 key (λ x. refl) forallOf 351 85 z (λ n us m. refl) joins-and refl (λ Γ i us j vs ks. refl) (λ Δ us a. sym (right-side 85 refl Δ a a us))
+        each-of-body body pb 851 key (λ x. refl) forallOf 351 85 z (λ n us m. refl) and-bytes refl (λ Γ i us j vs ks. refl) (λ Δ us a. sym (right-side 85 refl Δ a a us))
 
     pub forall-none : tag ≡ 851 → (body ≡ 351 → ⊥) → Decides forallOf s st nx k D.Rests
     unfolding onTag lookup classOf formAt
@@ -157,7 +158,7 @@ module _ (s st nx : List ℕ) (k tag : ℕ) (pt : TagPost s st k tag) where
     pub out-86 : tag ≡ 852 → body ≡ 352 → (r : Decision) → r ≡ D.Each 86 (k + 1) k → Decides existsOf s st nx k r
     unfolding onTag lookup classOf formAt side
     out-86 key z =
-        each-of-body body pb 852 key (λ x. refl) existsOf 352 86 z (λ n us m. refl) joins-or refl (λ Γ i us j vs ks. refl) (λ Δ us a. sym (right-side 86 refl Δ a a us))
+        each-of-body body pb 852 key (λ x. refl) existsOf 352 86 z (λ n us m. refl) or-bytes refl (λ Γ i us j vs ks. refl) (λ Δ us a. sym (right-side 86 refl Δ a a us))
 
     pub out-87 : tag ≡ 852 → body ≡ 251 → (j : ℕ) → (k + 1 + 1 < 2048 → j ≡ getD nx (k + 1 + 1) 0) → (r : Decision) → r ≡ D.Fixed 87 87 (k + 1 + 1) j k
         → Decides existsOf s st nx k r

@@ -4,15 +4,15 @@
 use mathlib.Core.Path.{_≡_, refl, sym, ap, ap₂, _∙_}
 use mathlib.Core.Bool.{Bool, true, false, not, _&&_, _||_}
 use mathlib.Core.List.{List, [], _∷_, _++_}
-use Prim.Native.Nat.{ℕ, _+_, _/_, _≤_, _<_}
+use Prim.Native.Nat.{ℕ, _+_, _≤_, _<_}
 use native.Mathlib.Omega.{arith}
 use lib.ListN.{getD}
 use lib.Dec.{eqb, leb, ltb}
 use borrow.Author.Tests.{leb-true, ne-eqb}
 use Rattle.frame.specs.Types.{Ty}
 use Rattle.frame.specs.Trees.{head, Tree, node, Forest, nil, cons, count, tagOf, many, mapF}
-use Rattle.frame.specs.Tags.{Sort, formOf, sortsOf, pick, lookup, classOf, formAt, inRange}
-use Rattle.frame.specs.Encoding.{encNumber, encTys, encHead, enc, encs}
+use Rattle.frame.specs.Tags.{Sort, formOf, sortsOf, pick, inRange}
+use Rattle.frame.specs.Encoding.{encNumber, enc, encs}
 use Rattle.frame.specs.WellFormed.{Wfs, numberIn}
 use Rattle.frame.specs.Places.{Ctx, under, found, find}
 use Rattle.frame.proofs.Splices.{find-lt}
@@ -232,14 +232,6 @@ each-bytes place Δ us f h (cons a ks) = ap₂ (λ (x y : List ℕ). x ++ y) (h 
 -- the bytes of an operator over a list
 abbrev pub Joins : ℕ → Type 0
 Joins o = (ls : Forest) → enc (many o ls) ≡ encNumber 2 o ++ (count ls ∷ encs ls)
-
-pub joins-and : Joins 351
-unfolding enc encHead encTys encNumber lookup classOf formAt
-joins-and ls = let z : count ls / 1 ≡ count ls = omega arith in rw z
-
-pub joins-or : Joins 352
-unfolding enc encHead encTys encNumber lookup classOf formAt
-joins-or ls = let z : count ls / 1 ≡ count ls = omega arith in rw z
 
 pub joined-many : (o : ℕ) (f : Tree → Tree) (ks : Forest) → 2 ≤ count ks → joined o (mapF f ks) ≡ many o (mapF f ks)
 joined-many o f nil h = absurd (omega arith)

@@ -11,10 +11,11 @@ use Rattle.typing.specs.Typing.{typeOf}
 use Rattle.nav.specs.PlaceTables.{TagPost}
 use Rattle.rules.specs.Change.{to, same, onTag}
 use Rattle.rules.specs.EqualsType.{rewriteEqualsType}
+use Rattle.emit.proofs.Joins.{and-bytes}
 use Rattle.emit.proofs.RightSides.{side}
 use Rattle.rewriter.specs.Decides.{Decides}
 use Rattle.rewriter.specs.declared.decision.Decision.the-variants as D
-use Rattle.rewriter.proofs.Shapes.{OfChild, OfTwo, OfEach, by-rest, by-single, by-double, by-each, joins-and, joined-many}
+use Rattle.rewriter.proofs.Shapes.{OfChild, OfTwo, OfEach, by-rest, by-single, by-double, by-each, joined-many}
 use Rattle.rewriter.proofs.TagRows.{Row, row, isRow, by-doubles}
 
 -- ---- the tags, each with its place
@@ -29,7 +30,7 @@ module _ (s st nx : List ℕ) (k tag : ℕ) (pt : TagPost s st k tag) where
 
   pub type-24 : OfEach rewriteEqualsType s st nx k tag 302 24
   unfolding onTag lookup classOf formAt side rewriteEqualsType
-  type-24 = by-each rewriteEqualsType s st nx k tag pt 302 24 refl refl (λ n us m. refl) joins-and (λ Γ n us ks l. ap (to 24) (joined-many 351 (λ a. side 24 Γ a a us) ks l))
+  type-24 = by-each rewriteEqualsType s st nx k tag pt 302 24 refl refl (λ n us m. refl) and-bytes (λ Γ n us ks l. ap (to 24) (joined-many 351 (λ a. side 24 Γ a a us) ks l))
 
   pub type-33 : OfChild rewriteEqualsType s st nx k tag 755 33
   unfolding onTag lookup classOf formAt typeOf side rewriteEqualsType
