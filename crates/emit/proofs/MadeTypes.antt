@@ -2,7 +2,7 @@
 use mathlib.Core.Path.{_≡_, refl, sym, ap, _∙_, subst}
 use mathlib.Core.Bool.{Bool, true, false}
 use mathlib.Core.List.{List, [], _∷_, _++_}
-use Prim.Native.Nat.{ℕ, zero, suc, _+_, _≤_, _<_}
+use Prim.Native.Nat.{ℕ, zero, suc, _+_, _<_}
 use native.Mathlib.Omega.{arith}
 use lib.ListN.{length, getD}
 use Rattle.frame.specs.Types.{Ty, bool, int, given, pow, prod}
@@ -20,15 +20,15 @@ use Rattle.emit.specs.Programs.{modeCode}
 use Rattle.emit.specs.Holds.{boolAt, MadeFrom, HasParts, PartAt, CanMake, inner, powered, powerCode, InnerAt, MadeType, MadeExpression}
 use Rattle.emit.specs.declared.type_expression.Written.{Written}
 use Rattle.emit.proofs.Puts.{puts-then, puts-as, between-span}
-use Rattle.emit.proofs.TypeBytes.{type-at, pow-bytes}
+use Rattle.emit.proofs.TypeBytes.{lead, lead-is, type-at, pow-bytes}
 
 -- ---- a power's type and a product's types, further on
-abbrev typeByte : Ty → ℕ
-typeByte bool = 0
-typeByte int = 1
-typeByte (given n) = 2
-typeByte (pow t) = 3
-typeByte (prod t u) = 4
+product-of : (t : Ty) → lead t ≡ 4 → (u : Ty) × (v : Ty) × (t ≡ prod u v)
+product-of bool z = absurd (omega arith)
+product-of int z = absurd (omega arith)
+product-of (given n) z = absurd (omega arith)
+product-of (pow t) z = absurd (omega arith)
+product-of (prod t u) z = (t, u, refl)
 
 pow-below : (s : List ℕ) (at : ℕ) (t : Ty) → TypeAt s at (pow t) → TypeAt s (at + 1) t
 unfolding encTy
@@ -44,33 +44,16 @@ prod-second s at t u h = type-at u (span-right (encTy t) (encTy u) (span-first h
 
 -- ---- a type's parts: `element_at`, `first_at`, `second_at`
 module _ (s : List ℕ) (at : ℕ) where
-  -- the first byte says which type it is
-  byte-of : (t : Ty) → TypeAt s at t → getD s at 0 ≡ typeByte t
-  unfolding encTy
-  byte-of bool h = span-first h .byte
-  byte-of int h = span-first h .byte
-  byte-of (given n) h = span-first h .byte
-  byte-of (pow t) h = span-first h .byte
-  byte-of (prod t u) h = span-first h .byte
-
-  within-of : (t : Ty) → TypeAt s at t → at < length s
-  unfolding encTy
-  within-of bool h = span-first h .within
-  within-of int h = span-first h .within
-  within-of (given n) h = span-first h .within
-  within-of (pow t) h = span-first h .within
-  within-of (prod t u) h = span-first h .within
-
   pub parts-within : HasParts s at → at < length s
-  parts-within w = within-of (w .0) (w .1 .1)
+  parts-within w = lead-is (w .0) (w .1 .1) .1
 
   pub parts-has : HasParts s at → HasType s at
   parts-has w = (w .0, w .1 .1)
 
   pub element-below : getD s at 0 ≡ 3 → PartAt element s at (at + 1)
-  element-below e = record { there = λ t h. go t (h .1) (sym (byte-of t (h .1)) ∙ e) }
+  element-below e = record { there = λ t h. go t (h .1) (sym (lead-is t (h .1) .0) ∙ e) }
     where
-      go : (t : Ty) → TypeAt s at t → typeByte t ≡ 3 → TypeAt s (at + 1) (element t)
+      go : (t : Ty) → TypeAt s at t → lead t ≡ 3 → TypeAt s (at + 1) (element t)
       go bool h z = absurd (omega arith)
       go int h z = absurd (omega arith)
       go (given n) h z = absurd (omega arith)
@@ -78,44 +61,39 @@ module _ (s : List ℕ) (at : ℕ) where
       go (prod t u) h z = absurd (omega arith)
 
   pub element-none : (getD s at 0 ≡ 3 → ⊥) → PartAt element s at boolAt
-  element-none d = record { there = λ t h. go t (h .0) (λ z. d (byte-of t (h .1) ∙ z)) }
+  element-none d = record { there = λ t h. go t (h .0) (λ z. d (lead-is t (h .1) .0 ∙ z)) }
     where
-      go : (t : Ty) → TypeAt s boolAt bool → (typeByte t ≡ 3 → ⊥) → TypeAt s boolAt (element t)
+      go : (t : Ty) → TypeAt s boolAt bool → (lead t ≡ 3 → ⊥) → TypeAt s boolAt (element t)
       go bool h z = h
       go int h z = h
       go (given n) h z = h
       go (pow t) h z = absurd (z refl)
       go (prod t u) h z = h
 
+  module _ (e : getD s at 0 ≡ 4) (t : Ty) (h : TypeAt s at t) where
+    is-product : (u : Ty) × (v : Ty) × (t ≡ prod u v) × TypeAt s at (prod u v)
+    is-product =
+        let o = product-of t (sym (lead-is t h .0) ∙ e) in
+        (o .0, o .1, o .2, subst (TypeAt s at) (o .2) h)
+
   pub first-below : getD s at 0 ≡ 4 → PartAt first s at (at + 1)
-  first-below e = record { there = λ t h. go t (h .1) (sym (byte-of t (h .1)) ∙ e) }
-    where
-      go : (t : Ty) → TypeAt s at t → typeByte t ≡ 4 → TypeAt s (at + 1) (first t)
-      go bool h z = absurd (omega arith)
-      go int h z = absurd (omega arith)
-      go (given n) h z = absurd (omega arith)
-      go (pow t) h z = absurd (omega arith)
-      go (prod t u) h z = prod-first s at t u h
+  first-below e = record { there = λ t h. let o = is-product e t (h .1) in rw (o .2) (prod-first s at (o .0) (o .1) (o .3)) }
 
   -- a product has a first type, behind which the second stands
   pub product-has : getD s at 0 ≡ 4 → HasParts s at → HasType s (at + 1)
   product-has e w = (first (w .0), first-below e .there (w .0) (w .1))
 
   pub second-below : getD s at 0 ≡ 4 → (p : ℕ) → TypeEnd s (at + 1) p → PartAt second s at p
-  second-below e p l = record { there = λ t h. go t (h .1) (sym (byte-of t (h .1)) ∙ e) }
-    where
-      go : (t : Ty) → TypeAt s at t → typeByte t ≡ 4 → TypeAt s p (second t)
-      go bool h z = absurd (omega arith)
-      go int h z = absurd (omega arith)
-      go (given n) h z = absurd (omega arith)
-      go (pow t) h z = absurd (omega arith)
-      go (prod t u) h z = subst (λ (i : ℕ). TypeAt s i u) (sym (l .end t (prod-first s at t u h))) (prod-second s at t u h)
+  second-below e p l = record {
+    there = λ t h. (let o = is-product e t (h .1) in
+        rw (o .2, l .end (o .0) (prod-first s at (o .0) (o .1) (o .3))) (prod-second s at (o .0) (o .1) (o .3)));
+  }
 
   module _ (d : getD s at 0 ≡ 4 → ⊥) where
     no-product : (t : Ty) → TypeAt s at t → (first t ≡ bool) × (second t ≡ bool)
-    no-product t h = go t (λ z. d (byte-of t h ∙ z))
+    no-product t h = go t (λ z. d (lead-is t h .0 ∙ z))
       where
-        go : (t : Ty) → (typeByte t ≡ 4 → ⊥) → (first t ≡ bool) × (second t ≡ bool)
+        go : (t : Ty) → (lead t ≡ 4 → ⊥) → (first t ≡ bool) × (second t ≡ bool)
         go bool z = (refl, refl)
         go int z = (refl, refl)
         go (given n) z = (refl, refl)
@@ -129,20 +107,32 @@ module _ (s : List ℕ) (at : ℕ) where
     second-none = record { there = λ t h. subst (λ (u : Ty). TypeAt s boolAt u) (sym (no-product t (h .1) .1)) (h .0) }
 
 -- ---- `inner_at`
+-- a mode by its code
+abbrev modeOf : ℕ → Mode
+modeOf zero = whole
+modeOf (suc zero) = ofDom
+modeOf (suc (suc zero)) = ofRan
+modeOf (suc (suc (suc zero))) = ofElement
+modeOf (suc (suc (suc (suc zero)))) = ofElements
+modeOf (suc (suc (suc (suc (suc k))))) = ofSource
+
+mode-own : (m : Mode) → m ≡ modeOf (modeCode m)
+mode-own whole = refl
+mode-own ofDom = refl
+mode-own ofRan = refl
+mode-own ofElement = refl
+mode-own ofElements = refl
+mode-own ofSource = refl
+
+mode-by : (m : Mode) (c k : ℕ) → c ≡ k → c ≡ modeCode m → m ≡ modeOf k
+mode-by m c k z e = mode-own m ∙ ap modeOf (sym e ∙ z)
+
 module _ (s : List ℕ) (at c : ℕ) where
   pub make-has : CanMake s at c → HasParts s at
   make-has w = (w .1, w .3)
 
   pub inner-whole : c ≡ 0 → InnerAt s at c at
-  inner-whole e = record { there = λ m t k h. go m t k (h .1) }
-    where
-      go : (m : Mode) (t : Ty) → c ≡ modeCode m → TypeAt s at t → TypeAt s at (inner m t)
-      go whole t k h = h
-      go ofDom t k h = absurd (omega arith)
-      go ofRan t k h = absurd (omega arith)
-      go ofElement t k h = absurd (omega arith)
-      go ofElements t k h = absurd (omega arith)
-      go ofSource t k h = absurd (omega arith)
+  inner-whole e = record { there = λ m t k h. rw (mode-by m c 0 e k) (h .1) }
 
   module _ (e : ℕ) (pe : PartAt element s at e) where
     element-made : (t : Ty) → MadeFrom s at t → MadeFrom s e (element t)
@@ -152,37 +142,13 @@ module _ (s : List ℕ) (at c : ℕ) where
     element-has w = (element (w .1), element-made (w .1) (w .3))
 
     pub inner-ran : c ≡ 2 → (p : ℕ) → PartAt second s e p → InnerAt s at c p
-    inner-ran z p q = record { there = λ m t k h. go m t k h }
-      where
-        go : (m : Mode) (t : Ty) → c ≡ modeCode m → MadeFrom s at t → TypeAt s p (inner m t)
-        go whole t k h = absurd (omega arith)
-        go ofDom t k h = absurd (omega arith)
-        go ofRan t k h = q .there (element t) (element-made t h)
-        go ofElement t k h = absurd (omega arith)
-        go ofElements t k h = absurd (omega arith)
-        go ofSource t k h = absurd (omega arith)
+    inner-ran z p q = record { there = λ m t k h. rw (mode-by m c 2 z k) (q .there (element t) (element-made t h)) }
 
     pub inner-element : c ≡ 3 → InnerAt s at c e
-    inner-element z = record { there = λ m t k h. go m t k h }
-      where
-        go : (m : Mode) (t : Ty) → c ≡ modeCode m → MadeFrom s at t → TypeAt s e (inner m t)
-        go whole t k h = absurd (omega arith)
-        go ofDom t k h = absurd (omega arith)
-        go ofRan t k h = absurd (omega arith)
-        go ofElement t k h = pe .there t h
-        go ofElements t k h = absurd (omega arith)
-        go ofSource t k h = absurd (omega arith)
+    inner-element z = record { there = λ m t k h. rw (mode-by m c 3 z k) (pe .there t h) }
 
     pub inner-elements : c ≡ 4 → (p : ℕ) → PartAt element s e p → InnerAt s at c p
-    inner-elements z p q = record { there = λ m t k h. go m t k h }
-      where
-        go : (m : Mode) (t : Ty) → c ≡ modeCode m → MadeFrom s at t → TypeAt s p (inner m t)
-        go whole t k h = absurd (omega arith)
-        go ofDom t k h = absurd (omega arith)
-        go ofRan t k h = absurd (omega arith)
-        go ofElement t k h = absurd (omega arith)
-        go ofElements t k h = q .there (element t) (element-made t h)
-        go ofSource t k h = absurd (omega arith)
+    inner-elements z p q = record { there = λ m t k h. rw (mode-by m c 4 z k) (q .there (element t) (element-made t h)) }
 
     pub inner-rest : (c ≡ 0 → ⊥) → (c ≡ 2 → ⊥) → (c ≡ 3 → ⊥) → (c ≡ 4 → ⊥) → (p : ℕ) → PartAt first s e p → InnerAt s at c p
     inner-rest x y z u p q = record { there = λ m t k h. go m t k h }

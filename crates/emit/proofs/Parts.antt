@@ -1,19 +1,19 @@
 -- A part of a template by the first byte of its code; the ways out of `put_part`, and the turns of `run`.
 use mathlib.Core.Path.{_≡_, refl, sym, ap, _∙_, subst}
-use mathlib.Core.Bool.{Bool, true, false}
 use mathlib.Core.List.{List, [], _∷_, _++_, append-assoc, append-nil}
 use Prim.Native.Nat.{ℕ, zero, suc, _+_, _≤_, _<_}
 use native.Mathlib.Omega.{arith}
-use lib.ListN.{length, getD, length-append}
-use Rattle.frame.specs.Encoding.{encNumber, encTys, encTy, enc}
+use lib.ListN.{length, getD}
+use Rattle.frame.specs.Types.{Ty}
+use Rattle.frame.specs.Encoding.{encNumber, enc}
 use Rattle.frame.specs.Spans.{Spans}
-use Rattle.frame.proofs.Spans.{FirstOf, span-first, span-left, span-right}
+use Rattle.frame.proofs.Spans.{span-first, span-left, span-right}
 use Rattle.frame.proofs.Numbers.{number-length}
 use Rattle.emit.specs.Out.{Puts}
 use Rattle.emit.specs.Copied.{between}
-use Rattle.emit.specs.Template.{Mode, whole, ofDom, ofRan, ofElement, ofElements, ofSource, Part, tag, byte, operand, type, expression, binders, Filling, operandAt, typeAt, partBytes, filled}
+use Rattle.emit.specs.Template.{Mode, whole, Part, tag, byte, operand, type, expression, binders, Filling, operandAt, typeAt, partBytes, filled}
 use Rattle.emit.specs.Programs.{modeCode, opOf, code, program}
-use Rattle.emit.specs.Holds.{fromOf, endOf, typeOfOperand, CanMake, MadeType, MadeExpression, HoldsPart, Holds, CodeAt, PartReady, PartPut, sizeOf, ProgramAt, Ready, Ran}
+use Rattle.emit.specs.Holds.{fromOf, endOf, typeOfOperand, MadeFrom, CanMake, MadeType, MadeExpression, HoldsPart, Holds, CodeAt, PartReady, PartPut, sizeOf, ProgramAt, Ready, Ran}
 use Rattle.emit.specs.declared.template.Ranges.{Ranges}
 use Rattle.emit.proofs.Puts.{puts-nil, puts-then, puts-as, between-span}
 
@@ -58,45 +58,25 @@ size-is (expression m i) = refl
 size-is binders = refl
 
 -- ---- the part by its first byte
-is-tag : (p : Part) → opOf p ≡ 1 → (x : ℕ) × (p ≡ tag x)
-is-tag (tag x) e = (x, refl)
-is-tag (byte x) e = absurd (omega arith)
-is-tag (operand i) e = absurd (omega arith)
-is-tag (type m i) e = absurd (omega arith)
-is-tag (expression m i) e = absurd (omega arith)
-is-tag binders e = absurd (omega arith)
+abbrev Is : ℕ → Part → Type 0
+Is zero p = ⊥
+Is (suc zero) p = (x : ℕ) × (p ≡ tag x)
+Is (suc (suc zero)) p = (x : ℕ) × (p ≡ byte x)
+Is (suc (suc (suc zero))) p = (i : ℕ) × (p ≡ operand i)
+Is (suc (suc (suc (suc zero)))) p = (m : Mode) × (i : ℕ) × (p ≡ type m i)
+Is (suc (suc (suc (suc (suc zero))))) p = (m : Mode) × (i : ℕ) × (p ≡ expression m i)
+Is (suc (suc (suc (suc (suc (suc k)))))) p = p ≡ binders
 
-is-byte : (p : Part) → opOf p ≡ 2 → (x : ℕ) × (p ≡ byte x)
-is-byte (tag x) e = absurd (omega arith)
-is-byte (byte x) e = (x, refl)
-is-byte (operand i) e = absurd (omega arith)
-is-byte (type m i) e = absurd (omega arith)
-is-byte (expression m i) e = absurd (omega arith)
-is-byte binders e = absurd (omega arith)
+is-own : (p : Part) → Is (opOf p) p
+is-own (tag x) = (x, refl)
+is-own (byte x) = (x, refl)
+is-own (operand i) = (i, refl)
+is-own (type m i) = (m, i, refl)
+is-own (expression m i) = (m, i, refl)
+is-own binders = refl
 
-is-operand : (p : Part) → opOf p ≡ 3 → (i : ℕ) × (p ≡ operand i)
-is-operand (tag x) e = absurd (omega arith)
-is-operand (byte x) e = absurd (omega arith)
-is-operand (operand i) e = (i, refl)
-is-operand (type m i) e = absurd (omega arith)
-is-operand (expression m i) e = absurd (omega arith)
-is-operand binders e = absurd (omega arith)
-
-is-type : (p : Part) → opOf p ≡ 4 → (m : Mode) × (i : ℕ) × (p ≡ type m i)
-is-type (tag x) e = absurd (omega arith)
-is-type (byte x) e = absurd (omega arith)
-is-type (operand i) e = absurd (omega arith)
-is-type (type m i) e = (m, i, refl)
-is-type (expression m i) e = absurd (omega arith)
-is-type binders e = absurd (omega arith)
-
-is-expression : (p : Part) → opOf p ≡ 5 → (m : Mode) × (i : ℕ) × (p ≡ expression m i)
-is-expression (tag x) e = absurd (omega arith)
-is-expression (byte x) e = absurd (omega arith)
-is-expression (operand i) e = absurd (omega arith)
-is-expression (type m i) e = absurd (omega arith)
-is-expression (expression m i) e = (m, i, refl)
-is-expression binders e = absurd (omega arith)
+is-by : (p : Part) (k : ℕ) → opOf p ≡ k → Is k p
+is-by p k e = subst (λ (j : ℕ). Is j p) e (is-own p)
 
 is-binders : (p : Part) → (opOf p ≡ 1 → ⊥) → (opOf p ≡ 2 → ⊥) → (opOf p ≡ 3 → ⊥) → (opOf p ≡ 4 → ⊥) → (opOf p ≡ 5 → ⊥) → p ≡ binders
 is-binders (tag x) a b c d e = absurd (a refl)
@@ -174,18 +154,18 @@ module _ (g : List ℕ) (at : ℕ) (s types : List ℕ) (r : Ranges) where
 
   pub tag-ready : PartReady g at s types r → getD g at 0 ≡ 1 → at + 3 ≤ length g
   tag-ready h e =
-      let v = is-tag (h .0) (op-of (h .0) (h .2) 1 e) in
+      let v = is-by (h .0) 1 (op-of (h .0) (h .2) 1 e) in
       tag-code g at (v .0) (as-part (h .0) _ (h .1) (v .1) (h .2) (h .3) .0) .0
 
   pub byte-ready : PartReady g at s types r → getD g at 0 ≡ 2 → at + 2 ≤ length g
   byte-ready h e =
-      let v = is-byte (h .0) (op-of (h .0) (h .2) 2 e) in
+      let v = is-by (h .0) 2 (op-of (h .0) (h .2) 2 e) in
       byte-code g at (v .0) (as-part (h .0) _ (h .1) (v .1) (h .2) (h .3) .0) .0
 
   pub operand-ready : PartReady g at s types r → getD g at 0 ≡ 3
       → (at + 2 ≤ length g) × (fromOf r (getD g (at + 1) 0) ≤ endOf r (getD g (at + 1) 0)) × (endOf r (getD g (at + 1) 0) ≤ length s)
   operand-ready h e =
-      let v = is-operand (h .0) (op-of (h .0) (h .2) 3 e) in
+      let v = is-by (h .0) 3 (op-of (h .0) (h .2) 3 e) in
       let w = as-part (h .0) _ (h .1) (v .1) (h .2) (h .3) in
       let u = operand-code g at (v .0) (w .0) in
       let z = w .1 in (
@@ -194,19 +174,23 @@ module _ (g : List ℕ) (at : ℕ) (s types : List ℕ) (r : Ranges) where
         subst (λ (i : ℕ). endOf r i ≤ length s) (sym (u .1)) (z .within),
       )
 
+  -- an operand's type, where the code has found it
+  made-from : (at′ c i : ℕ) (t : Ty) → at′ ≡ typeOfOperand r c → c ≡ i → MadeFrom types (typeOfOperand r i) t → MadeFrom types at′ t
+  made-from at′ c i t y d h = subst (λ (j : ℕ). MadeFrom types j t) (sym (y ∙ ap (typeOfOperand r) d)) h
+
   made-ready : (m : Mode) (i b c : ℕ) (f : Filling) → b ≡ modeCode m → c ≡ i → HoldsPart s types r f (type m i) → CanMake types (typeOfOperand r c) b
-  made-ready m i b c f e d h = (m, typeAt i (f .types), e, (h .0, subst (λ (j : ℕ). Spans types (typeOfOperand r j) (typeOfOperand r j + length (encTy (typeAt i (f .types)))) (encTy (typeAt i (f .types)))) (sym d) (h .1)))
+  made-ready m i b c f e d h = (m, typeAt i (f .types), e, made-from (typeOfOperand r c) c i (typeAt i (f .types)) refl d h)
 
   pub type-ready : PartReady g at s types r → getD g at 0 ≡ 4 → (at + 3 ≤ length g) × CanMake types (typeOfOperand r (getD g (at + 2) 0)) (getD g (at + 1) 0)
   type-ready h e =
-      let v = is-type (h .0) (op-of (h .0) (h .2) 4 e) in
+      let v = is-by (h .0) 4 (op-of (h .0) (h .2) 4 e) in
       let w = as-part (h .0) _ (h .1) (v .2) (h .2) (h .3) in
       let u = type-code g at (v .0) (v .1) (w .0) in
       (u .0, made-ready (v .0) (v .1) _ _ (h .1) (u .1) (u .2) (w .1))
 
   pub expression-ready : PartReady g at s types r → getD g at 0 ≡ 5 → (at + 3 ≤ length g) × CanMake types (typeOfOperand r (getD g (at + 2) 0)) (getD g (at + 1) 0)
   expression-ready h e =
-      let v = is-expression (h .0) (op-of (h .0) (h .2) 5 e) in
+      let v = is-by (h .0) 5 (op-of (h .0) (h .2) 5 e) in
       let w = as-part (h .0) _ (h .1) (v .2) (h .2) (h .3) in
       let u = expression-code g at (v .0) (v .1) (w .0) in
       (u .0, made-ready (v .0) (v .1) _ _ (h .1) (u .1) (u .2) (w .1))
@@ -227,19 +211,19 @@ module _ (g : List ℕ) (at : ℕ) (s types : List ℕ) (r : Ranges) where
 
     pub tag-put : getD g at 0 ≡ 1 → Puts o n q k (between g (at + 1) (at + 3)) → PartPut g at s types r o n q k
     tag-put e w = record {
-      puts = λ p f h a. (let v = is-tag p (op-of p h 1 e) in
+      puts = λ p f h a. (let v = is-by p 1 (op-of p h 1 e) in
           as-bytes p _ f (v .1) (puts-as o n q k _ _ (tag-code g at (v .0) (as-part p _ f (v .1) h a .0) .1) w));
     }
 
     pub byte-put : getD g at 0 ≡ 2 → Puts o n q k (between g (at + 1) (at + 2)) → PartPut g at s types r o n q k
     byte-put e w = record {
-      puts = λ p f h a. (let v = is-byte p (op-of p h 2 e) in
+      puts = λ p f h a. (let v = is-by p 2 (op-of p h 2 e) in
           as-bytes p _ f (v .1) (puts-as o n q k _ _ (byte-code g at (v .0) (as-part p _ f (v .1) h a .0) .1) w));
     }
 
     pub operand-put : getD g at 0 ≡ 3 → Puts o n q k (between s (fromOf r (getD g (at + 1) 0)) (endOf r (getD g (at + 1) 0))) → PartPut g at s types r o n q k
     operand-put e w = record {
-      puts = λ p f h a. (let v = is-operand p (op-of p h 3 e) in
+      puts = λ p f h a. (let v = is-by p 3 (op-of p h 3 e) in
           let b = as-part p _ f (v .1) h a in
           let i = operand-code g at (v .0) (b .0) .1 in
           as-bytes p _ f (v .1)
@@ -249,24 +233,20 @@ module _ (g : List ℕ) (at : ℕ) (s types : List ℕ) (r : Ranges) where
 
     pub type-put : (at′ : ℕ) → at′ ≡ typeOfOperand r (getD g (at + 2) 0) → getD g at 0 ≡ 4 → MadeType types at′ (getD g (at + 1) 0) o n q k → PartPut g at s types r o n q k
     type-put at′ y e w = record {
-      puts = λ p f h a. (let v = is-type p (op-of p h 4 e) in
+      puts = λ p f h a. (let v = is-by p 4 (op-of p h 4 e) in
           let b = as-part p _ f (v .2) h a in
           let u = type-code g at (v .0) (v .1) (b .0) in
-          let j : typeOfOperand r (v .1) ≡ at′ = sym (y ∙ ap (typeOfOperand r) (u .2)) in
           let t = typeAt (v .1) (f .types) in
-          as-bytes p _ f (v .2)
-          (w .puts (v .0) t (u .1) (b .1 .0, subst (λ (i : ℕ). Spans types i (i + length (encTy t)) (encTy t)) j (b .1 .1))));
+          as-bytes p _ f (v .2) (w .puts (v .0) t (u .1) (made-from at′ _ (v .1) t y (u .2) (b .1))));
     }
 
     pub expression-put : (at′ : ℕ) → at′ ≡ typeOfOperand r (getD g (at + 2) 0) → getD g at 0 ≡ 5 → MadeExpression types at′ (getD g (at + 1) 0) o n q k → PartPut g at s types r o n q k
     expression-put at′ y e w = record {
-      puts = λ p f h a. (let v = is-expression p (op-of p h 5 e) in
+      puts = λ p f h a. (let v = is-by p 5 (op-of p h 5 e) in
           let b = as-part p _ f (v .2) h a in
           let u = expression-code g at (v .0) (v .1) (b .0) in
-          let j : typeOfOperand r (v .1) ≡ at′ = sym (y ∙ ap (typeOfOperand r) (u .2)) in
           let t = typeAt (v .1) (f .types) in
-          as-bytes p _ f (v .2)
-          (w .puts (v .0) t (u .1) (b .1 .0, subst (λ (i : ℕ). Spans types i (i + length (encTy t)) (encTy t)) j (b .1 .1))));
+          as-bytes p _ f (v .2) (w .puts (v .0) t (u .1) (made-from at′ _ (v .1) t y (u .2) (b .1))));
     }
 
     pub binders-put : (getD g at 0 ≡ 1 → ⊥) → (getD g at 0 ≡ 2 → ⊥) → (getD g at 0 ≡ 3 → ⊥) → (getD g at 0 ≡ 4 → ⊥) → (getD g at 0 ≡ 5 → ⊥)

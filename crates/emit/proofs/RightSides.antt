@@ -1,12 +1,17 @@
--- What a template is filled to is the bytes of its place's right side, as Equations.antt has it. A law for each place; where
--- the place joins any number of operands, for one of them.
-use mathlib.Core.Path.{_≡_, refl}
+-- What a template is filled to is the bytes of its place's right side, as Equations.antt has it.
+-- Main results: side (the right side of each place; where the place joins any number of operands, of one of them) and right-side.
+use mathlib.Core.Path.{_≡_, refl, ap}
+use mathlib.Core.Bool.{Bool, true, false, _||_}
 use mathlib.Core.List.{List, [], _∷_}
+use Prim.Native.Nat.{ℕ}
+use native.Mathlib.Omega.{arith}
+use lib.Dec.{eqb}
+use borrow.Author.Tests.{eqb-true}
 use Rattle.frame.specs.Types.{Ty}
 use Rattle.frame.specs.Trees.{Tree, cons, leaf, two, sole, pair, bodied}
-use Rattle.frame.specs.Tags.{lookup, classOf, formAt}
+use Rattle.frame.specs.Tags.{pick, lookup, classOf, formAt}
 use Rattle.frame.specs.Operators.{#Lt, #Le, #Gt, #Ge, #DomRes, #True, #False, #CSet}
-use Rattle.frame.specs.Places.{Ctx, push}
+use Rattle.frame.specs.Places.{Ctx}
 use Rattle.frame.specs.Encoding.{enc}
 use Rattle.typing.specs.Typing.{typeOf, element, source}
 use Rattle.typing.specs.TypeExpression.{toExpression}
@@ -15,359 +20,150 @@ use Rattle.emit.specs.Template.{Filling, filled}
 use Rattle.emit.specs.Programs.{templates, among, findRow, template}
 use Rattle.emit.proofs.Onto.{numberOnto, typesOnto, headOnto, onto, allOnto, partOnto, filledOnto, same-bytes}
 
--- the operands, their types, and the types of the binders
-abbrev pub filling : List Tree → List Ty → List Ty → Filling
-filling os ts xs = record { operands = os; types = ts; binderTypes = xs }
-
--- ---- right sides with no type of an operand
-pub right-1 : (os : List Tree) (ts us : List Ty) → filled (template 1) (filling os ts us) ≡ enc ⊤
-unfolding template findRow templates among numberOnto typesOnto headOnto onto allOnto partOnto filledOnto lookup classOf formAt typeOf
-right-1 os ts us = same-bytes _ _ _ refl
-
-pub right-2 : (os : List Tree) (ts us : List Ty) → filled (template 2) (filling os ts us) ≡ enc ⊥ᵖ
-unfolding template findRow templates among numberOnto typesOnto headOnto onto allOnto partOnto filledOnto lookup classOf formAt typeOf
-right-2 os ts us = same-bytes _ _ _ refl
-
-pub right-3 : (os : List Tree) (ts us : List Ty) → filled (template 3) (filling os ts us) ≡ enc ⊤
-unfolding template findRow templates among numberOnto typesOnto headOnto onto allOnto partOnto filledOnto lookup classOf formAt typeOf
-right-3 os ts us = same-bytes _ _ _ refl
-
-pub right-4 : (os : List Tree) (t : Ty) (ts us : List Ty) → filled (template 4) (filling os (t ∷ ts) us) ≡ enc (fin (toExpression (source t)))
-unfolding template findRow templates among numberOnto typesOnto headOnto onto allOnto partOnto filledOnto lookup classOf formAt typeOf
-right-4 os t ts us = same-bytes _ _ _ refl
-
-pub right-5 : (os : List Tree) (ts us : List Ty) → filled (template 5) (filling os ts us) ≡ enc ⊤
-unfolding template findRow templates among numberOnto typesOnto headOnto onto allOnto partOnto filledOnto lookup classOf formAt typeOf
-right-5 os ts us = same-bytes _ _ _ refl
-
-pub right-6 : (a : Tree) (os : List Tree) (ts us : List Ty) → filled (template 6) (filling (a ∷ os) ts us) ≡ enc (fin a)
-unfolding template findRow templates among numberOnto typesOnto headOnto onto allOnto partOnto filledOnto lookup classOf formAt typeOf
-right-6 a os ts us = same-bytes _ _ _ refl
-
-pub right-7 : (a : Tree) (os : List Tree) (ts us : List Ty) → filled (template 7) (filling (a ∷ os) ts us) ≡ enc (fin a)
-unfolding template findRow templates among numberOnto typesOnto headOnto onto allOnto partOnto filledOnto lookup classOf formAt typeOf
-right-7 a os ts us = same-bytes _ _ _ refl
-
-pub right-9 : (a : Tree) (os : List Tree) (ts us : List Ty) → filled (template 9) (filling (a ∷ os) ts us) ≡ enc (fin a)
-unfolding template findRow templates among numberOnto typesOnto headOnto onto allOnto partOnto filledOnto lookup classOf formAt typeOf
-right-9 a os ts us = same-bytes _ _ _ refl
-
-pub right-10 : (os : List Tree) (ts us : List Ty) → filled (template 10) (filling os ts us) ≡ enc ⊤
-unfolding template findRow templates among numberOnto typesOnto headOnto onto allOnto partOnto filledOnto lookup classOf formAt typeOf
-right-10 os ts us = same-bytes _ _ _ refl
-
-pub right-11 : (p e : Tree) (ts xs : List Ty) → filled (template 11) (filling (p ∷ e ∷ []) ts xs) ≡ enc (fin (bodied #CSet xs p e))
-unfolding template findRow templates among numberOnto typesOnto headOnto onto allOnto partOnto filledOnto lookup classOf formAt typeOf
-right-11 p e ts xs = same-bytes _ _ _ refl
-
-pub right-12 : (a : Tree) (os : List Tree) (ts us : List Ty) → filled (template 12) (filling (a ∷ os) ts us) ≡ enc (fin a)
-unfolding template findRow templates among numberOnto typesOnto headOnto onto allOnto partOnto filledOnto lookup classOf formAt typeOf
-right-12 a os ts us = same-bytes _ _ _ refl
-
-pub right-13 : (os : List Tree) (t : Ty) (ts us : List Ty) → filled (template 13) (filling os (t ∷ ts) us) ≡ enc (fin (toExpression (source t)))
-unfolding template findRow templates among numberOnto typesOnto headOnto onto allOnto partOnto filledOnto lookup classOf formAt typeOf
-right-13 os t ts us = same-bytes _ _ _ refl
-
-pub right-15 : (a b : Tree) (ts us : List Ty) → filled (template 15) (filling (a ∷ b ∷ []) ts us) ≡ enc (a ≐ b)
-unfolding template findRow templates among numberOnto typesOnto headOnto onto allOnto partOnto filledOnto lookup classOf formAt typeOf
-right-15 a b ts us = same-bytes _ _ _ refl
-
-pub right-16 : (a b : Tree) (ts us : List Ty) → filled (template 16) (filling (a ∷ b ∷ []) ts us) ≡ enc (two #Gt a b)
-unfolding template findRow templates among numberOnto typesOnto headOnto onto allOnto partOnto filledOnto lookup classOf formAt typeOf
-right-16 a b ts us = same-bytes _ _ _ refl
-
-pub right-17 : (a b : Tree) (ts us : List Ty) → filled (template 17) (filling (a ∷ b ∷ []) ts us) ≡ enc (two #Lt a b)
-unfolding template findRow templates among numberOnto typesOnto headOnto onto allOnto partOnto filledOnto lookup classOf formAt typeOf
-right-17 a b ts us = same-bytes _ _ _ refl
-
-pub right-18 : (a b : Tree) (ts us : List Ty) → filled (template 18) (filling (a ∷ b ∷ []) ts us) ≡ enc (two #Le a b)
-unfolding template findRow templates among numberOnto typesOnto headOnto onto allOnto partOnto filledOnto lookup classOf formAt typeOf
-right-18 a b ts us = same-bytes _ _ _ refl
-
-pub right-19 : (a b : Tree) (ts us : List Ty) → filled (template 19) (filling (a ∷ b ∷ []) ts us) ≡ enc (two #Ge a b)
-unfolding template findRow templates among numberOnto typesOnto headOnto onto allOnto partOnto filledOnto lookup classOf formAt typeOf
-right-19 a b ts us = same-bytes _ _ _ refl
-
-pub right-20 : (a : Tree) (os : List Tree) (ts us : List Ty) → filled (template 20) (filling (a ∷ os) ts us) ≡ enc (a ≐ leaf #True)
-unfolding template findRow templates among numberOnto typesOnto headOnto onto allOnto partOnto filledOnto lookup classOf formAt typeOf
-right-20 a os ts us = same-bytes _ _ _ refl
-
-pub right-21 : (a : Tree) (os : List Tree) (ts us : List Ty) → filled (template 21) (filling (a ∷ os) ts us) ≡ enc (a ≐ leaf #False)
-unfolding template findRow templates among numberOnto typesOnto headOnto onto allOnto partOnto filledOnto lookup classOf formAt typeOf
-right-21 a os ts us = same-bytes _ _ _ refl
-
-pub right-22 : (a : Tree) (os : List Tree) (ts us : List Ty) → filled (template 22) (filling (a ∷ os) ts us) ≡ enc (leaf #True ≐ a)
-unfolding template findRow templates among numberOnto typesOnto headOnto onto allOnto partOnto filledOnto lookup classOf formAt typeOf
-right-22 a os ts us = same-bytes _ _ _ refl
-
-pub right-23 : (a : Tree) (os : List Tree) (ts us : List Ty) → filled (template 23) (filling (a ∷ os) ts us) ≡ enc (leaf #False ≐ a)
-unfolding template findRow templates among numberOnto typesOnto headOnto onto allOnto partOnto filledOnto lookup classOf formAt typeOf
-right-23 a os ts us = same-bytes _ _ _ refl
-
-pub right-27 : (os : List Tree) (ts us : List Ty) → filled (template 27) (filling os ts us) ≡ enc ⊥ᵖ
-unfolding template findRow templates among numberOnto typesOnto headOnto onto allOnto partOnto filledOnto lookup classOf formAt typeOf
-right-27 os ts us = same-bytes _ _ _ refl
-
-pub right-36 : (os : List Tree) (ts us : List Ty) → filled (template 36) (filling os ts us) ≡ enc ⊥ᵖ
-unfolding template findRow templates among numberOnto typesOnto headOnto onto allOnto partOnto filledOnto lookup classOf formAt typeOf
-right-36 os ts us = same-bytes _ _ _ refl
-
-pub right-40 : (a b : Tree) (ts us : List Ty) → filled (template 40) (filling (a ∷ b ∷ []) ts us) ≡ enc (a ⊆ b)
-unfolding template findRow templates among numberOnto typesOnto headOnto onto allOnto partOnto filledOnto lookup classOf formAt typeOf
-right-40 a b ts us = same-bytes _ _ _ refl
-
-pub right-42 : (a b : Tree) (ts us : List Ty) → filled (template 42) (filling (a ∷ b ∷ []) ts us) ≡ enc (two #Gt a b)
-unfolding template findRow templates among numberOnto typesOnto headOnto onto allOnto partOnto filledOnto lookup classOf formAt typeOf
-right-42 a b ts us = same-bytes _ _ _ refl
-
-pub right-46 : (a b : Tree) (ts us : List Ty) → filled (template 46) (filling (a ∷ b ∷ []) ts us) ≡ enc (dom b ⊆ a)
-unfolding template findRow templates among numberOnto typesOnto headOnto onto allOnto partOnto filledOnto lookup classOf formAt typeOf
-right-46 a b ts us = same-bytes _ _ _ refl
-
-pub right-48 : (a b : Tree) (ts us : List Ty) → filled (template 48) (filling (a ∷ b ∷ []) ts us) ≡ enc (ran a ⊆ b)
-unfolding template findRow templates among numberOnto typesOnto headOnto onto allOnto partOnto filledOnto lookup classOf formAt typeOf
-right-48 a b ts us = same-bytes _ _ _ refl
-
-pub right-52 : (os : List Tree) (ts us : List Ty) → filled (template 52) (filling os ts us) ≡ enc ⊥ᵖ
-unfolding template findRow templates among numberOnto typesOnto headOnto onto allOnto partOnto filledOnto lookup classOf formAt typeOf
-right-52 os ts us = same-bytes _ _ _ refl
-
-pub right-60 : (os : List Tree) (ts us : List Ty) → filled (template 60) (filling os ts us) ≡ enc ⊥ᵖ
-unfolding template findRow templates among numberOnto typesOnto headOnto onto allOnto partOnto filledOnto lookup classOf formAt typeOf
-right-60 os ts us = same-bytes _ _ _ refl
-
-pub right-61 : (os : List Tree) (ts us : List Ty) → filled (template 61) (filling os ts us) ≡ enc ⊥ᵖ
-unfolding template findRow templates among numberOnto typesOnto headOnto onto allOnto partOnto filledOnto lookup classOf formAt typeOf
-right-61 os ts us = same-bytes _ _ _ refl
-
-pub right-64 : (a : Tree) (os : List Tree) (ts us : List Ty) → filled (template 64) (filling (a ∷ os) ts us) ≡ enc a
-unfolding template findRow templates among numberOnto typesOnto headOnto onto allOnto partOnto filledOnto lookup classOf formAt typeOf
-right-64 a os ts us = same-bytes _ _ _ refl
-
-pub right-66 : (a : Tree) (os : List Tree) (ts us : List Ty) → filled (template 66) (filling (a ∷ os) ts us) ≡ enc a
-unfolding template findRow templates among numberOnto typesOnto headOnto onto allOnto partOnto filledOnto lookup classOf formAt typeOf
-right-66 a os ts us = same-bytes _ _ _ refl
-
-pub right-67 : (os : List Tree) (ts us : List Ty) → filled (template 67) (filling os ts us) ≡ enc ⊤
-unfolding template findRow templates among numberOnto typesOnto headOnto onto allOnto partOnto filledOnto lookup classOf formAt typeOf
-right-67 os ts us = same-bytes _ _ _ refl
-
-pub right-68 : (os : List Tree) (ts us : List Ty) → filled (template 68) (filling os ts us) ≡ enc ⊤
-unfolding template findRow templates among numberOnto typesOnto headOnto onto allOnto partOnto filledOnto lookup classOf formAt typeOf
-right-68 os ts us = same-bytes _ _ _ refl
-
-pub right-69 : (a : Tree) (os : List Tree) (ts us : List Ty) → filled (template 69) (filling (a ∷ os) ts us) ≡ enc (¬ᵖ a)
-unfolding template findRow templates among numberOnto typesOnto headOnto onto allOnto partOnto filledOnto lookup classOf formAt typeOf
-right-69 a os ts us = same-bytes _ _ _ refl
-
-pub right-70 : (os : List Tree) (ts us : List Ty) → filled (template 70) (filling os ts us) ≡ enc ⊤
-unfolding template findRow templates among numberOnto typesOnto headOnto onto allOnto partOnto filledOnto lookup classOf formAt typeOf
-right-70 os ts us = same-bytes _ _ _ refl
-
-pub right-71 : (os : List Tree) (ts us : List Ty) → filled (template 71) (filling os ts us) ≡ enc ⊤
-unfolding template findRow templates among numberOnto typesOnto headOnto onto allOnto partOnto filledOnto lookup classOf formAt typeOf
-right-71 os ts us = same-bytes _ _ _ refl
-
-pub right-72 : (a : Tree) (os : List Tree) (ts us : List Ty) → filled (template 72) (filling (a ∷ os) ts us) ≡ enc (¬ᵖ a)
-unfolding template findRow templates among numberOnto typesOnto headOnto onto allOnto partOnto filledOnto lookup classOf formAt typeOf
-right-72 a os ts us = same-bytes _ _ _ refl
-
-pub right-73 : (a : Tree) (os : List Tree) (ts us : List Ty) → filled (template 73) (filling (a ∷ os) ts us) ≡ enc a
-unfolding template findRow templates among numberOnto typesOnto headOnto onto allOnto partOnto filledOnto lookup classOf formAt typeOf
-right-73 a os ts us = same-bytes _ _ _ refl
-
-pub right-74 : (a : Tree) (os : List Tree) (ts us : List Ty) → filled (template 74) (filling (a ∷ os) ts us) ≡ enc a
-unfolding template findRow templates among numberOnto typesOnto headOnto onto allOnto partOnto filledOnto lookup classOf formAt typeOf
-right-74 a os ts us = same-bytes _ _ _ refl
-
-pub right-75 : (a : Tree) (os : List Tree) (ts us : List Ty) → filled (template 75) (filling (a ∷ os) ts us) ≡ enc a
-unfolding template findRow templates among numberOnto typesOnto headOnto onto allOnto partOnto filledOnto lookup classOf formAt typeOf
-right-75 a os ts us = same-bytes _ _ _ refl
-
-pub right-76 : (a : Tree) (os : List Tree) (ts us : List Ty) → filled (template 76) (filling (a ∷ os) ts us) ≡ enc a
-unfolding template findRow templates among numberOnto typesOnto headOnto onto allOnto partOnto filledOnto lookup classOf formAt typeOf
-right-76 a os ts us = same-bytes _ _ _ refl
-
-pub right-77 : (os : List Tree) (ts us : List Ty) → filled (template 77) (filling os ts us) ≡ enc ⊤
-unfolding template findRow templates among numberOnto typesOnto headOnto onto allOnto partOnto filledOnto lookup classOf formAt typeOf
-right-77 os ts us = same-bytes _ _ _ refl
-
-pub right-78 : (a : Tree) (os : List Tree) (ts us : List Ty) → filled (template 78) (filling (a ∷ os) ts us) ≡ enc (¬ᵖ a)
-unfolding template findRow templates among numberOnto typesOnto headOnto onto allOnto partOnto filledOnto lookup classOf formAt typeOf
-right-78 a os ts us = same-bytes _ _ _ refl
-
-pub right-79 : (a : Tree) (os : List Tree) (ts us : List Ty) → filled (template 79) (filling (a ∷ os) ts us) ≡ enc (¬ᵖ a)
-unfolding template findRow templates among numberOnto typesOnto headOnto onto allOnto partOnto filledOnto lookup classOf formAt typeOf
-right-79 a os ts us = same-bytes _ _ _ refl
-
-pub right-80 : (os : List Tree) (ts us : List Ty) → filled (template 80) (filling os ts us) ≡ enc ⊥ᵖ
-unfolding template findRow templates among numberOnto typesOnto headOnto onto allOnto partOnto filledOnto lookup classOf formAt typeOf
-right-80 os ts us = same-bytes _ _ _ refl
-
-pub right-81 : (os : List Tree) (ts us : List Ty) → filled (template 81) (filling os ts us) ≡ enc ⊥ᵖ
-unfolding template findRow templates among numberOnto typesOnto headOnto onto allOnto partOnto filledOnto lookup classOf formAt typeOf
-right-81 os ts us = same-bytes _ _ _ refl
-
-pub right-82 : (os : List Tree) (ts us : List Ty) → filled (template 82) (filling os ts us) ≡ enc ⊥ᵖ
-unfolding template findRow templates among numberOnto typesOnto headOnto onto allOnto partOnto filledOnto lookup classOf formAt typeOf
-right-82 os ts us = same-bytes _ _ _ refl
-
-pub right-83 : (os : List Tree) (ts us : List Ty) → filled (template 83) (filling os ts us) ≡ enc ⊤
-unfolding template findRow templates among numberOnto typesOnto headOnto onto allOnto partOnto filledOnto lookup classOf formAt typeOf
-right-83 os ts us = same-bytes _ _ _ refl
-
-pub right-84 : (a : Tree) (os : List Tree) (ts us : List Ty) → filled (template 84) (filling (a ∷ os) ts us) ≡ enc a
-unfolding template findRow templates among numberOnto typesOnto headOnto onto allOnto partOnto filledOnto lookup classOf formAt typeOf
-right-84 a os ts us = same-bytes _ _ _ refl
-
-pub right-85 : (p : Tree) (os : List Tree) (ts xs : List Ty) → filled (template 85) (filling (p ∷ os) ts xs) ≡ enc (∀ᵖ xs p)
-unfolding template findRow templates among numberOnto typesOnto headOnto onto allOnto partOnto filledOnto lookup classOf formAt typeOf
-right-85 p os ts xs = same-bytes _ _ _ refl
-
-pub right-86 : (p : Tree) (os : List Tree) (ts xs : List Ty) → filled (template 86) (filling (p ∷ os) ts xs) ≡ enc (∃ᵖ xs p)
-unfolding template findRow templates among numberOnto typesOnto headOnto onto allOnto partOnto filledOnto lookup classOf formAt typeOf
-right-86 p os ts xs = same-bytes _ _ _ refl
-
-pub right-87 : (p q : Tree) (ts xs : List Ty) → filled (template 87) (filling (p ∷ q ∷ []) ts xs) ≡ enc (∀ᵖ xs p ⇒ ∃ᵖ xs q)
-unfolding template findRow templates among numberOnto typesOnto headOnto onto allOnto partOnto filledOnto lookup classOf formAt typeOf
-right-87 p q ts xs = same-bytes _ _ _ refl
-
--- ---- right sides with types of operands, in the context Γ
-module _ (Γ : Ctx) where
-  pub right-8 : (a b : Tree) (us : List Ty)
-      → filled (template 8) (filling (a ∷ b ∷ []) (typeOf a Γ ∷ typeOf b Γ ∷ []) us) ≡ enc (⋁ (cons (_≐∅ Γ a) (pair (_≐∅ Γ b) (⋀ (pair (fin a) (fin b))))))
-  unfolding template findRow templates among numberOnto typesOnto headOnto onto allOnto partOnto filledOnto lookup classOf formAt typeOf
-  right-8 a b us = same-bytes _ _ _ refl
-
-  pub right-14 : (a : Tree) (os : List Tree) (ts us : List Ty) → filled (template 14) (filling (a ∷ os) (typeOf a Γ ∷ ts) us) ≡ enc (_≐∅ Γ a)
-  unfolding template findRow templates among numberOnto typesOnto headOnto onto allOnto partOnto filledOnto lookup classOf formAt typeOf
-  right-14 a os ts us = same-bytes _ _ _ refl
-
-  pub right-24 : (a : Tree) (os : List Tree) (ts us : List Ty) → filled (template 24) (filling (a ∷ os) (typeOf a Γ ∷ ts) us) ≡ enc (_≐Ty Γ a)
-  unfolding template findRow templates among numberOnto typesOnto headOnto onto allOnto partOnto filledOnto lookup classOf formAt typeOf
-  right-24 a os ts us = same-bytes _ _ _ refl
-
-  pub right-25 : (a b : Tree) (us : List Ty)
-      → filled (template 25) (filling (a ∷ b ∷ []) (typeOf a Γ ∷ typeOf b Γ ∷ []) us) ≡ enc (⋀ (pair (_≐Ty Γ a) (_≐∅ Γ b)))
-  unfolding template findRow templates among numberOnto typesOnto headOnto onto allOnto partOnto filledOnto lookup classOf formAt typeOf
-  right-25 a b us = same-bytes _ _ _ refl
-
-  pub right-26 : (a b : Tree) (us : List Ty)
-      → filled (template 26) (filling (a ∷ b ∷ []) (typeOf a Γ ∷ typeOf b Γ ∷ []) us) ≡ enc (⋀ (pair (_≐Ty Γ a) (_≐Ty Γ b)))
-  unfolding template findRow templates among numberOnto typesOnto headOnto onto allOnto partOnto filledOnto lookup classOf formAt typeOf
-  right-26 a b us = same-bytes _ _ _ refl
-
-  pub right-28 : (a b : Tree) (us : List Ty)
-      → filled (template 28) (filling (a ∷ b ∷ []) (typeOf a Γ ∷ typeOf b Γ ∷ []) us) ≡ enc (⋀ (pair (_≐Ty Γ a) (_≐Ty Γ b)))
-  unfolding template findRow templates among numberOnto typesOnto headOnto onto allOnto partOnto filledOnto lookup classOf formAt typeOf
-  right-28 a b us = same-bytes _ _ _ refl
-
-  pub right-29 : (a b : Tree) (us : List Ty)
-      → filled (template 29) (filling (a ∷ b ∷ []) (typeOf a Γ ∷ typeOf b Γ ∷ []) us) ≡ enc (⋀ (pair (_≐∅ Γ a) (_≐Ty Γ b)))
-  unfolding template findRow templates among numberOnto typesOnto headOnto onto allOnto partOnto filledOnto lookup classOf formAt typeOf
-  right-29 a b us = same-bytes _ _ _ refl
-
-  pub right-30 : (a b : Tree) (us : List Ty)
-      → filled (template 30) (filling (a ∷ b ∷ []) (typeOf a Γ ∷ typeOf b Γ ∷ []) us) ≡ enc (⋀ (pair (_≐Ty Γ b) (_≐Ty Γ a)))
-  unfolding template findRow templates among numberOnto typesOnto headOnto onto allOnto partOnto filledOnto lookup classOf formAt typeOf
-  right-30 a b us = same-bytes _ _ _ refl
-
-  pub right-31 : (a b : Tree) (us : List Ty)
-      → filled (template 31) (filling (a ∷ b ∷ []) (typeOf a Γ ∷ typeOf b Γ ∷ []) us) ≡ enc (⋀ (pair (_≐∅ Γ b) (_≐Ty Γ a)))
-  unfolding template findRow templates among numberOnto typesOnto headOnto onto allOnto partOnto filledOnto lookup classOf formAt typeOf
-  right-31 a b us = same-bytes _ _ _ refl
-
-  pub right-32 : (a b : Tree) (us : List Ty)
-      → filled (template 32) (filling (a ∷ b ∷ []) (typeOf a Γ ∷ typeOf b Γ ∷ []) us) ≡ enc (⋀ (pair (_≐Ty Γ a) (_≐Ty Γ b)))
-  unfolding template findRow templates among numberOnto typesOnto headOnto onto allOnto partOnto filledOnto lookup classOf formAt typeOf
-  right-32 a b us = same-bytes _ _ _ refl
-
-  pub right-33 : (a : Tree) (os : List Tree) (ts us : List Ty)
-      → filled (template 33) (filling (a ∷ os) (typeOf a Γ ∷ ts) us) ≡ enc (a ≐ ext (sole (toExpression (element (element (typeOf a Γ))))))
-  unfolding template findRow templates among numberOnto typesOnto headOnto onto allOnto partOnto filledOnto lookup classOf formAt typeOf
-  right-33 a os ts us = same-bytes _ _ _ refl
-
-  pub right-34 : (a : Tree) (os : List Tree) (ts us : List Ty) → filled (template 34) (filling (a ∷ os) (typeOf a Γ ∷ ts) us) ≡ enc (_≐Ty Γ a)
-  unfolding template findRow templates among numberOnto typesOnto headOnto onto allOnto partOnto filledOnto lookup classOf formAt typeOf
-  right-34 a os ts us = same-bytes _ _ _ refl
-
-  pub right-35 : (p e : Tree) (t : Ty) (xs : List Ty)
-      → filled (template 35) (filling (p ∷ e ∷ []) (t ∷ typeOf e (push xs Γ) ∷ []) xs) ≡ enc (∀ᵖ xs (p ⇒ _≐Ty (push xs Γ) e))
-  unfolding template findRow templates among numberOnto typesOnto headOnto onto allOnto partOnto filledOnto lookup classOf formAt typeOf
-  right-35 p e t xs = same-bytes _ _ _ refl
-
-  pub right-39 : (a : Tree) (os : List Tree) (ts us : List Ty) → filled (template 39) (filling (a ∷ os) (typeOf a Γ ∷ ts) us) ≡ enc (_≐∅ Γ a)
-  unfolding template findRow templates among numberOnto typesOnto headOnto onto allOnto partOnto filledOnto lookup classOf formAt typeOf
-  right-39 a os ts us = same-bytes _ _ _ refl
-
-  pub right-41 : (a b : Tree) (us : List Ty)
-      → filled (template 41) (filling (a ∷ b ∷ []) (typeOf a Γ ∷ typeOf b Γ ∷ []) us) ≡ enc (⋁ (pair (_≐∅ Γ a) (_≐∅ Γ b)))
-  unfolding template findRow templates among numberOnto typesOnto headOnto onto allOnto partOnto filledOnto lookup classOf formAt typeOf
-  right-41 a b us = same-bytes _ _ _ refl
-
-  pub right-43 : (a b : Tree) (us : List Ty)
-      → filled (template 43) (filling (a ∷ b ∷ []) (typeOf a Γ ∷ typeOf b Γ ∷ []) us) ≡ enc (⋀ (pair (_≐∅ Γ a) (¬ᵖ (_≐∅ Γ b))))
-  unfolding template findRow templates among numberOnto typesOnto headOnto onto allOnto partOnto filledOnto lookup classOf formAt typeOf
-  right-43 a b us = same-bytes _ _ _ refl
-
-  pub right-44 : (a b : Tree) (us : List Ty)
-      → filled (template 44) (filling (a ∷ b ∷ []) (typeOf a Γ ∷ typeOf b Γ ∷ []) us) ≡ enc (_≐∅ Γ a ⇔ ¬ᵖ (_≐∅ Γ b))
-  unfolding template findRow templates among numberOnto typesOnto headOnto onto allOnto partOnto filledOnto lookup classOf formAt typeOf
-  right-44 a b us = same-bytes _ _ _ refl
-
-  pub right-45 : (a b : Tree) (us : List Ty)
-      → filled (template 45) (filling (a ∷ b ∷ []) (typeOf a Γ ∷ typeOf b Γ ∷ []) us) ≡ enc (_≐∅ Γ (⋂ (pair (dom b) a)))
-  unfolding template findRow templates among numberOnto typesOnto headOnto onto allOnto partOnto filledOnto lookup classOf formAt typeOf
-  right-45 a b us = same-bytes _ _ _ refl
-
-  pub right-47 : (a b : Tree) (us : List Ty)
-      → filled (template 47) (filling (a ∷ b ∷ []) (typeOf a Γ ∷ typeOf b Γ ∷ []) us) ≡ enc (_≐∅ Γ (⋂ (pair (ran a) b)))
-  unfolding template findRow templates among numberOnto typesOnto headOnto onto allOnto partOnto filledOnto lookup classOf formAt typeOf
-  right-47 a b us = same-bytes _ _ _ refl
-
-  pub right-49 : (a b : Tree) (us : List Ty)
-      → filled (template 49) (filling (a ∷ b ∷ []) (typeOf a Γ ∷ typeOf b Γ ∷ []) us) ≡ enc (_≐∅ Γ (two #DomRes b a))
-  unfolding template findRow templates among numberOnto typesOnto headOnto onto allOnto partOnto filledOnto lookup classOf formAt typeOf
-  right-49 a b us = same-bytes _ _ _ refl
-
-  pub right-50 : (a b : Tree) (us : List Ty)
-      → filled (template 50) (filling (a ∷ b ∷ []) (typeOf a Γ ∷ typeOf b Γ ∷ []) us) ≡ enc (_≐∅ Γ (⋂ (pair (dom a) (dom b))))
-  unfolding template findRow templates among numberOnto typesOnto headOnto onto allOnto partOnto filledOnto lookup classOf formAt typeOf
-  right-50 a b us = same-bytes _ _ _ refl
-
-  pub right-51 : (a b : Tree) (us : List Ty)
-      → filled (template 51) (filling (a ∷ b ∷ []) (typeOf a Γ ∷ typeOf b Γ ∷ []) us) ≡ enc (⋁ (pair (_≐∅ Γ a) (_≐∅ Γ b)))
-  unfolding template findRow templates among numberOnto typesOnto headOnto onto allOnto partOnto filledOnto lookup classOf formAt typeOf
-  right-51 a b us = same-bytes _ _ _ refl
-
-  pub right-53 : (a : Tree) (os : List Tree) (ts us : List Ty) → filled (template 53) (filling (a ∷ os) (typeOf a Γ ∷ ts) us) ≡ enc (_≐∅ Γ a)
-  unfolding template findRow templates among numberOnto typesOnto headOnto onto allOnto partOnto filledOnto lookup classOf formAt typeOf
-  right-53 a os ts us = same-bytes _ _ _ refl
-
-  pub right-54 : (a : Tree) (os : List Tree) (ts us : List Ty)
-      → filled (template 54) (filling (a ∷ os) (typeOf a Γ ∷ ts) us) ≡ enc (a ⊆ ext (sole (∅ (element (typeOf a Γ)))))
-  unfolding template findRow templates among numberOnto typesOnto headOnto onto allOnto partOnto filledOnto lookup classOf formAt typeOf
-  right-54 a os ts us = same-bytes _ _ _ refl
-
-  pub right-55 : (a : Tree) (os : List Tree) (ts us : List Ty) → filled (template 55) (filling (a ∷ os) (typeOf a Γ ∷ ts) us) ≡ enc (_≐∅ Γ a)
-  unfolding template findRow templates among numberOnto typesOnto headOnto onto allOnto partOnto filledOnto lookup classOf formAt typeOf
-  right-55 a os ts us = same-bytes _ _ _ refl
-
-  pub right-56 : (a b : Tree) (us : List Ty)
-      → filled (template 56) (filling (a ∷ b ∷ []) (typeOf a Γ ∷ typeOf b Γ ∷ []) us) ≡ enc (_≐∅ Γ (⋂ (pair (ran a) (dom b))))
-  unfolding template findRow templates among numberOnto typesOnto headOnto onto allOnto partOnto filledOnto lookup classOf formAt typeOf
-  right-56 a b us = same-bytes _ _ _ refl
-
-  pub right-57 : (a b : Tree) (us : List Ty)
-      → filled (template 57) (filling (a ∷ b ∷ []) (typeOf a Γ ∷ typeOf b Γ ∷ []) us) ≡ enc (_≐∅ Γ (⋂ (pair (ran b) (dom a))))
-  unfolding template findRow templates among numberOnto typesOnto headOnto onto allOnto partOnto filledOnto lookup classOf formAt typeOf
-  right-57 a b us = same-bytes _ _ _ refl
-
-  pub right-58 : (a : Tree) (os : List Tree) (ts us : List Ty) → filled (template 58) (filling (a ∷ os) (typeOf a Γ ∷ ts) us) ≡ enc (_≐∅ Γ a)
-  unfolding template findRow templates among numberOnto typesOnto headOnto onto allOnto partOnto filledOnto lookup classOf formAt typeOf
-  right-58 a os ts us = same-bytes _ _ _ refl
-
-  pub right-59 : (p e : Tree) (t : Ty) (xs : List Ty)
-      → filled (template 59) (filling (p ∷ e ∷ []) (t ∷ typeOf e (push xs Γ) ∷ []) xs) ≡ enc (∀ᵖ xs (p ⇒ _≐∅ (push xs Γ) e))
-  unfolding template findRow templates among numberOnto typesOnto headOnto onto allOnto partOnto filledOnto lookup classOf formAt typeOf
-  right-59 p e t xs = same-bytes _ _ _ refl
+-- a right side, by the context of the operands, the operands and the types of the binders
+abbrev pub Side : Type 0
+Side = Ctx → Tree → Tree → List Ty → Tree
+
+pub data Given : Type 0 where
+  gives : ℕ → Side → Given
+
+unfoldable pub sides : List Given
+sides =
+    gives 1 (λ Γ a b xs. ⊤)
+    ∷ gives 2 (λ Γ a b xs. ⊥ᵖ)
+    ∷ gives 3 (λ Γ a b xs. ⊤)
+    ∷ gives 4 (λ Γ a b xs. fin (toExpression (source (typeOf a Γ))))
+    ∷ gives 5 (λ Γ a b xs. ⊤)
+    ∷ gives 6 (λ Γ a b xs. fin a)
+    ∷ gives 7 (λ Γ a b xs. fin a)
+    ∷ gives 8 (λ Γ a b xs. ⋁ (cons (_≐∅ Γ a) (pair (_≐∅ Γ b) (⋀ (pair (fin a) (fin b))))))
+    ∷ gives 9 (λ Γ a b xs. fin a)
+    ∷ gives 10 (λ Γ a b xs. ⊤)
+    ∷ gives 11 (λ Γ a b xs. fin (bodied #CSet xs a b))
+    ∷ gives 12 (λ Γ a b xs. fin a)
+    ∷ gives 13 (λ Γ a b xs. fin (toExpression (source (typeOf a Γ))))
+    ∷ gives 14 (λ Γ a b xs. _≐∅ Γ a)
+    ∷ gives 15 (λ Γ a b xs. a ≐ b)
+    ∷ gives 16 (λ Γ a b xs. two #Gt a b)
+    ∷ gives 17 (λ Γ a b xs. two #Lt a b)
+    ∷ gives 18 (λ Γ a b xs. two #Le a b)
+    ∷ gives 19 (λ Γ a b xs. two #Ge a b)
+    ∷ gives 20 (λ Γ a b xs. a ≐ leaf #True)
+    ∷ gives 21 (λ Γ a b xs. a ≐ leaf #False)
+    ∷ gives 22 (λ Γ a b xs. leaf #True ≐ a)
+    ∷ gives 23 (λ Γ a b xs. leaf #False ≐ a)
+    ∷ gives 24 (λ Γ a b xs. _≐Ty Γ a)
+    ∷ gives 25 (λ Γ a b xs. ⋀ (pair (_≐Ty Γ a) (_≐∅ Γ b)))
+    ∷ gives 26 (λ Γ a b xs. ⋀ (pair (_≐Ty Γ a) (_≐Ty Γ b)))
+    ∷ gives 27 (λ Γ a b xs. ⊥ᵖ)
+    ∷ gives 28 (λ Γ a b xs. ⋀ (pair (_≐Ty Γ a) (_≐Ty Γ b)))
+    ∷ gives 29 (λ Γ a b xs. ⋀ (pair (_≐∅ Γ a) (_≐Ty Γ b)))
+    ∷ gives 30 (λ Γ a b xs. ⋀ (pair (_≐Ty Γ b) (_≐Ty Γ a)))
+    ∷ gives 31 (λ Γ a b xs. ⋀ (pair (_≐∅ Γ b) (_≐Ty Γ a)))
+    ∷ gives 32 (λ Γ a b xs. ⋀ (pair (_≐Ty Γ a) (_≐Ty Γ b)))
+    ∷ gives 33 (λ Γ a b xs. a ≐ ext (sole (toExpression (element (element (typeOf a Γ))))))
+    ∷ gives 34 (λ Γ a b xs. _≐Ty Γ a)
+    ∷ gives 35 (λ Γ a b xs. ∀ᵖ xs (a ⇒ _≐Ty Γ b))
+    ∷ gives 36 (λ Γ a b xs. ⊥ᵖ)
+    ∷ gives 39 (λ Γ a b xs. _≐∅ Γ a)
+    ∷ gives 40 (λ Γ a b xs. a ⊆ b)
+    ∷ gives 41 (λ Γ a b xs. ⋁ (pair (_≐∅ Γ a) (_≐∅ Γ b)))
+    ∷ gives 42 (λ Γ a b xs. two #Gt a b)
+    ∷ gives 43 (λ Γ a b xs. ⋀ (pair (_≐∅ Γ a) (¬ᵖ (_≐∅ Γ b))))
+    ∷ gives 44 (λ Γ a b xs. _≐∅ Γ a ⇔ ¬ᵖ (_≐∅ Γ b))
+    ∷ gives 45 (λ Γ a b xs. _≐∅ Γ (⋂ (pair (dom b) a)))
+    ∷ gives 46 (λ Γ a b xs. dom b ⊆ a)
+    ∷ gives 47 (λ Γ a b xs. _≐∅ Γ (⋂ (pair (ran a) b)))
+    ∷ gives 48 (λ Γ a b xs. ran a ⊆ b)
+    ∷ gives 49 (λ Γ a b xs. _≐∅ Γ (two #DomRes b a))
+    ∷ gives 50 (λ Γ a b xs. _≐∅ Γ (⋂ (pair (dom a) (dom b))))
+    ∷ gives 51 (λ Γ a b xs. ⋁ (pair (_≐∅ Γ a) (_≐∅ Γ b)))
+    ∷ gives 52 (λ Γ a b xs. ⊥ᵖ)
+    ∷ gives 53 (λ Γ a b xs. _≐∅ Γ a)
+    ∷ gives 54 (λ Γ a b xs. a ⊆ ext (sole (∅ (element (typeOf a Γ)))))
+    ∷ gives 55 (λ Γ a b xs. _≐∅ Γ a)
+    ∷ gives 56 (λ Γ a b xs. _≐∅ Γ (⋂ (pair (ran a) (dom b))))
+    ∷ gives 57 (λ Γ a b xs. _≐∅ Γ (⋂ (pair (ran b) (dom a))))
+    ∷ gives 58 (λ Γ a b xs. _≐∅ Γ a)
+    ∷ gives 59 (λ Γ a b xs. ∀ᵖ xs (a ⇒ _≐∅ Γ b))
+    ∷ gives 60 (λ Γ a b xs. ⊥ᵖ)
+    ∷ gives 61 (λ Γ a b xs. ⊥ᵖ)
+    ∷ gives 64 (λ Γ a b xs. a)
+    ∷ gives 66 (λ Γ a b xs. a)
+    ∷ gives 67 (λ Γ a b xs. ⊤)
+    ∷ gives 68 (λ Γ a b xs. ⊤)
+    ∷ gives 69 (λ Γ a b xs. ¬ᵖ a)
+    ∷ gives 70 (λ Γ a b xs. ⊤)
+    ∷ gives 71 (λ Γ a b xs. ⊤)
+    ∷ gives 72 (λ Γ a b xs. ¬ᵖ a)
+    ∷ gives 73 (λ Γ a b xs. a)
+    ∷ gives 74 (λ Γ a b xs. a)
+    ∷ gives 75 (λ Γ a b xs. a)
+    ∷ gives 76 (λ Γ a b xs. a)
+    ∷ gives 77 (λ Γ a b xs. ⊤)
+    ∷ gives 78 (λ Γ a b xs. ¬ᵖ a)
+    ∷ gives 79 (λ Γ a b xs. ¬ᵖ a)
+    ∷ gives 80 (λ Γ a b xs. ⊥ᵖ)
+    ∷ gives 81 (λ Γ a b xs. ⊥ᵖ)
+    ∷ gives 82 (λ Γ a b xs. ⊥ᵖ)
+    ∷ gives 83 (λ Γ a b xs. ⊤)
+    ∷ gives 84 (λ Γ a b xs. a)
+    ∷ gives 85 (λ Γ a b xs. ∀ᵖ xs a)
+    ∷ gives 86 (λ Γ a b xs. ∃ᵖ xs a)
+    ∷ gives 87 (λ Γ a b xs. ∀ᵖ xs a ⇒ ∃ᵖ xs b)
+    ∷ []
+
+unfoldable pub sideIn : List Given → ℕ → Side
+sideIn [] n = λ Γ a b xs. ⊤
+sideIn (gives m s ∷ gs) n = let next = sideIn gs n in pick (eqb n m) s next
+
+unfoldable pub isIn : List Given → ℕ → Bool
+isIn [] n = false
+isIn (gives m s ∷ gs) n = eqb n m || isIn gs n
+
+-- who unfolds side also computes whether a place has one
+unfoldable pub side : ℕ → Side
+unfolding sides sideIn isIn
+side n = sideIn sides n
+
+-- ---- all places at once
+first : List (List ℕ) → List ℕ
+first [] = []
+first (l ∷ ls) = l
+
+others : List (List ℕ) → List (List ℕ)
+others [] = []
+others (l ∷ ls) = ls
+
+module _ (Γ : Ctx) (a b : Tree) (xs : List Ty) where
+  -- the operands, their types, and the types of the binders
+  abbrev pub filling : Filling
+  filling = record { operands = a ∷ b ∷ []; types = typeOf a Γ ∷ typeOf b Γ ∷ []; binderTypes = xs }
+
+  -- the place is that of the row, or comes later
+  row-or : (n m : ℕ) (s u : Side) (c d : Bool) → eqb n m ≡ c → filledOnto (template m) filling ≡ onto (s Γ a b xs) [] → (c || d) ≡ true
+      → (d ≡ true → filled (template n) filling ≡ enc (u Γ a b xs)) → filled (template n) filling ≡ enc (pick c s u Γ a b xs)
+  row-or n m s u true d z e h later = rw (eqb-true n m z) (same-bytes (template m) filling (s Γ a b xs) e)
+  row-or n m s u false d z e h later = later h
+
+  fills : List Given → List (List ℕ)
+  fills [] = []
+  fills (gives n s ∷ gs) = filledOnto (template n) filling ∷ fills gs
+
+  writes : List Given → List (List ℕ)
+  writes [] = []
+  writes (gives n s ∷ gs) = onto (s Γ a b xs) [] ∷ writes gs
+
+  fills-writes : fills sides ≡ writes sides
+  unfolding fills writes sides template findRow templates among numberOnto typesOnto headOnto onto allOnto partOnto filledOnto lookup classOf formAt typeOf
+  fills-writes = refl
+
+  right-in : (gs : List Given) → fills gs ≡ writes gs → (n : ℕ) → isIn gs n ≡ true → filled (template n) filling ≡ enc (sideIn gs n Γ a b xs)
+  unfolding fills writes isIn sideIn first others
+  right-in [] e n h = let z : _≡_ {A = ℕ} 0 1 = cc in absurd (omega arith)
+  right-in (gives m s ∷ gs) e n h =
+      row-or n m s (sideIn gs n) (eqb n m) (isIn gs n) refl (ap first e) h (right-in gs (ap others e) n)
+
+pub right-side : (n : ℕ) → isIn sides n ≡ true → (Γ : Ctx) (a b : Tree) (xs : List Ty) → filled (template n) (filling Γ a b xs) ≡ enc (side n Γ a b xs)
+unfolding side
+right-side n h Γ a b xs = right-in Γ a b xs sides (fills-writes Γ a b xs) n h

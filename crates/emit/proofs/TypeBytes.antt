@@ -1,7 +1,7 @@
 -- What the first byte of a type says of the type that stands there; the ways out of `to_expression`.
 use mathlib.Core.Path.{_≡_, refl, sym, ap, ap₂, _∙_, subst}
 use mathlib.Core.List.{List, [], _∷_, _++_, append-assoc, append-nil}
-use Prim.Native.Nat.{ℕ, suc, _+_, _-_, _≤_, _<_}
+use Prim.Native.Nat.{ℕ, suc, _+_, _≤_, _<_}
 use native.Mathlib.Omega.{arith}
 use lib.ListN.{length, getD, length-append}
 use Rattle.frame.specs.Types.{Ty, bool, int, given, pow, prod}
@@ -20,7 +20,7 @@ use Rattle.emit.specs.declared.type_expression.Written.{Written}
 use Rattle.emit.proofs.Puts.{puts-then, puts-as, between-span}
 
 -- the first byte of a type
-abbrev lead : Ty → ℕ
+abbrev pub lead : Ty → ℕ
 lead bool = 0
 lead int = 1
 lead (given n) = 2
@@ -28,7 +28,7 @@ lead (pow t) = 3
 lead (prod t u) = 4
 
 module _ {s : List ℕ} {at : ℕ} where
-  lead-is : (t : Ty) → TypeAt s at t → (getD s at 0 ≡ lead t) × (at < length s)
+  pub lead-is : (t : Ty) → TypeAt s at t → (getD s at 0 ≡ lead t) × (at < length s)
   unfolding encTy
   lead-is bool h = (span-first h .byte, span-first h .within)
   lead-is int h = (span-first h .byte, span-first h .within)

@@ -13,7 +13,7 @@ use Rattle.nav.specs.PlaceTables.{Table, TagPost, ChildrenPost}
 use Rattle.nav.proofs.Hops.{child-first}
 use Rattle.rules.specs.Change.{to, same, _orElse_, when, onTag, contains}
 use Rattle.rules.specs.Simplify.{makeNeg}
-use Rattle.emit.proofs.RightSides.{right-71, right-72}
+use Rattle.emit.proofs.RightSides.{side}
 use Rattle.rewriter.specs.Decides.{HereTwo, DecidesTwo, orOpposite, InRow, ContainsPost}
 use Rattle.rewriter.specs.RulesAt.{impAnd}
 use Rattle.rewriter.specs.declared.decision.Decision.{Decision}
@@ -78,17 +78,18 @@ module _ (s st nx : List ℕ) (a b left : ℕ) (pl : TagPost s st a left) where
 
     module _ (e : Bool) (pe : ContainsPost s st nx (a + 1) m b false e) where
       pub out-71 : e ≡ true → (r : Decision) → r ≡ D.Fixed 71 71 a a a → DecidesTwo impAnd s st nx a b r
+      unfolding side
       out-71 z =
-          on-left impAnd s st nx a b 71 refl (λ v w. leaf #BTrue)
-          (λ t n Γ v w tb fa fb. form t n Γ v w tb fa ∙ rw (among false e pe t n Γ v w tb fa fb ∙ z)) (λ Γ v w. sym (right-71 _ _ _))
+          on-left impAnd s st nx a b 71 refl refl
+          (λ t n Γ v w tb fa fb. form t n Γ v w tb fa ∙ rw (among false e pe t n Γ v w tb fa fb ∙ z))
 
       module _ (n1 : e ≡ false) (u : Bool) (pu : ContainsPost s st nx (a + 1) m b true u) where
         pub out-72 : u ≡ true → (r : Decision) → r ≡ D.Fixed 72 72 a a a → DecidesTwo impAnd s st nx a b r
+        unfolding side
         out-72 z =
-            on-left impAnd s st nx a b 72 refl (λ v w. one #Not v)
+            on-left impAnd s st nx a b 72 refl refl
             (λ t n Γ v w tb fa fb.
             form t n Γ v w tb fa ∙ rw (among false e pe t n Γ v w tb fa fb ∙ n1, among true u pu t n Γ v w tb fa fb ∙ z))
-            (λ Γ v w. sym (right-72 v _ _ _))
 
         pub and-none : u ≡ false → DecidesTwo impAnd s st nx a b D.Rests
         and-none z =

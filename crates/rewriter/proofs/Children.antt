@@ -35,6 +35,13 @@ module _ (s st nx : List ℕ) (k : ℕ) where
   abbrev pub EachNode : (Forest → Type 0) → Type 0
   EachNode Z = (t : Tree) (n : ℕ) (Γ : Ctx) (g x : ℕ) (us : List Ty) (ks : Forest) → Table s t st nx n → find t [] k ≡ found Γ (node (head g x us) ks) → Z ks
 
+  -- a child is left where not all are behind
+  pub child-left : (r : ℕ) → ChildrenPost s st k r → (c i : ℕ) → i < r → (t : Tree) (n : ℕ) (Γ : Ctx) (g x : ℕ) (us : List Ty) (ks : Forest) → Table s t st nx n
+      → find t [] k ≡ found Γ (node (head g x us) ks) → (rest : Forest) → KidsAtPlace t [] c (under g us Γ) rest → i + count rest ≡ count ks → Child nx t (under g us Γ) rest c
+  child-left r many c i h t n Γ g x us ks tb f rest below done =
+      let z : r ≡ count ks = many .many t n Γ (node (head g x us) ks) (tb .framed) f in
+      child-of s st nx t n tb (under g us Γ) rest c below (omega (arith, done))
+
   -- i children of ks are behind, the others follow from place c on; P is what the loop keeps
   pub record Left (P : Forest → ℕ → Forest → Type 0) (t : Tree) (Θ : Ctx) (ks : Forest) (c i : ℕ) : Type 0 where
     pub rest : Forest
@@ -54,9 +61,7 @@ module _ (s st nx : List ℕ) (k : ℕ) where
       child : (t : Tree) (n : ℕ) (Γ : Ctx) (g x : ℕ) (us : List Ty) (ks : Forest) (tb : Table s t st nx n)
           (f : find t [] k ≡ found Γ (node (head g x us) ks)) → Child nx t (under g us Γ) (ls t n Γ g x us ks tb f .rest) c
       child t n Γ g x us ks tb f =
-          let q = ls t n Γ g x us ks tb f in
-          let z : r ≡ count ks = many .many t n Γ (node (head g x us) ks) (tb .framed) f in
-          child-of s st nx t n tb (under g us Γ) (q .rest) c (q .below) (omega (arith, q .done))
+          let q = ls t n Γ g x us ks tb f in child-left r many c i h t n Γ g x us ks tb f (q .rest) (q .below) (q .done)
 
       pub walk-placed : EachNode (λ ks. Placed s st c × (c < 2048))
       walk-placed t n Γ g x us ks tb f =

@@ -1,93 +1,54 @@
--- The ways out of rewrite_finite and finite_restricted_at of src/finite.rt: a law for each place.
+-- The ways out of rewrite_finite and finite_restricted_at of src/finite.rt: a law over the tags for each shape of a right side.
 use mathlib.Core.Path.{_≡_, refl, sym, ap, _∙_}
-use mathlib.Core.Bool.{Bool, true, false}
+use mathlib.Core.Bool.{true}
 use mathlib.Core.List.{List, [], _∷_}
 use Prim.Native.Nat.{ℕ, _+_, _<_}
-use native.Mathlib.Omega.{arith}
 use lib.ListN.{getD}
-use lib.Dec.{eqb}
 use borrow.Author.Tests.{ne-eqb}
-use Rattle.frame.specs.Types.{Ty}
-use Rattle.frame.specs.Trees.{head, Tree, node, Forest, nil, cons, tagOf, leaf, one, two, many, pair}
-use Rattle.frame.specs.Tags.{pick, predicate, expression, lookup, classOf, formAt}
-use Rattle.frame.specs.Operators.{#LAnd, #LOr, #BTrue, #BFalse}
+use Rattle.frame.specs.Trees.{head, Tree, node, tagOf}
+use Rattle.frame.specs.Tags.{predicate, expression, lookup, classOf, formAt}
 use Rattle.frame.specs.Places.{Ctx, found, find}
-use Rattle.typing.specs.Typing.{typeOf, carriedTy, source}
-use Rattle.typing.specs.TypeExpression.{toExpression}
+use Rattle.typing.specs.Typing.{typeOf}
 use Rattle.nav.specs.PlaceTables.{Table, TagPost}
 use Rattle.nav.proofs.Hops.{place-sorted}
-use Rattle.rules.specs.Change.{Change, to, same, onTag}
-use Rattle.rules.specs.Negation.{isEmpty}
+use Rattle.rules.specs.Change.{to, same, onTag}
 use Rattle.rules.specs.Finite.{finite, finiteLambda, rewriteFinite}
-use Rattle.emit.proofs.RightSides.{right-12, right-1, right-2, right-3, right-4, right-5, right-6, right-7, right-8, right-9, right-10, right-13}
+use Rattle.emit.proofs.Joins.{and-bytes}
+use Rattle.emit.proofs.RightSides.{side}
 use Rattle.rewriter.specs.Decides.{Here, HereTwo, Decides, DecidesTwo}
 use Rattle.rewriter.specs.RulesAt.{finiteRestricted}
 use Rattle.rewriter.specs.FiniteSet.{SetPre, SetPost}
 use Rattle.rewriter.specs.declared.decision.Decision.{Decision}
 use Rattle.rewriter.specs.declared.decision.Decision.the-variants as D
-use Rattle.rewriter.proofs.Shapes.{Double, double, fixed-at, unbound, by-rest, by-node, by-single, by-double, by-each, joins-and, or-same, two-here, by-two}
+use Rattle.rewriter.proofs.Shapes.{Double, double, OfNode, OfChild, OfTwo, OfEach, by-rest, by-double, by-each, or-same, two-here, by-two}
+use Rattle.rewriter.proofs.TagRows.{Row, row, isRow, by-children, by-nodes}
+use Rattle.rewriter.proofs.LogicTurns.{on-left}
+
+-- ---- the tags, each with its place
+-- a right side of the node itself, or without operands
+abbrev pub nodes : List Row
+nodes = row 407 1 ∷ row 402 2 ∷ row 403 2 ∷ row 401 2 ∷ row 404 3 ∷ row 412 4 ∷ row 5 5 ∷ row 221 10 ∷ row 410 13 ∷ row 411 13 ∷ []
+
+-- a right side of the child
+abbrev pub children : List Row
+children = row 752 7 ∷ row 763 9 ∷ []
 
 module _ (s st nx : List ℕ) (k tag : ℕ) (pt : TagPost s st k tag) where
-  pub finite-1 : tag ≡ 407 → (r : Decision) → r ≡ D.Fixed 1 1 k k k → Decides rewriteFinite s st nx k r
-  unfolding onTag lookup classOf formAt typeOf rewriteFinite
-  finite-1 key = by-node rewriteFinite s st nx k tag pt 407 key 1 refl (λ Γ n us ks. leaf #BTrue) (λ Γ n us ks. refl) (λ Γ n us ks. sym (right-1 _ _ us))
+  pub finite-node : (g p : ℕ) → isRow nodes g p ≡ true → OfNode rewriteFinite s st nx k tag g p
+  unfolding onTag lookup classOf formAt typeOf side rewriteFinite
+  finite-node = by-nodes rewriteFinite s st nx k tag pt nodes refl refl (λ Γ n us ks. refl)
 
-  pub finite-2-402 : tag ≡ 402 → (r : Decision) → r ≡ D.Fixed 2 2 k k k → Decides rewriteFinite s st nx k r
-  unfolding onTag lookup classOf formAt typeOf rewriteFinite
-  finite-2-402 key = by-node rewriteFinite s st nx k tag pt 402 key 2 refl (λ Γ n us ks. leaf #BFalse) (λ Γ n us ks. refl) (λ Γ n us ks. sym (right-2 _ _ us))
+  pub finite-child : (g p : ℕ) → isRow children g p ≡ true → OfChild rewriteFinite s st nx k tag g p
+  unfolding onTag lookup classOf formAt typeOf side rewriteFinite
+  finite-child = by-children rewriteFinite s st nx k tag pt children refl refl expression (λ x. refl) (λ Γ n us a. refl)
 
-  pub finite-2-403 : tag ≡ 403 → (r : Decision) → r ≡ D.Fixed 2 2 k k k → Decides rewriteFinite s st nx k r
-  unfolding onTag lookup classOf formAt typeOf rewriteFinite
-  finite-2-403 key = by-node rewriteFinite s st nx k tag pt 403 key 2 refl (λ Γ n us ks. leaf #BFalse) (λ Γ n us ks. refl) (λ Γ n us ks. sym (right-2 _ _ us))
+  pub finite-6 : OfEach rewriteFinite s st nx k tag 301 6
+  unfolding onTag lookup classOf formAt side rewriteFinite
+  finite-6 = by-each rewriteFinite s st nx k tag pt 301 6 refl refl (λ n us m. refl) and-bytes (λ Γ n us ks l. refl)
 
-  pub finite-2-401 : tag ≡ 401 → (r : Decision) → r ≡ D.Fixed 2 2 k k k → Decides rewriteFinite s st nx k r
-  unfolding onTag lookup classOf formAt typeOf rewriteFinite
-  finite-2-401 key = by-node rewriteFinite s st nx k tag pt 401 key 2 refl (λ Γ n us ks. leaf #BFalse) (λ Γ n us ks. refl) (λ Γ n us ks. sym (right-2 _ _ us))
-
-  pub finite-3 : tag ≡ 404 → (r : Decision) → r ≡ D.Fixed 3 3 k k k → Decides rewriteFinite s st nx k r
-  unfolding onTag lookup classOf formAt typeOf rewriteFinite
-  finite-3 key = by-node rewriteFinite s st nx k tag pt 404 key 3 refl (λ Γ n us ks. leaf #BTrue) (λ Γ n us ks. refl) (λ Γ n us ks. sym (right-3 _ _ us))
-
-  pub finite-4 : tag ≡ 412 → (r : Decision) → r ≡ D.Fixed 4 4 k k k → Decides rewriteFinite s st nx k r
-  unfolding onTag lookup classOf formAt typeOf rewriteFinite
-  finite-4 key = by-node rewriteFinite s st nx k tag pt 412 key 4 refl (λ Γ n us ks. finite (toExpression (source (carriedTy us)))) (λ Γ n us ks. refl) (λ Γ n us ks. sym (right-4 _ (carriedTy us) _ us))
-
-  pub finite-5 : tag ≡ 5 → (r : Decision) → r ≡ D.Fixed 5 5 k k k → Decides rewriteFinite s st nx k r
-  unfolding onTag lookup classOf formAt typeOf rewriteFinite
-  finite-5 key = by-node rewriteFinite s st nx k tag pt 5 key 5 refl (λ Γ n us ks. leaf #BTrue) (λ Γ n us ks. refl) (λ Γ n us ks. sym (right-5 _ _ us))
-
-  pub finite-6 : tag ≡ 301 → (r : Decision) → r ≡ D.Each 6 k k → Decides rewriteFinite s st nx k r
-  unfolding onTag lookup classOf formAt rewriteFinite
-  finite-6 key =
-      by-each rewriteFinite s st nx k tag pt 301 key 6 refl (λ n us m. refl) joins-and (λ Γ. finite) (λ Γ n us ks l. refl) (λ Γ us a. sym (right-6 a _ _ us))
-
-  pub finite-7 : tag ≡ 752 → (r : Decision) → r ≡ D.Fixed 7 7 (k + 1) (k + 1) k → Decides rewriteFinite s st nx k r
-  unfolding onTag lookup classOf formAt typeOf rewriteFinite
-  finite-7 key =
-      by-single rewriteFinite s st nx k tag pt 752 key 7 refl expression (λ x. refl) (λ Γ n us a. finite a) (λ Γ n us a. refl) (λ Γ n us a. sym (right-7 a _ _ us))
-
-  pub finite-8 : tag ≡ 214 → (j : ℕ) → (k + 1 < 2048 → j ≡ getD nx (k + 1) 0) → (r : Decision) → r ≡ D.Fixed 8 8 (k + 1) j k → Decides rewriteFinite s st nx k r
-  unfolding onTag lookup classOf formAt rewriteFinite
-  finite-8 key =
-      by-double rewriteFinite s st nx k tag pt 214 key 8 refl expression expression (λ x. refl) (λ Γ n us a b. many #LOr (cons (isEmpty Γ a) (pair (isEmpty Γ b) (many #LAnd (pair (finite a) (finite b)))))) (λ Γ n us a b. refl)
-      (λ Γ n us a b. sym (right-8 Γ a b us))
-
-  pub finite-9 : tag ≡ 763 → (r : Decision) → r ≡ D.Fixed 9 9 (k + 1) (k + 1) k → Decides rewriteFinite s st nx k r
-  unfolding onTag lookup classOf formAt typeOf rewriteFinite
-  finite-9 key =
-      by-single rewriteFinite s st nx k tag pt 763 key 9 refl expression (λ x. refl) (λ Γ n us a. finite a) (λ Γ n us a. refl) (λ Γ n us a. sym (right-9 a _ _ us))
-
-  pub finite-10 : tag ≡ 221 → (r : Decision) → r ≡ D.Fixed 10 10 k k k → Decides rewriteFinite s st nx k r
-  unfolding onTag lookup classOf formAt typeOf rewriteFinite
-  finite-10 key = by-node rewriteFinite s st nx k tag pt 221 key 10 refl (λ Γ n us ks. leaf #BTrue) (λ Γ n us ks. refl) (λ Γ n us ks. sym (right-10 _ _ us))
-
-  pub finite-13-410 : tag ≡ 410 → (r : Decision) → r ≡ D.Fixed 13 13 k k k → Decides rewriteFinite s st nx k r
-  unfolding onTag lookup classOf formAt typeOf rewriteFinite
-  finite-13-410 key = by-node rewriteFinite s st nx k tag pt 410 key 13 refl (λ Γ n us ks. finite (toExpression (source (carriedTy us)))) (λ Γ n us ks. refl) (λ Γ n us ks. sym (right-13 _ (carriedTy us) _ us))
-
-  pub finite-13-411 : tag ≡ 411 → (r : Decision) → r ≡ D.Fixed 13 13 k k k → Decides rewriteFinite s st nx k r
-  unfolding onTag lookup classOf formAt typeOf rewriteFinite
-  finite-13-411 key = by-node rewriteFinite s st nx k tag pt 411 key 13 refl (λ Γ n us ks. finite (toExpression (source (carriedTy us)))) (λ Γ n us ks. refl) (λ Γ n us ks. sym (right-13 _ (carriedTy us) _ us))
+  pub finite-8 : OfTwo rewriteFinite s st nx k tag 214 8
+  unfolding onTag lookup classOf formAt side rewriteFinite
+  finite-8 = by-double rewriteFinite s st nx k tag pt 214 8 refl refl expression expression (λ x. refl) (λ Γ n us a b. refl)
 
   -- a comprehension set: by its predicate and its value
   module _ (key : tag ≡ 803) where
@@ -136,12 +97,8 @@ module _ (s st nx : List ℕ) (k tag : ℕ) (pt : TagPost s st k tag) where
 module _ (s st nx : List ℕ) (a b tag : ℕ) (pt : TagPost s st b tag) where
   pub restricted-12 : (g : ℕ) → tag ≡ g → ((v w : Tree) → tagOf w ≡ g → finiteRestricted v w ≡ to 12 (finite v))
       → (r : Decision) → r ≡ D.Fixed 12 12 a a a → DecidesTwo finiteRestricted s st nx a b r
-  restricted-12 g key ans r er =
-      record {
-        means = λ t n Γ v w tb fa fb x Ξ kept.
-            let z : tagOf w ≡ g = sym (pt .tag t n Γ w (tb .framed) fb) ∙ key in
-            rw er (fixed-at t 12 12 (finiteRestricted v w) (finite v) (ans v w z) a a a Γ Γ v v v fa fa fa (unbound 12 (tagOf v) refl) (sym (right-12 v _ _ _)));
-      }
+  unfolding side
+  restricted-12 g key ans = on-left finiteRestricted s st nx a b 12 refl refl (λ t n Γ v w tb fa fb. ans v w (sym (pt .tag t n Γ w (tb .framed) fb) ∙ key))
 
   pub restricted-412 : tag ≡ 412 → (r : Decision) → r ≡ D.Fixed 12 12 a a a → DecidesTwo finiteRestricted s st nx a b r
   restricted-412 key = restricted-12 412 key (λ v w z. rw z)

@@ -16,12 +16,12 @@ use Rattle.nav.specs.PlaceTables.{Table, TagPost, SameAtPost}
 use Rattle.nav.proofs.Hops.{Sorted, place-sorted}
 use Rattle.rules.specs.Change.{to, same, _orElse_, when}
 use Rattle.rules.specs.Simplify.{makeNeg}
-use Rattle.emit.proofs.RightSides.{right-66, right-67, right-68, right-69, right-70, right-73, right-74}
+use Rattle.emit.proofs.RightSides.{side}
 use Rattle.rewriter.specs.Decides.{DecidesTwo, Compared, negatedAt}
 use Rattle.rewriter.specs.RulesAt.{impFirst, impLast}
 use Rattle.rewriter.specs.declared.decision.Decision.{Decision}
 use Rattle.rewriter.specs.declared.decision.Decision.the-variants as D
-use Rattle.rewriter.proofs.LogicTurns.{on-left, on-right, negated-means}
+use Rattle.rewriter.proofs.LogicTurns.{on-left, on-right, negated-left}
 use Rattle.rewriter.proofs.Opposites.{unary-when}
 
 -- ---- ⊤ has no payload, no types and no children
@@ -58,43 +58,42 @@ module _ (v w : Tree) where
 
 module _ (s st nx : List ℕ) (a b left right : ℕ) (pl : TagPost s st a left) (pr : TagPost s st b right) where
   pub out-66 : left ≡ 610 → (r : Decision) → r ≡ D.Fixed 66 66 b b b → DecidesTwo impFirst s st nx a b r
+  unfolding side
   out-66 z =
-      on-right impFirst s st nx a b 66 refl (λ v w. w) (λ t n Γ v w tb fa fb. imp-66 v w (sym (pl .tag t n Γ v (tb .framed) fa) ∙ z)) (λ Γ v w. sym (right-66 w _ _ _))
+      on-right impFirst s st nx a b 66 refl refl (λ t n Γ v w tb fa fb. imp-66 v w (sym (pl .tag t n Γ v (tb .framed) fa) ∙ z))
 
   pub out-67 : left ≡ 611 → (r : Decision) → r ≡ D.Fixed 67 67 a a a → DecidesTwo impFirst s st nx a b r
+  unfolding side
   out-67 z =
-      on-left impFirst s st nx a b 67 refl (λ v w. leaf #BTrue) (λ t n Γ v w tb fa fb. imp-67 v w (sym (pl .tag t n Γ v (tb .framed) fa) ∙ z)) (λ Γ v w. sym (right-67 _ _ _))
+      on-left impFirst s st nx a b 67 refl refl (λ t n Γ v w tb fa fb. imp-67 v w (sym (pl .tag t n Γ v (tb .framed) fa) ∙ z))
 
   module _ (n1 : left ≡ 610 → ⊥) (n2 : left ≡ 611 → ⊥) where
     pub out-68 : right ≡ 610 → (r : Decision) → r ≡ D.Fixed 68 68 a a a → DecidesTwo impFirst s st nx a b r
+    unfolding side
     out-68 z =
-        on-left impFirst s st nx a b 68 refl (λ v w. leaf #BTrue)
+        on-left impFirst s st nx a b 68 refl refl
         (λ t n Γ v w tb fa fb.
         let zl = pl .tag t n Γ v (tb .framed) fa in
         let zr : tagOf w ≡ 610 = sym (pr .tag t n Γ w (tb .framed) fb) ∙ z in
         imp-68 v w (λ q. n1 (zl ∙ q)) (λ q. n2 (zl ∙ q)) zr ∙ ap (to 68) (is-true w (place-sorted s t st n (tb .framed) b Γ w fb) zr))
-        (λ Γ v w. sym (right-68 _ _ _))
 
     pub out-69 : right ≡ 611 → (r : Decision) → r ≡ negatedAt 69 left a → DecidesTwo impFirst s st nx a b r
-    out-69 z r er =
-        record {
-          means = λ t n Γ v w tb fa fb x Ξ kept.
-              let zl = pl .tag t n Γ v (tb .framed) fa in
-              rw er
-              (negated-means s st nx t n a Γ v left 69 refl (impFirst v w) tb fa zl
-              (imp-69 v w (λ q. n1 (zl ∙ q)) (λ q. n2 (zl ∙ q)) (sym (pr .tag t n Γ w (tb .framed) fb) ∙ z))
-              (λ c us. sym (right-69 c _ _ us)) x Ξ kept);
-        }
+    unfolding side
+    out-69 z =
+        negated-left impFirst s st nx a b 69 refl refl (λ Γ u us. refl) left pl
+        (λ t n Γ v w tb fa fb.
+        let zl = pl .tag t n Γ v (tb .framed) fa in
+        imp-69 v w (λ q. n1 (zl ∙ q)) (λ q. n2 (zl ∙ q)) (sym (pr .tag t n Γ w (tb .framed) fb) ∙ z))
 
     module _ (n3 : right ≡ 610 → ⊥) (n4 : right ≡ 611 → ⊥) (e : Bool) (pe : SameAtPost s st a b e) where
       pub out-70 : e ≡ true → (r : Decision) → r ≡ D.Fixed 70 70 a a a → DecidesTwo impFirst s st nx a b r
+      unfolding side
       out-70 z =
-          on-left impFirst s st nx a b 70 refl (λ v w. leaf #BTrue)
+          on-left impFirst s st nx a b 70 refl refl
           (λ t n Γ v w tb fa fb.
           let zl = pl .tag t n Γ v (tb .framed) fa in
           let zr = pr .tag t n Γ w (tb .framed) fb in
           imp-70 v w (λ q. n1 (zl ∙ q)) (λ q. n2 (zl ∙ q)) (λ q. n3 (zr ∙ q)) (λ q. n4 (zr ∙ q)) (sym (pe .same t n Γ Γ v w (tb .framed) fa fb) ∙ z))
-          (λ Γ v w. sym (right-70 _ _ _))
 
       pub first-none : e ≡ false → DecidesTwo impFirst s st nx a b D.Rests
       first-none z =
@@ -118,13 +117,15 @@ module _ (s st nx : List ℕ) (a b : ℕ) (o : Bool) (po : Compared (one #Not) s
       ∙ ap (λ (x : Bool). when x (to 73 w) orElse when (sameTree w (one #Not v)) (to 74 w)) (sym (po .says t n Γ Γ v w (tb .framed) fa fb))
 
   pub out-73 : o ≡ true → (r : Decision) → r ≡ D.Fixed 73 73 b b b → DecidesTwo impLast s st nx a b r
-  out-73 z = on-right impLast s st nx a b 73 refl (λ v w. w) (λ t n Γ v w tb fa fb. last t n Γ v w tb fa fb ∙ rw z) (λ Γ v w. sym (right-73 w _ _ _))
+  unfolding side
+  out-73 z = on-right impLast s st nx a b 73 refl refl (λ t n Γ v w tb fa fb. last t n Γ v w tb fa fb ∙ rw z)
 
   module _ (n1 : o ≡ false) (u : Bool) (pu : Compared (one #Not) s st b a u) where
     pub out-74 : u ≡ true → (r : Decision) → r ≡ D.Fixed 74 74 b b b → DecidesTwo impLast s st nx a b r
+    unfolding side
     out-74 z =
-        on-right impLast s st nx a b 74 refl (λ v w. w)
-        (λ t n Γ v w tb fa fb. last t n Γ v w tb fa fb ∙ rw (n1, sym (pu .says t n Γ Γ w v (tb .framed) fb fa) ∙ z)) (λ Γ v w. sym (right-74 w _ _ _))
+        on-right impLast s st nx a b 74 refl refl
+        (λ t n Γ v w tb fa fb. last t n Γ v w tb fa fb ∙ rw (n1, sym (pu .says t n Γ Γ w v (tb .framed) fb fa) ∙ z))
 
     pub last-none : u ≡ false → DecidesTwo impLast s st nx a b D.Rests
     last-none z =

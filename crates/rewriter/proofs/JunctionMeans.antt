@@ -18,7 +18,7 @@ use Rattle.rules.specs.Change.{Change, to, same, when}
 use Rattle.rules.specs.Simplify.{Kept, kept, scan, finish, simplifyAssocPred}
 use Rattle.emit.specs.Template.{filled}
 use Rattle.emit.specs.Programs.{template}
-use Rattle.emit.proofs.RightSides.{right-1, right-2, right-64}
+use Rattle.emit.proofs.RightSides.{side, right-side}
 use Rattle.rewriter.specs.Decision.{filling, takesBinders, At, Means, FixedMeans}
 use Rattle.rewriter.specs.declared.decision.Decision.{Decision}
 use Rattle.rewriter.specs.declared.decision.Decision.the-variants as D
@@ -79,9 +79,10 @@ module _ (t : Tree) (k : ℕ) (Γ : Ctx) (g x : ℕ) (us : List Ty) (ks : Forest
 
     stay : (out : Forest) (c : Kept) → c ≡ kept out → At t Γ (take (count out) lent) out
         → Means t v Γ lent (settled (Stay (count out)) k (count ks) p pn pd) (ends c)
+    unfolding side
     stay nil c e a = fixed-means 63 pn k ln Γ v (leaf neutral) (ends c) (ap ends e) f (sym (en Γ v v))
     stay (cons w nil) c e a =
-        fixed-means 64 64 p refl Γ w w (ends c) (ap ends e) (ap (find t []) ep ∙ first-there t Γ lent w a) (sym (right-64 w (w ∷ []) _ us))
+        fixed-means 64 64 p refl Γ w w (ends c) (ap ends e) (ap (find t []) ep ∙ first-there t Γ lent w a) (sym (right-side 64 refl Γ w w us))
     stay (cons w (cons u out)) c e a =
         let o : Forest = cons w (cons u out) in
         let z : eqb (count o) 0 ≡ false = ne-eqb (count o) 0 (λ q. omega arith) in
@@ -112,10 +113,12 @@ Literal pattern g = ((ltb pattern 88 && not (takesBinders pattern)) ≡ true)
     × ((us : List Ty) (Δ : Ctx) (a b : Tree) → filled (template pattern) (filling Δ a b us) ≡ enc (leaf g))
 
 true-literal : Literal 1 610
-true-literal = (refl, λ us Δ a b. right-1 _ _ us)
+unfolding side
+true-literal = (refl, λ us Δ a b. right-side 1 refl Δ a b us)
 
 false-literal : Literal 2 611
-false-literal = (refl, λ us Δ a b. right-2 _ _ us)
+unfolding side
+false-literal = (refl, λ us Δ a b. right-side 2 refl Δ a b us)
 
 -- the decision, by the node's operator
 module _ (s st nx : List ℕ) (k r : ℕ) (many : ChildrenPost s st k r) (tag : ℕ) (post : TagPost s st k tag) (lent : List ℕ) (x : Outcome) (p : ℕ)

@@ -1,19 +1,19 @@
 -- The ways out of `absorb`: the state of the outer loop over the children, of the inner one over those kept, and their turns.
 -- Main results: few (no more children than the lent list has room for); states-first, turn-placed, turn-decides, turn-again,
 -- turn-end (the outer loop); scanned-first, scanned-both, scanned-meets, scanned-next, scanned-keeps, scanned-drops (the inner).
-use mathlib.Core.Path.{_≡_, refl, sym, ap, ap₂, _∙_, subst}
+use mathlib.Core.Path.{_≡_, refl, sym, ap, ap₂, _∙_}
 use mathlib.Core.Bool.{Bool, true, false, not, _||_}
 use mathlib.Core.List.{List, [], _∷_, _++_}
 use mathlib.Core.Logic.{_⊎_, ⊎-elim}
-use Prim.Native.Nat.{ℕ, zero, suc, _+_, _-_, _≤_, _<_}
+use Prim.Native.Nat.{ℕ, suc, _+_, _≤_, _<_}
 use native.Mathlib.Omega.{arith}
 use native.Mathlib.Numerals.{add-one}
 use lib.Dec.{eqb, leb}
 use lib.ListN.{length, take, drop, getD, set, length-take, length-set, drop-of-length-le}
-use lib.Seq.{drop-cons, getD-take, take-set-le, take-suc-set}
+use lib.Seq.{drop-cons, getD-take, take-suc-set}
 use borrow.Author.Tests.{eq-eqb, ne-eqb, leb-true}
 use Rattle.frame.specs.Types.{Ty}
-use Rattle.frame.specs.Trees.{Head, head, Tree, node, Forest, nil, cons, count, tagOf, append, nodes}
+use Rattle.frame.specs.Trees.{head, Tree, node, Forest, nil, cons, count, tagOf, append}
 use Rattle.frame.specs.Tags.{pick, Sort, lookup, classOf, formAt}
 use Rattle.frame.specs.WellFormed.{Wf}
 use Rattle.frame.specs.Places.{Ctx, under, found, find}
@@ -21,11 +21,11 @@ use Rattle.frame.specs.Sameness.{sameTree}
 use Rattle.frame.proofs.Splices.{find-lt}
 use Rattle.frame.proofs.SameTrees.{both-true}
 use Rattle.frame.proofs.Within.{KidsAtPlace}
-use Rattle.nav.specs.PlaceTables.{arity, Framed, Table, Placed, BothPlaced, TagPost, ChildrenPost, SameAtPost}
+use Rattle.nav.specs.PlaceTables.{Table, Placed, BothPlaced, TagPost, ChildrenPost, SameAtPost}
 use Rattle.nav.proofs.Hops.{framed-few, place-sorted, child-first}
 use Rattle.rules.specs.Change.{contains}
-use Rattle.rules.specs.Simplify.{makeNeg, Verdict, drops, keeps, decides, verdict, Kept, kept, decided, afterVerdict, scan}
-use Rattle.rewriter.proofs.Children.{Child, child-of}
+use Rattle.rules.specs.Simplify.{makeNeg, Verdict, drops, keeps, decides, verdict, afterVerdict, scan}
+use Rattle.rewriter.proofs.Children.{Child, child-left}
 use Rattle.rewriter.specs.Decision.{At}
 use Rattle.rewriter.specs.Decides.{Compared}
 use Rattle.rewriter.specs.Junction.{JunctionPre, Absorbed, AbsorbPost}
@@ -243,9 +243,7 @@ module _ (s st nx : List ℕ) (k neutral determinant : ℕ) where
       child : (t : Tree) (n : ℕ) (Γ : Ctx) (g x : ℕ) (us : List Ty) (ks : Forest) (tb : Table s t st nx n)
           (f : find t [] k ≡ found Γ (node (head g x us) ks)) → Child nx t (under g us Γ) (sts t n Γ g x us ks tb f .rest) c
       child t n Γ g x us ks tb f =
-          let q = sts t n Γ g x us ks tb f in
-          let z : r ≡ count ks = many .many t n Γ (node (head g x us) ks) (tb .framed) f in
-          child-of s st nx t n tb (under g us Γ) (q .rest) c (q .below) (omega (arith, q .done))
+          let q = sts t n Γ g x us ks tb f in child-left s st nx k r many c i h t n Γ g x us ks tb f (q .rest) (q .below) (q .done)
 
       pub turn-placed : (k' : List ℕ) → JunctionPre s st nx k k' → Placed s st c × (c < 2048)
       turn-placed k' pre =

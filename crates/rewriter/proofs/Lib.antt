@@ -1,4 +1,5 @@
 pub mod Shapes
+pub mod TagRows
 pub mod Negations
 pub mod TypeTurns
 pub mod EmptyTurns

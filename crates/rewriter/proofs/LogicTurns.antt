@@ -6,10 +6,9 @@ use Prim.Native.Nat.{ℕ, _+_, _<_}
 use lib.Dec.{eqb, ltb}
 use borrow.Author.Tests.{ne-eqb, eqb-true, eqb-false}
 use Rattle.frame.specs.Types.{Ty}
-use Rattle.frame.specs.Trees.{head, Tree, node, nil, cons, tagOf, leaf, one}
+use Rattle.frame.specs.Trees.{head, Tree, node, tagOf, leaf, one}
 use Rattle.frame.specs.Tags.{pick, predicate, lookup, classOf, formAt}
 use Rattle.frame.specs.Operators.{#BTrue, #BFalse, #Not}
-use Rattle.frame.specs.Encoding.{enc}
 use Rattle.frame.specs.Places.{Ctx, found, find}
 use Rattle.frame.specs.Sameness.{sameTree}
 use Rattle.nav.specs.PlaceTables.{Table, BothPlaced, TagPost, SameAtPost}
@@ -17,15 +16,13 @@ use Rattle.nav.proofs.Hops.{Sorted, place-sorted}
 use Rattle.nav.proofs.SamePlaces.{only-child}
 use Rattle.rules.specs.Change.{Change, to, same, _orElse_, when, onTag}
 use Rattle.rules.specs.Simplify.{makeNeg, simplifyEqv, simplifyNot}
-use Rattle.emit.specs.Template.{filled}
-use Rattle.emit.specs.Programs.{template}
-use Rattle.emit.proofs.RightSides.{right-64, right-75, right-76, right-77, right-78, right-79, right-80, right-81, right-82, right-83, right-84}
-use Rattle.rewriter.specs.Decision.{filling, takesBinders, Means}
+use Rattle.emit.proofs.RightSides.{sides, isIn, side, right-side}
+use Rattle.rewriter.specs.Decision.{takesBinders, FixedMeans, Means}
 use Rattle.rewriter.specs.Decides.{HereTwo, DecidesOne, DecidesTwo, Compared, negatedAt}
 use Rattle.rewriter.specs.declared.decision.Decision.{Decision}
 use Rattle.rewriter.specs.declared.decision.Decision.the-variants as D
 use Rattle.rewriter.proofs.Opposites.{neg-other, unary-when}
-use Rattle.rewriter.proofs.Shapes.{single, place-few, ownTypes, fixed-at, unbound, first-placed, second-placed, by-rest, by-node, by-single}
+use Rattle.rewriter.proofs.Shapes.{single, place-few, ownTypes, fixed-at, unbound, first-placed, second-placed, OfNode, OfChild, by-rest, by-node, by-single}
 
 -- ---- two places
 pub both-placed : {s st nx : List ℕ} {a b : ℕ} → HereTwo s st nx a b → BothPlaced s st a b
@@ -38,39 +35,53 @@ pub two-few : {s st nx : List ℕ} {a b : ℕ} → HereTwo s st nx a b → (a < 
 two-few h = (place-few (h .table) (h .first), place-few (h .table) (h .second))
 
 -- ---- decisions on one of two trees
-module _ (rule : Tree → Tree → Change) (s st nx : List ℕ) (a b : ℕ) (place : ℕ) (plain : (ltb place 88 && not (takesBinders place)) ≡ true) (new : Tree → Tree → Tree)
-    (ans : (t : Tree) (n : ℕ) (Γ : Ctx) (v w : Tree) → Table s t st nx n → find t [] a ≡ found Γ v → find t [] b ≡ found Γ w → rule v w ≡ to place (new v w)) where
-  pub on-left : ((Γ : Ctx) (v w : Tree) → enc (new v w) ≡ filled (template place) (filling Γ v v (ownTypes v)))
-      → (r : Decision) → r ≡ D.Fixed place place a a a → DecidesTwo rule s st nx a b r
-  on-left bytes r er =
-      record {
-        means = λ t n Γ v w tb fa fb x Ξ kept.
-            rw er (fixed-at t place place (rule v w) (new v w) (ans t n Γ v w tb fa fb) a a a Γ Γ v v v fa fa fa (unbound place (tagOf v) plain) (bytes Γ v w));
-      }
+module _ (rule : Tree → Tree → Change) (s st nx : List ℕ) (a b place : ℕ) (plain : (ltb place 88 && not (takesBinders place)) ≡ true) (has : isIn sides place ≡ true) where
+  -- what the rule answers, where trees stand at both places
+  abbrev Answers : (Ctx → Tree → Tree → Tree) → Type 0
+  Answers new = (t : Tree) (n : ℕ) (Γ : Ctx) (v w : Tree) → Table s t st nx n → find t [] a ≡ found Γ v → find t [] b ≡ found Γ w → rule v w ≡ to place (new Γ v w)
 
-  pub on-right : ((Γ : Ctx) (v w : Tree) → enc (new v w) ≡ filled (template place) (filling Γ w w (ownTypes w)))
-      → (r : Decision) → r ≡ D.Fixed place place b b b → DecidesTwo rule s st nx a b r
-  on-right bytes r er =
-      record {
-        means = λ t n Γ v w tb fa fb x Ξ kept.
-            rw er (fixed-at t place place (rule v w) (new v w) (ans t n Γ v w tb fa fb) b b b Γ Γ w w w fb fb fb (unbound place (tagOf w) plain) (bytes Γ v w));
-      }
+  abbrev Decided : Decision → Type 0
+  Decided d = (r : Decision) → r ≡ d → DecidesTwo rule s st nx a b r
 
--- ---- a negation, removed where there is one
-pub negated-means : (s st nx : List ℕ) (t : Tree) (n p : ℕ) (Γ : Ctx) (v : Tree) (tag place : ℕ) → (ltb place 88 && not (takesBinders place)) ≡ true → (c : Change) → Table s t st nx n → find t [] p ≡ found Γ v → tag ≡ tagOf v
-    → c ≡ to place (makeNeg v)
-    → ((a : Tree) (us : List Ty) → enc (one #Not a) ≡ filled (template place) (filling Γ a a us))
-    → (x : Tree) (Ξ : Ctx) (kept : List ℕ) → Means t x Ξ kept (negatedAt place tag p) c
-unfolding lookup classOf formAt makeNeg
-negated-means s st nx t n p Γ v tag place plain c tb f z ans bytes x Ξ kept = go (eqb tag 701) refl
-  where
-    go : (b : Bool) → eqb tag 701 ≡ b → Means t x Ξ kept (pick b (D.Fixed place 64 (p + 1) (p + 1) p) (D.Fixed place place p p p)) c
-    go true h =
-        let o = single 701 predicate (λ x. refl) v (place-sorted s t st n (tb .framed) p Γ v f) (sym z ∙ eqb-true tag 701 h) in
-        let fc = only-child t nx (tb .follows) p Γ 701 (o .n) (o .us) (o .a) (f ∙ ap (found Γ) (o .is)) in
-        fixed-at t place 64 c (o .a) (ans ∙ ap (λ (u : Tree). to place (makeNeg u)) (o .is)) (p + 1) (p + 1) p Γ Γ (o .a) (o .a) v fc fc f (unbound 64 (tagOf v) refl) (sym (right-64 (o .a) _ _ _))
-    go false h =
-        fixed-at t place place c (one #Not v) (ans ∙ ap (to place) (neg-other v (λ q. eqb-false tag 701 h (z ∙ q)))) p p p Γ Γ v v v f f f (unbound place (tagOf v) plain) (bytes v (ownTypes v))
+  -- the right side has the one operand u; its binder is u or the other tree
+  of-one : (t : Tree) (i j : ℕ) (Γ : Ctx) (u y : Tree) (c : Change) → find t [] i ≡ found Γ u → find t [] j ≡ found Γ y → c ≡ to place (side place Γ u u (ownTypes y))
+      → FixedMeans t place place i i j c
+  of-one t i j Γ u y c fu fy ans =
+      fixed-at t place place c (side place Γ u u (ownTypes y)) ans i i j Γ Γ u u y fu fu fy (unbound place (tagOf y) plain) (sym (right-side place has Γ u u (ownTypes y)))
+
+  pub on-left : Answers (λ Γ v w. side place Γ v v (ownTypes v)) → Decided (D.Fixed place place a a a)
+  on-left ans r er = record { means = λ t n Γ v w tb fa fb x Ξ kept. rw er (of-one t a a Γ v v (rule v w) fa fa (ans t n Γ v w tb fa fb)) }
+
+  pub on-right : Answers (λ Γ v w. side place Γ w w (ownTypes w)) → Decided (D.Fixed place place b b b)
+  on-right ans r er = record { means = λ t n Γ v w tb fa fb x Ξ kept. rw er (of-one t b b Γ w w (rule v w) fb fb (ans t n Γ v w tb fa fb)) }
+
+  pub on-right-at-left : Answers (λ Γ v w. side place Γ w w (ownTypes v)) → Decided (D.Fixed place place b b a)
+  on-right-at-left ans r er = record { means = λ t n Γ v w tb fa fb x Ξ kept. rw er (of-one t b a Γ w v (rule v w) fb fa (ans t n Γ v w tb fa fb)) }
+
+  -- a negation, removed where there is one
+  module _ (is : (Γ : Ctx) (u : Tree) (us : List Ty) → side place Γ u u us ≡ one #Not u) where
+    negated-means : (t : Tree) (n p : ℕ) (Γ : Ctx) (v : Tree) (tag : ℕ) (c : Change) → Table s t st nx n → find t [] p ≡ found Γ v → TagPost s st p tag
+        → c ≡ to place (makeNeg v) → (x : Tree) (Ξ : Ctx) (kept : List ℕ) → Means t x Ξ kept (negatedAt place tag p) c
+    unfolding lookup classOf formAt side makeNeg
+    negated-means t n p Γ v tag c tb f pt ans x Ξ kept = go (eqb tag 701) refl
+      where
+        go : (b : Bool) → eqb tag 701 ≡ b → Means t x Ξ kept (pick b (D.Fixed place 64 (p + 1) (p + 1) p) (D.Fixed place place p p p)) c
+        go true h =
+            let z = pt .tag t n Γ v (tb .framed) f in
+            let o = single 701 predicate (λ x. refl) v (place-sorted s t st n (tb .framed) p Γ v f) (sym z ∙ eqb-true tag 701 h) in
+            let fc = only-child t nx (tb .follows) p Γ 701 (o .n) (o .us) (o .a) (f ∙ ap (found Γ) (o .is)) in
+            fixed-at t place 64 c (o .a) (ans ∙ ap (λ (u : Tree). to place (makeNeg u)) (o .is)) (p + 1) (p + 1) p Γ Γ (o .a) (o .a) v fc fc f (unbound 64 (tagOf v) refl) (sym (right-side 64 refl Γ (o .a) (o .a) (ownTypes v)))
+        go false h =
+            let z = pt .tag t n Γ v (tb .framed) f in
+            of-one t p p Γ v v c f f (ans ∙ ap (to place) (neg-other v (λ q. eqb-false tag 701 h (z ∙ q)) ∙ sym (is Γ v (ownTypes v))))
+
+    pub negated-left : (left : ℕ) → TagPost s st a left → Answers (λ Γ v w. makeNeg v) → Decided (negatedAt place left a)
+    negated-left left pl ans r er =
+        record { means = λ t n Γ v w tb fa fb x Ξ kept. rw er (negated-means t n a Γ v left (rule v w) tb fa pl (ans t n Γ v w tb fa fb) x Ξ kept) }
+
+    pub negated-right : (right : ℕ) → TagPost s st b right → Answers (λ Γ v w. makeNeg w) → Decided (negatedAt place right b)
+    negated-right right pr ans r er =
+        record { means = λ t n Γ v w tb fa fb x Ξ kept. rw er (negated-means t n b Γ w right (rule v w) tb fb pr (ans t n Γ v w tb fa fb) x Ξ kept) }
 
 -- ---- ⇔
 module _ (v w : Tree) where
@@ -101,47 +112,43 @@ module _ (v w : Tree) where
 
 module _ (s st nx : List ℕ) (a b left right : ℕ) (pl : TagPost s st a left) (pr : TagPost s st b right) where
   pub out-75 : right ≡ 610 → (r : Decision) → r ≡ D.Fixed 75 75 a a a → DecidesTwo simplifyEqv s st nx a b r
+  unfolding side
   out-75 z =
-      on-left simplifyEqv s st nx a b 75 refl (λ v w. v) (λ t n Γ v w tb fa fb. eqv-75 v w (sym (pr .tag t n Γ w (tb .framed) fb) ∙ z)) (λ Γ v w. sym (right-75 v _ _ _))
+      on-left simplifyEqv s st nx a b 75 refl refl (λ t n Γ v w tb fa fb. eqv-75 v w (sym (pr .tag t n Γ w (tb .framed) fb) ∙ z))
 
   module _ (n1 : right ≡ 610 → ⊥) where
     pub out-76 : left ≡ 610 → (r : Decision) → r ≡ D.Fixed 76 76 b b b → DecidesTwo simplifyEqv s st nx a b r
+    unfolding side
     out-76 z =
-        on-right simplifyEqv s st nx a b 76 refl (λ v w. w)
-        (λ t n Γ v w tb fa fb. eqv-76 v w (λ q. n1 (pr .tag t n Γ w (tb .framed) fb ∙ q)) (sym (pl .tag t n Γ v (tb .framed) fa) ∙ z)) (λ Γ v w. sym (right-76 w _ _ _))
+        on-right simplifyEqv s st nx a b 76 refl refl
+        (λ t n Γ v w tb fa fb. eqv-76 v w (λ q. n1 (pr .tag t n Γ w (tb .framed) fb ∙ q)) (sym (pl .tag t n Γ v (tb .framed) fa) ∙ z))
 
     module _ (n2 : left ≡ 610 → ⊥) (e : Bool) (pe : SameAtPost s st a b e) where
       pub out-77 : e ≡ true → (r : Decision) → r ≡ D.Fixed 77 77 a a a → DecidesTwo simplifyEqv s st nx a b r
+      unfolding side
       out-77 z =
-          on-left simplifyEqv s st nx a b 77 refl (λ v w. leaf #BTrue)
+          on-left simplifyEqv s st nx a b 77 refl refl
           (λ t n Γ v w tb fa fb. eqv-77 v w (λ q. n1 (pr .tag t n Γ w (tb .framed) fb ∙ q)) (λ q. n2 (pl .tag t n Γ v (tb .framed) fa ∙ q)) (sym (pe .same t n Γ Γ v w (tb .framed) fa fb) ∙ z))
-          (λ Γ v w. sym (right-77 _ _ _))
 
       module _ (n3 : e ≡ false) where
         pub out-78 : right ≡ 611 → (r : Decision) → r ≡ negatedAt 78 left a → DecidesTwo simplifyEqv s st nx a b r
-        out-78 z r er =
-            record {
-              means = λ t n Γ v w tb fa fb x Ξ kept.
-                  let zl = pl .tag t n Γ v (tb .framed) fa in
-                  let zr = pr .tag t n Γ w (tb .framed) fb in
-                  rw er
-                  (negated-means s st nx t n a Γ v left 78 refl (simplifyEqv v w) tb fa zl
-                  (eqv-78 v w (λ q. n1 (zr ∙ q)) (λ q. n2 (zl ∙ q)) (sym (pe .same t n Γ Γ v w (tb .framed) fa fb) ∙ n3) (sym zr ∙ z))
-                  (λ c us. sym (right-78 c _ _ us)) x Ξ kept);
-            }
+        unfolding side
+        out-78 z =
+            negated-left simplifyEqv s st nx a b 78 refl refl (λ Γ u us. refl) left pl
+            (λ t n Γ v w tb fa fb.
+            let zl = pl .tag t n Γ v (tb .framed) fa in
+            let zr = pr .tag t n Γ w (tb .framed) fb in
+            eqv-78 v w (λ q. n1 (zr ∙ q)) (λ q. n2 (zl ∙ q)) (sym (pe .same t n Γ Γ v w (tb .framed) fa fb) ∙ n3) (sym zr ∙ z))
 
         module _ (n4 : right ≡ 611 → ⊥) where
           pub out-79 : left ≡ 611 → (r : Decision) → r ≡ negatedAt 79 right b → DecidesTwo simplifyEqv s st nx a b r
-          out-79 z r er =
-              record {
-                means = λ t n Γ v w tb fa fb x Ξ kept.
-                    let zl = pl .tag t n Γ v (tb .framed) fa in
-                    let zr = pr .tag t n Γ w (tb .framed) fb in
-                    rw er
-                    (negated-means s st nx t n b Γ w right 79 refl (simplifyEqv v w) tb fb zr
-                    (eqv-79 v w (λ q. n1 (zr ∙ q)) (λ q. n2 (zl ∙ q)) (sym (pe .same t n Γ Γ v w (tb .framed) fa fb) ∙ n3) (λ q. n4 (zr ∙ q)) (sym zl ∙ z))
-                    (λ c us. sym (right-79 c _ _ us)) x Ξ kept);
-              }
+          unfolding side
+          out-79 z =
+              negated-right simplifyEqv s st nx a b 79 refl refl (λ Γ u us. refl) right pr
+              (λ t n Γ v w tb fa fb.
+              let zl = pl .tag t n Γ v (tb .framed) fa in
+              let zr = pr .tag t n Γ w (tb .framed) fb in
+              eqv-79 v w (λ q. n1 (zr ∙ q)) (λ q. n2 (zl ∙ q)) (sym (pe .same t n Γ Γ v w (tb .framed) fa fb) ∙ n3) (λ q. n4 (zr ∙ q)) (sym zl ∙ z))
 
           module _ (n5 : left ≡ 611 → ⊥) where
             last : (t : Tree) (n : ℕ) (Γ : Ctx) (v w : Tree) → Table s t st nx n → find t [] a ≡ found Γ v → find t [] b ≡ found Γ w
@@ -154,15 +161,17 @@ module _ (s st nx : List ℕ) (a b left right : ℕ) (pl : TagPost s st a left) 
 
             module _ (o : Bool) (po : Compared (one #Not) s st b a o) where
               pub out-80 : o ≡ true → (r : Decision) → r ≡ D.Fixed 80 80 a a a → DecidesTwo simplifyEqv s st nx a b r
+              unfolding side
               out-80 z =
-                  on-left simplifyEqv s st nx a b 80 refl (λ v w. leaf #BFalse)
-                  (λ t n Γ v w tb fa fb. last t n Γ v w tb fa fb ∙ rw (sym (po .says t n Γ Γ w v (tb .framed) fb fa) ∙ z)) (λ Γ v w. sym (right-80 _ _ _))
+                  on-left simplifyEqv s st nx a b 80 refl refl
+                  (λ t n Γ v w tb fa fb. last t n Γ v w tb fa fb ∙ rw (sym (po .says t n Γ Γ w v (tb .framed) fb fa) ∙ z))
 
               module _ (n6 : o ≡ false) (u : Bool) (pu : Compared (one #Not) s st a b u) where
                 pub out-81 : u ≡ true → (r : Decision) → r ≡ D.Fixed 81 81 a a a → DecidesTwo simplifyEqv s st nx a b r
+                unfolding side
                 out-81 z =
-                    on-left simplifyEqv s st nx a b 81 refl (λ v w. leaf #BFalse)
-                    (λ t n Γ v w tb fa fb. last t n Γ v w tb fa fb ∙ rw (sym (po .says t n Γ Γ w v (tb .framed) fb fa) ∙ n6, sym (pu .says t n Γ Γ v w (tb .framed) fa fb) ∙ z)) (λ Γ v w. sym (right-81 _ _ _))
+                    on-left simplifyEqv s st nx a b 81 refl refl
+                    (λ t n Γ v w tb fa fb. last t n Γ v w tb fa fb ∙ rw (sym (po .says t n Γ Γ w v (tb .framed) fb fa) ∙ n6, sym (pu .says t n Γ Γ v w (tb .framed) fa fb) ∙ z))
 
                 pub eqv-none : u ≡ false → DecidesTwo simplifyEqv s st nx a b D.Rests
                 eqv-none z =
@@ -173,20 +182,17 @@ module _ (s st nx : List ℕ) (a b left right : ℕ) (pl : TagPost s st a left) 
 
 -- ---- ¬ in logic
 module _ (s st nx : List ℕ) (k tag : ℕ) (pt : TagPost s st k tag) where
-  pub out-82 : tag ≡ 610 → (r : Decision) → r ≡ D.Fixed 82 82 k k k → DecidesOne simplifyNot s st nx k r
-  unfolding onTag
-  out-82 key =
-      by-node (λ Γ. simplifyNot) s st nx k tag pt 610 key 82 refl (λ Γ n us ks. leaf #BFalse) (λ Γ n us ks. refl) (λ Γ n us ks. sym (right-82 _ _ _))
+  pub out-82 : OfNode (λ Γ. simplifyNot) s st nx k tag 610 82
+  unfolding onTag side
+  out-82 = by-node (λ Γ. simplifyNot) s st nx k tag pt 610 82 refl refl (λ Γ n us ks. refl)
 
-  pub out-83 : tag ≡ 611 → (r : Decision) → r ≡ D.Fixed 83 83 k k k → DecidesOne simplifyNot s st nx k r
-  unfolding onTag
-  out-83 key =
-      by-node (λ Γ. simplifyNot) s st nx k tag pt 611 key 83 refl (λ Γ n us ks. leaf #BTrue) (λ Γ n us ks. refl) (λ Γ n us ks. sym (right-83 _ _ _))
+  pub out-83 : OfNode (λ Γ. simplifyNot) s st nx k tag 611 83
+  unfolding onTag side
+  out-83 = by-node (λ Γ. simplifyNot) s st nx k tag pt 611 83 refl refl (λ Γ n us ks. refl)
 
-  pub out-84 : tag ≡ 701 → (r : Decision) → r ≡ D.Fixed 84 84 (k + 1) (k + 1) k → DecidesOne simplifyNot s st nx k r
-  unfolding onTag lookup classOf formAt
-  out-84 key =
-      by-single (λ Γ. simplifyNot) s st nx k tag pt 701 key 84 refl predicate (λ x. refl) (λ Γ n us a. a) (λ Γ n us a. refl) (λ Γ n us a. sym (right-84 a _ _ _))
+  pub out-84 : OfChild (λ Γ. simplifyNot) s st nx k tag 701 84
+  unfolding onTag lookup classOf formAt side
+  out-84 = by-single (λ Γ. simplifyNot) s st nx k tag pt 701 84 refl refl predicate (λ x. refl) (λ Γ n us a. refl)
 
   pub not-none : (tag ≡ 610 → ⊥) → (tag ≡ 611 → ⊥) → (tag ≡ 701 → ⊥) → DecidesOne simplifyNot s st nx k D.Rests
   unfolding onTag

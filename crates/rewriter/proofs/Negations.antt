@@ -1,22 +1,25 @@
 -- The ways out of src/negation.rt.
--- Main results: unequal-20 to unequal-23, unequal-none; not-16 to not-19, not-equal, not-none (on what is negated); not-other, of-inner.
+-- Main results: unequal-20 to unequal-23, unequal-none; not-compared, not-equal, not-none (on what is negated); not-other, of-inner.
 use mathlib.Core.Path.{_≡_, refl, sym, _∙_}
+use mathlib.Core.Bool.{true}
 use mathlib.Core.List.{List, [], _∷_}
 use Prim.Native.Nat.{ℕ, _+_, _<_}
 use lib.ListN.{getD}
 use borrow.Author.Tests.{ne-eqb}
 use Rattle.frame.specs.Trees.{head, Tree, node, tagOf, leaf, two}
 use Rattle.frame.specs.Tags.{predicate, expression, lookup, classOf, formAt}
-use Rattle.frame.specs.Operators.{#Equal, #Lt, #Le, #Gt, #Ge, #True, #False}
+use Rattle.frame.specs.Operators.{#Equal, #True, #False}
 use Rattle.nav.specs.PlaceTables.{TagPost}
 use Rattle.rules.specs.Change.{to, same, onTag, with1}
 use Rattle.rules.specs.Negation.{rewriteNot, rewriteNotInner}
-use Rattle.emit.proofs.RightSides.{right-16, right-17, right-18, right-19, right-20, right-21, right-22, right-23}
+use Rattle.emit.proofs.RightSides.{side}
 use Rattle.rewriter.specs.Decides.{Here, HereTwo, DecidesOne, DecidesTwo, Unlike}
 use Rattle.rewriter.specs.RulesAt.{unequal}
 use Rattle.rewriter.specs.declared.decision.Decision.{Decision}
 use Rattle.rewriter.specs.declared.decision.Decision.the-variants as D
-use Rattle.rewriter.proofs.Shapes.{fixed-at, unbound, by-rest, by-other, by-double, two-here, by-two}
+use Rattle.rewriter.proofs.Shapes.{OfTwo, by-rest, by-other, two-here, by-two}
+use Rattle.rewriter.proofs.TagRows.{Row, row, isRow, by-doubles}
+use Rattle.rewriter.proofs.LogicTurns.{on-left, on-right-at-left}
 use Rattle.rewriter.proofs.Descents.{here-child, by-child}
 
 -- ---- ¬ a = b
@@ -44,39 +47,29 @@ module _ (v w : Tree) where
 
 module _ (s st nx : List ℕ) (a b : ℕ) (right : ℕ) (pr : TagPost s st b right) where
   pub unequal-20 : right ≡ 406 → (r : Decision) → r ≡ D.Fixed 20 20 a a a → DecidesTwo unequal s st nx a b r
-  unequal-20 h r er =
-      record {
-        means = λ t n Γ v w tb fa fb x Ξ kept.
-            let z : tagOf w ≡ 406 = sym (pr .tag t n Γ w (tb .framed) fb) ∙ h in
-            rw er (fixed-at t 20 20 (unequal v w) (two #Equal v (leaf #True)) (ans-20 v w z) a a a Γ Γ v v v fa fa fa (unbound 20 (tagOf v) refl) (sym (right-20 v _ _ _)));
-      }
+  unfolding side
+  unequal-20 h = on-left unequal s st nx a b 20 refl refl (λ t n Γ v w tb fa fb. ans-20 v w (sym (pr .tag t n Γ w (tb .framed) fb) ∙ h))
 
   pub unequal-21 : right ≡ 405 → (r : Decision) → r ≡ D.Fixed 21 21 a a a → DecidesTwo unequal s st nx a b r
-  unequal-21 h r er =
-      record {
-        means = λ t n Γ v w tb fa fb x Ξ kept.
-            let z : tagOf w ≡ 405 = sym (pr .tag t n Γ w (tb .framed) fb) ∙ h in
-            rw er (fixed-at t 21 21 (unequal v w) (two #Equal v (leaf #False)) (ans-21 v w z) a a a Γ Γ v v v fa fa fa (unbound 21 (tagOf v) refl) (sym (right-21 v _ _ _)));
-      }
+  unfolding side
+  unequal-21 h = on-left unequal s st nx a b 21 refl refl (λ t n Γ v w tb fa fb. ans-21 v w (sym (pr .tag t n Γ w (tb .framed) fb) ∙ h))
 
   module _ (h : right ≡ 406 → ⊥) (i : right ≡ 405 → ⊥) (left : ℕ) (pl : TagPost s st a left) where
     pub unequal-22 : left ≡ 406 → (r : Decision) → r ≡ D.Fixed 22 22 b b a → DecidesTwo unequal s st nx a b r
-    unequal-22 j r er =
-        record {
-          means = λ t n Γ v w tb fa fb x Ξ kept.
-              let y = pr .tag t n Γ w (tb .framed) fb in
-              let z : tagOf v ≡ 406 = sym (pl .tag t n Γ v (tb .framed) fa) ∙ j in
-              rw er (fixed-at t 22 22 (unequal v w) (two #Equal (leaf #True) w) (ans-22 v w (λ q. h (y ∙ q)) (λ q. i (y ∙ q)) z) b b a Γ Γ w w v fb fb fa (unbound 22 (tagOf v) refl) (sym (right-22 w _ _ _)));
-        }
+    unfolding side
+    unequal-22 j =
+        on-right-at-left unequal s st nx a b 22 refl refl
+        (λ t n Γ v w tb fa fb.
+        let y = pr .tag t n Γ w (tb .framed) fb in
+        ans-22 v w (λ q. h (y ∙ q)) (λ q. i (y ∙ q)) (sym (pl .tag t n Γ v (tb .framed) fa) ∙ j))
 
     pub unequal-23 : left ≡ 405 → (r : Decision) → r ≡ D.Fixed 23 23 b b a → DecidesTwo unequal s st nx a b r
-    unequal-23 j r er =
-        record {
-          means = λ t n Γ v w tb fa fb x Ξ kept.
-              let y = pr .tag t n Γ w (tb .framed) fb in
-              let z : tagOf v ≡ 405 = sym (pl .tag t n Γ v (tb .framed) fa) ∙ j in
-              rw er (fixed-at t 23 23 (unequal v w) (two #Equal (leaf #False) w) (ans-23 v w (λ q. h (y ∙ q)) (λ q. i (y ∙ q)) z) b b a Γ Γ w w v fb fb fa (unbound 23 (tagOf v) refl) (sym (right-23 w _ _ _)));
-        }
+    unfolding side
+    unequal-23 j =
+        on-right-at-left unequal s st nx a b 23 refl refl
+        (λ t n Γ v w tb fa fb.
+        let y = pr .tag t n Γ w (tb .framed) fb in
+        ans-23 v w (λ q. h (y ∙ q)) (λ q. i (y ∙ q)) (sym (pl .tag t n Γ v (tb .framed) fa) ∙ j))
 
     pub unequal-none : (left ≡ 406 → ⊥) → (left ≡ 405 → ⊥) → DecidesTwo unequal s st nx a b D.Rests
     unequal-none j l =
@@ -88,32 +81,16 @@ module _ (s st nx : List ℕ) (a b : ℕ) (right : ℕ) (pr : TagPost s st b rig
         }
 
 -- ---- by the tag of what is negated
+-- the comparisons, each with its place
+abbrev pub comparisons : List Row
+comparisons = row 104 16 ∷ row 106 17 ∷ row 105 18 ∷ row 103 19 ∷ []
+
 module _ (s st nx : List ℕ) (k tag : ℕ) (pt : TagPost s st k tag) where
+  pub not-compared : (g p : ℕ) → isRow comparisons g p ≡ true → OfTwo (λ Γ. rewriteNotInner) s st nx k tag g p
+  unfolding onTag lookup classOf formAt side
+  not-compared = by-doubles (λ Γ. rewriteNotInner) s st nx k tag pt comparisons refl refl expression expression (λ x. refl) (λ Γ n us a b. refl)
+
   module _ (j : ℕ) (ej : k + 1 < 2048 → j ≡ getD nx (k + 1) 0) where
-    pub not-16 : tag ≡ 104 → (r : Decision) → r ≡ D.Fixed 16 16 (k + 1) j k → DecidesOne rewriteNotInner s st nx k r
-    unfolding onTag lookup classOf formAt
-    not-16 key =
-        by-double (λ Γ. rewriteNotInner) s st nx k tag pt 104 key 16 refl expression expression (λ x. refl) (λ Γ n us a b. two #Gt a b) (λ Γ n us a b. refl)
-        (λ Γ n us a b. sym (right-16 a b _ us)) j ej
-
-    pub not-17 : tag ≡ 106 → (r : Decision) → r ≡ D.Fixed 17 17 (k + 1) j k → DecidesOne rewriteNotInner s st nx k r
-    unfolding onTag lookup classOf formAt
-    not-17 key =
-        by-double (λ Γ. rewriteNotInner) s st nx k tag pt 106 key 17 refl expression expression (λ x. refl) (λ Γ n us a b. two #Lt a b) (λ Γ n us a b. refl)
-        (λ Γ n us a b. sym (right-17 a b _ us)) j ej
-
-    pub not-18 : tag ≡ 105 → (r : Decision) → r ≡ D.Fixed 18 18 (k + 1) j k → DecidesOne rewriteNotInner s st nx k r
-    unfolding onTag lookup classOf formAt
-    not-18 key =
-        by-double (λ Γ. rewriteNotInner) s st nx k tag pt 105 key 18 refl expression expression (λ x. refl) (λ Γ n us a b. two #Le a b) (λ Γ n us a b. refl)
-        (λ Γ n us a b. sym (right-18 a b _ us)) j ej
-
-    pub not-19 : tag ≡ 103 → (r : Decision) → r ≡ D.Fixed 19 19 (k + 1) j k → DecidesOne rewriteNotInner s st nx k r
-    unfolding onTag lookup classOf formAt
-    not-19 key =
-        by-double (λ Γ. rewriteNotInner) s st nx k tag pt 103 key 19 refl expression expression (λ x. refl) (λ Γ n us a b. two #Ge a b) (λ Γ n us a b. refl)
-        (λ Γ n us a b. sym (right-19 a b _ us)) j ej
-
     -- ¬ a = b: at the two children
     pub equation-here : tag ≡ 101 → Here s st nx k → HereTwo s st nx (k + 1) j
     unfolding lookup classOf formAt

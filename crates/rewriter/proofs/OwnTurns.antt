@@ -7,7 +7,7 @@ use Prim.Native.Nat.{ℕ, _+_, _≤_, _<_}
 use native.Mathlib.Omega.{arith}
 use lib.ListN.{length, getD}
 use Rattle.frame.specs.Types.{Ty, given, pow}
-use Rattle.frame.specs.Trees.{head, Tree, node, Forest, nil, cons, tagOf}
+use Rattle.frame.specs.Trees.{head, Tree, node, Forest, nil, cons, tagOf, leaf}
 use Rattle.frame.specs.Tags.{Sort, expression, lookup, classOf, formAt}
 use Rattle.frame.specs.Encoding.{encNumber, encTy, encTys, encHead, enc}
 use Rattle.frame.specs.Reading.{frameLimit, numberAt}
@@ -27,8 +27,8 @@ use Rattle.frame.proofs.Splices.{find-lt}
 use Rattle.rules.specs.Dispatch.{isOwnType}
 use Rattle.rewriter.specs.Decides.{Here}
 use Rattle.rewriter.specs.OwnType.{NamePre, NamedPost, OwnTypePost}
-use Rattle.rewriter.proofs.Shapes.{bare, single, double, sorted-is}
-use Rattle.rewriter.proofs.Descents.{plain}
+use Rattle.rewriter.proofs.Shapes.{Takes, bare, single, double, sorted-is}
+use Rattle.rewriter.proofs.Descents.{Plain, plain}
 use Rattle.rewriter.proofs.OwnTypes.{own-bool, own-int, own-ident, own-pow, own-times, own-other}
 
 -- ---- an identifier
@@ -124,21 +124,21 @@ module _ (s st nx : List ℕ) (k tag : ℕ) (pt : TagPost s st k tag) where
     formed-as : (w : Tree) → v ≡ w → Sorted w
     formed-as w z = sorted-is v w z formed
 
+  -- a name that stands for a type
+  out-named : (g : ℕ) → Takes g [] → Plain g → ((Γ : Ctx) → isOwnType Γ (leaf g) ≡ true) → tag ≡ g → OwnTypePost s st nx k true
+  out-named g tk pl own key = record {
+    says = λ t n Γ v tb f.
+        let o = bare g tk v (formed g key tb f) (tag-is g key tb f) in
+        rw (o .is, plain g pl (o .n) (o .us) nil (formed-as g key tb f _ (o .is))) (sym (own Γ));
+  }
+
   pub out-bool : tag ≡ 404 → OwnTypePost s st nx k true
   unfolding lookup classOf formAt
-  out-bool key = record {
-    says = λ t n Γ v tb f.
-        let o = bare 404 (λ x. refl) v (formed 404 key tb f) (tag-is 404 key tb f) in
-        rw (o .is, plain 404 (λ x. (refl, refl)) (o .n) (o .us) nil (formed-as 404 key tb f _ (o .is))) (sym (own-bool Γ));
-  }
+  out-bool = out-named 404 (λ x. refl) (λ x. (refl, refl)) own-bool
 
   pub out-int : tag ≡ 401 → OwnTypePost s st nx k true
   unfolding lookup classOf formAt
-  out-int key = record {
-    says = λ t n Γ v tb f.
-        let o = bare 401 (λ x. refl) v (formed 401 key tb f) (tag-is 401 key tb f) in
-        rw (o .is, plain 401 (λ x. (refl, refl)) (o .n) (o .us) nil (formed-as 401 key tb f _ (o .is))) (sym (own-int Γ));
-  }
+  out-int = out-named 401 (λ x. refl) (λ x. (refl, refl)) own-int
 
   pub name-here : tag ≡ 1 → Here s st nx k → NamePre s st k
   name-here key h = record {

@@ -4,9 +4,10 @@ use mathlib.Core.Bool.{Bool, true, false}
 use mathlib.Core.List.{List}
 use Prim.Native.Nat.{ℕ}
 use borrow.Author.Tests.{eq-eqb, ne-eqb}
-use Rattle.frame.specs.Trees.{tagOf}
+use Rattle.frame.specs.Trees.{Tree, tagOf}
+use Rattle.frame.specs.Places.{Ctx}
 use Rattle.nav.specs.PlaceTables.{TagPost}
-use Rattle.rules.specs.Change.{_orElse_}
+use Rattle.rules.specs.Change.{Change, _orElse_}
 use Rattle.rules.specs.EqualsEmptySet.{rewriteEqualsEmptySet}
 use Rattle.rules.specs.EqualsType.{rewriteEqualsType}
 use Rattle.rules.specs.Dispatch.{emptyRules, equalRules, subsetRules}
@@ -18,22 +19,23 @@ use Rattle.rewriter.specs.declared.decision.Decision.the-variants as D
 use Rattle.rewriter.proofs.Series.{turned, series-first, series-next}
 
 module _ (s st nx : List ℕ) (a b right : ℕ) (pr : TagPost s st b right) where
+  -- a rule that looks at the left tree where the right one is ∅
+  on-empty : (rule : Ctx → Tree → Tree → Change) → ((Γ : Ctx) (v w : Tree) → tagOf w ≡ 407 → rule Γ v w ≡ rewriteEqualsEmptySet Γ v)
+      → right ≡ 407 → (r : Decision) → Decides rewriteEqualsEmptySet s st nx a r → DecidesPair rule s st nx a b r
+  on-empty rule ans z r p = record {
+    means = λ t n Γ v w tb fa fb x Ξ kept. rw (ans Γ v w (sym (pr .tag t n Γ w (tb .framed) fb) ∙ z)) (p .means t n Γ v tb fa x Ξ kept);
+  }
+
   -- ---- ⊆
   pub within-none : (right ≡ 407 → ⊥) → DecidesPair subsetRules s st nx a b D.Rests
   within-none h = record { means = λ t n Γ v w tb fa fb x Ξ kept. rw (ne-eqb (tagOf w) 407 (λ z. h (pr .tag t n Γ w (tb .framed) fb ∙ z))) }
 
   pub within-empty : right ≡ 407 → (r : Decision) → Decides rewriteEqualsEmptySet s st nx a r → DecidesPair subsetRules s st nx a b r
-  within-empty z r p = record {
-    means = λ t n Γ v w tb fa fb x Ξ kept.
-        rw (eq-eqb (tagOf w) 407 (sym (pr .tag t n Γ w (tb .framed) fb) ∙ z)) (p .means t n Γ v tb fa x Ξ kept);
-  }
+  within-empty = on-empty subsetRules (λ Γ v w z. rw (eq-eqb (tagOf w) 407 z))
 
   -- ---- =, the empty rules
   pub empty-right : right ≡ 407 → (r : Decision) → Decides rewriteEqualsEmptySet s st nx a r → DecidesPair emptyRules s st nx a b r
-  empty-right z r p = record {
-    means = λ t n Γ v w tb fa fb x Ξ kept.
-        rw (eq-eqb (tagOf w) 407 (sym (pr .tag t n Γ w (tb .framed) fb) ∙ z)) (p .means t n Γ v tb fa x Ξ kept);
-  }
+  empty-right = on-empty emptyRules (λ Γ v w z. rw (eq-eqb (tagOf w) 407 z))
 
   module _ (h : right ≡ 407 → ⊥) (left : ℕ) (pl : TagPost s st a left) where
     pub empty-left : left ≡ 407 → (r : Decision) → Decides rewriteEqualsEmptySet s st nx b r → DecidesPair emptyRules s st nx a b r

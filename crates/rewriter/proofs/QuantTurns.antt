@@ -20,13 +20,14 @@ use Rattle.rules.specs.Simplify.{simplifyForall, simplifyExists}
 use Rattle.rules.specs.Negation.{isEmpty, rewritePartition}
 use Rattle.emit.specs.Template.{filled}
 use Rattle.emit.specs.Programs.{template}
-use Rattle.emit.proofs.RightSides.{right-14, right-15, right-85, right-86, right-87}
+use Rattle.emit.proofs.Joins.{and-bytes, or-bytes}
+use Rattle.emit.proofs.RightSides.{side, right-side}
 use Rattle.rewriter.specs.Decision.{filling, Bound, joint, FixedMeans, Means}
 use Rattle.rewriter.specs.Decides.{Here, Decides}
 use Rattle.rewriter.specs.RulesAt.{partitionOf, forallOf, existsOf}
 use Rattle.rewriter.specs.declared.decision.Decision.{Decision}
 use Rattle.rewriter.specs.declared.decision.Decision.the-variants as D
-use Rattle.rewriter.proofs.Shapes.{Takes, single, double, any, place-few, fixed-at, Counts, few-of, Joins, each-means, joins-and, joins-or, by-other}
+use Rattle.rewriter.proofs.Shapes.{Takes, single, double, any, place-few, fixed-at, Counts, few-of, Joins, each-means, by-other}
 use Rattle.rewriter.proofs.Descents.{here-child}
 
 -- ---- partition(S), partition(S, T)
@@ -50,7 +51,7 @@ module _ (s st nx : List ℕ) (k tag : ℕ) (pt : TagPost s st k tag) where
         }
 
     pub part-14 : m ≡ 1 → (r : Decision) → r ≡ D.Fixed 14 14 (k + 1) (k + 1) k → Decides partitionOf s st nx k r
-    unfolding lookup classOf formAt rewritePartition
+    unfolding lookup classOf formAt side rewritePartition
     part-14 z r er = part r (λ t n Γ i us ks tb fx em w Ξ kept. rw er (go t n Γ i us ks tb fx (sym em ∙ z)))
       where
         go : (t : Tree) (n : ℕ) (Γ : Ctx) (i : ℕ) (us : List Ty) (ks : Forest) → Table s t st nx n → find t [] k ≡ found Γ (node (head 901 i us) ks) → count ks ≡ 1
@@ -58,11 +59,11 @@ module _ (s st nx : List ℕ) (k tag : ℕ) (pt : TagPost s st k tag) where
         go t n Γ i us nil tb fx h = absurd (omega arith)
         go t n Γ i us (cons a nil) tb fx h =
             let fa = only-child t nx (tb .follows) k Γ 901 i us a fx in
-            fixed-at t 14 14 (to 14 (isEmpty Γ a)) (isEmpty Γ a) refl (k + 1) (k + 1) k Γ Γ a a (node (head 901 i us) (cons a nil)) fa fa fx refl (sym (right-14 Γ a _ _ us))
+            fixed-at t 14 14 (to 14 (isEmpty Γ a)) (isEmpty Γ a) refl (k + 1) (k + 1) k Γ Γ a a (node (head 901 i us) (cons a nil)) fa fa fx refl (sym (right-side 14 refl Γ a a us))
         go t n Γ i us (cons a (cons b ks)) tb fx h = absurd (omega arith)
 
     pub part-15 : m ≡ 2 → (j : ℕ) → (k + 1 < 2048 → j ≡ getD nx (k + 1) 0) → (r : Decision) → r ≡ D.Fixed 15 15 (k + 1) j k → Decides partitionOf s st nx k r
-    unfolding lookup classOf formAt rewritePartition
+    unfolding lookup classOf formAt side rewritePartition
     part-15 z j ej r er = part r (λ t n Γ i us ks tb fx em w Ξ kept. rw er (go t n Γ i us ks tb fx (sym em ∙ z)))
       where
         go : (t : Tree) (n : ℕ) (Γ : Ctx) (i : ℕ) (us : List Ty) (ks : Forest) → Table s t st nx n → find t [] k ≡ found Γ (node (head 901 i us) ks) → count ks ≡ 2
@@ -72,7 +73,7 @@ module _ (s st nx : List ℕ) (k tag : ℕ) (pt : TagPost s st k tag) where
         go t n Γ i us (cons a (cons b nil)) tb fx h =
             let fs = two-children t nx (tb .follows) k Γ 901 i us a b fx in
             rw (ej (place-few tb (fs .0)))
-            (fixed-at t 15 15 (to 15 (two #Equal a b)) (two #Equal a b) refl (k + 1) (getD nx (k + 1) 0) k Γ Γ a b (node (head 901 i us) (cons a (cons b nil))) (fs .0) (fs .1) fx refl (sym (right-15 a b _ us)))
+            (fixed-at t 15 15 (to 15 (two #Equal a b)) (two #Equal a b) refl (k + 1) (getD nx (k + 1) 0) k Γ Γ a b (node (head 901 i us) (cons a (cons b nil))) (fs .0) (fs .1) fx refl (sym (right-side 15 refl Γ a b us)))
         go t n Γ i us (cons a (cons b (cons c ks))) tb fx h = absurd (omega arith)
 
     pub part-none : (m ≡ 1 → ⊥) → (m ≡ 2 → ⊥) → Decides partitionOf s st nx k D.Rests
@@ -143,9 +144,9 @@ module _ (s st nx : List ℕ) (k tag : ℕ) (pt : TagPost s st k tag) where
 
   module _ (body : ℕ) (pb : TagPost s st (k + 1) body) where
     pub out-85 : tag ≡ 851 → body ≡ 351 → (r : Decision) → r ≡ D.Each 85 (k + 1) k → Decides forallOf s st nx k r
-    unfolding onTag lookup classOf formAt
+    unfolding onTag lookup classOf formAt side
     out-85 key z =
-        each-of-body body pb 851 key (λ x. refl) forallOf 351 85 z (λ n us m. refl) joins-and refl (λ Γ i us j vs ks. refl) (λ Δ us a. sym (right-85 a _ _ us))
+        each-of-body body pb 851 key (λ x. refl) forallOf 351 85 z (λ n us m. refl) and-bytes refl (λ Γ i us j vs ks. refl) (λ Δ us a. sym (right-side 85 refl Δ a a us))
 
     pub forall-none : tag ≡ 851 → (body ≡ 351 → ⊥) → Decides forallOf s st nx k D.Rests
     unfolding onTag lookup classOf formAt
@@ -155,13 +156,13 @@ module _ (s st nx : List ℕ) (k tag : ℕ) (pt : TagPost s st k tag) where
         go Γ i us (node (head g n vs) ks) e = rw e (rw (ne-eqb body 351 z))
 
     pub out-86 : tag ≡ 852 → body ≡ 352 → (r : Decision) → r ≡ D.Each 86 (k + 1) k → Decides existsOf s st nx k r
-    unfolding onTag lookup classOf formAt
+    unfolding onTag lookup classOf formAt side
     out-86 key z =
-        each-of-body body pb 852 key (λ x. refl) existsOf 352 86 z (λ n us m. refl) joins-or refl (λ Γ i us j vs ks. refl) (λ Δ us a. sym (right-86 a _ _ us))
+        each-of-body body pb 852 key (λ x. refl) existsOf 352 86 z (λ n us m. refl) or-bytes refl (λ Γ i us j vs ks. refl) (λ Δ us a. sym (right-side 86 refl Δ a a us))
 
     pub out-87 : tag ≡ 852 → body ≡ 251 → (j : ℕ) → (k + 1 + 1 < 2048 → j ≡ getD nx (k + 1 + 1) 0) → (r : Decision) → r ≡ D.Fixed 87 87 (k + 1 + 1) j k
         → Decides existsOf s st nx k r
-    unfolding onTag lookup classOf formAt
+    unfolding onTag lookup classOf formAt side
     out-87 key z j ej r er =
         of-body body pb 852 key (λ x. refl) existsOf r (λ t n Γ i us a tb fx fa e w Ξ kept.
         let Δ : Ctx = push us Γ in
@@ -171,7 +172,7 @@ module _ (s st nx : List ℕ) (k tag : ℕ) (pt : TagPost s st k tag) where
         let new : Tree = two #LImp (quantified #Forall us (y .a)) (quantified #Exists us (y .b)) in
         let b : Tree = node (head 852 i us) (cons a nil) in
         rw (er, ej (place-few tb (fs .0)))
-        (fixed-at t 87 87 (existsOf Γ b) new (ap (λ (q : Tree). existsOf Γ (node (head 852 i us) (cons q nil))) (y .is)) (k + 1 + 1) (getD nx (k + 1 + 1) 0) k Δ Γ (y .a) (y .b) b (fs .0) (fs .1) fx refl (sym (right-87 (y .a) (y .b) _ us))))
+        (fixed-at t 87 87 (existsOf Γ b) new (ap (λ (q : Tree). existsOf Γ (node (head 852 i us) (cons q nil))) (y .is)) (k + 1 + 1) (getD nx (k + 1 + 1) 0) k Δ Γ (y .a) (y .b) b (fs .0) (fs .1) fx refl (sym (right-side 87 refl Δ (y .a) (y .b) us))))
 
     pub exists-none : tag ≡ 852 → (body ≡ 352 → ⊥) → (body ≡ 251 → ⊥) → Decides existsOf s st nx k D.Rests
     unfolding onTag lookup classOf formAt

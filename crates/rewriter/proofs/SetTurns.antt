@@ -16,7 +16,7 @@ use Rattle.nav.proofs.SamePlaces.{two-children}
 use Rattle.rules.specs.Change.{to, same, onTag}
 use Rattle.rules.specs.Finite.{finite, functionalCheck, finiteLambda}
 use Rattle.functional.specs.Functional.{BindersPost, Both, FunctionalPost}
-use Rattle.emit.proofs.RightSides.{right-11}
+use Rattle.emit.proofs.RightSides.{side, right-side}
 use Rattle.rewriter.specs.FiniteSet.{SetPre, SetPost}
 use Rattle.rewriter.specs.declared.decision.Decision.{Decision}
 use Rattle.rewriter.specs.declared.decision.Decision.the-variants as D
@@ -94,7 +94,7 @@ module _ (s st nx : List ℕ) (k : ℕ) where
               pb .says t N (push us Γ) (q .shape .a) (q .shape .b) tb (q .left) (q .right) ∙ ap (functionalCheck (q .shape .a) (q .shape .b)) z
 
           pub set-11 : b ≡ true → (r : Decision) → r ≡ D.Fixed 11 11 (k + 1) (j + 1) k → SetPost s st nx k r
-          unfolding onTag lookup classOf formAt
+          unfolding onTag lookup classOf formAt side
           set-11 z r er =
               record {
                 means = λ t N Γ x us p e tb f w Ξ kept.
@@ -104,7 +104,7 @@ module _ (s st nx : List ℕ) (k : ℕ) where
                     let y : functionalCheck a (q .shape .b) (length us) ≡ true = sym (says t N Γ x us p e tb f q) ∙ z in
                     let new : Tree = finite (bodied #CSet us p a) in
                     rw (er, q .shape .is, y)
-                    (fixed-at t 11 11 (to 11 new) new refl (k + 1) (j + 1) k (push us Γ) Γ p a (node (head #CSet x us) (cons p (cons e nil))) (h .body) (q .left) f refl (sym (right-11 p a _ us)));
+                    (fixed-at t 11 11 (to 11 new) new refl (k + 1) (j + 1) k (push us Γ) Γ p a (node (head #CSet x us) (cons p (cons e nil))) (h .body) (q .left) f refl (sym (right-side 11 refl (push us Γ) p a us)));
               }
 
           pub set-none : b ≡ false → SetPost s st nx k D.Rests

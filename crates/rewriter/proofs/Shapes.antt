@@ -4,16 +4,16 @@
 use mathlib.Core.Path.{_≡_, refl, sym, ap, ap₂, _∙_}
 use mathlib.Core.Bool.{Bool, true, false, not, _&&_, _||_}
 use mathlib.Core.List.{List, [], _∷_, _++_}
-use Prim.Native.Nat.{ℕ, _+_, _/_, _≤_, _<_}
+use Prim.Native.Nat.{ℕ, _+_, _≤_, _<_}
 use native.Mathlib.Omega.{arith}
 use lib.ListN.{getD}
 use lib.Dec.{eqb, leb, ltb}
 use borrow.Author.Tests.{leb-true, ne-eqb}
 use Rattle.frame.specs.Types.{Ty}
-use Rattle.frame.specs.Trees.{head, Tree, node, Forest, nil, cons, count, tagOf, nodes, many, mapF}
-use Rattle.frame.specs.Tags.{Sort, predicate, formOf, sortsOf, pick, lookup, classOf, formAt, inRange}
-use Rattle.frame.specs.Encoding.{encNumber, encTys, encHead, enc, encs}
-use Rattle.frame.specs.WellFormed.{Wf, Wfs, numberIn}
+use Rattle.frame.specs.Trees.{head, Tree, node, Forest, nil, cons, count, tagOf, many, mapF}
+use Rattle.frame.specs.Tags.{Sort, formOf, sortsOf, pick, inRange}
+use Rattle.frame.specs.Encoding.{encNumber, enc, encs}
+use Rattle.frame.specs.WellFormed.{Wfs, numberIn}
 use Rattle.frame.specs.Places.{Ctx, under, found, find}
 use Rattle.frame.proofs.Splices.{find-lt}
 use Rattle.frame.proofs.SameTrees.{both-true}
@@ -25,6 +25,7 @@ use Rattle.nav.proofs.SamePlaces.{only-child, two-children}
 use Rattle.rules.specs.Change.{Change, to, same, _orElse_, onTag, with2, joined}
 use Rattle.emit.specs.Template.{filled}
 use Rattle.emit.specs.Programs.{template}
+use Rattle.emit.proofs.RightSides.{sides, isIn, side, right-side}
 use Rattle.rewriter.specs.Decision.{filling, takesBinders, hasBinders, Bound, joint, FixedMeans, eachFilled, EachMeans, Means}
 use Rattle.rewriter.specs.Decides.{Here, HereTwo, Decides, DecidesPair, DecidesTwo}
 use Rattle.rewriter.specs.declared.decision.Decision.{Decision}
@@ -134,6 +135,28 @@ unbound p g h = go (ltb p 88) (not (takesBinders p)) h
     go true false z = true-not z
     go false y z = z
 
+-- Where the tag at place k is g, the function decides the place of the source: by a right side of the node, of its child, of its
+-- two children, of each child, and of its two children if there are no more.
+module _ (rule : Ctx → Tree → Change) (s st nx : List ℕ) (k tag g place : ℕ) where
+  abbrev Decided : Decision → Type 0
+  Decided d = (r : Decision) → r ≡ d → Decides rule s st nx k r
+
+  abbrev pub OfNode : Type 0
+  OfNode = tag ≡ g → Decided (D.Fixed place place k k k)
+
+  abbrev pub OfChild : Type 0
+  OfChild = tag ≡ g → Decided (D.Fixed place place (k + 1) (k + 1) k)
+
+  abbrev pub OfTwo : Type 0
+  OfTwo = tag ≡ g → (j : ℕ) → (k + 1 < 2048 → j ≡ getD nx (k + 1) 0) → Decided (D.Fixed place place (k + 1) j k)
+
+  abbrev pub OfEach : Type 0
+  OfEach = tag ≡ g → Decided (D.Each place k k)
+
+  abbrev pub OfPair : Type 0
+  OfPair = tag ≡ g → (j : ℕ) → (k + 1 < 2048 → j ≡ getD nx (k + 1) 0) → (m : ℕ) → ChildrenPost s st k m
+      → Decided (pick (eqb m 2) (D.Fixed place place (k + 1) j k) D.Rests)
+
 -- what a function decides by the tag at place k alone
 module _ (rule : Ctx → Tree → Change) (s st nx : List ℕ) (k tag : ℕ) (pt : TagPost s st k tag) where
   -- no place answers
@@ -150,56 +173,53 @@ module _ (rule : Ctx → Tree → Change) (s st nx : List ℕ) (k tag : ℕ) (pt
       go : (f : List Ty → Forest → Change) (v : Tree) → tagOf v ≡ tag → onTag g v f ≡ same
       go f (node (head o n us) ks) z = rw z (rw (ne-eqb tag g h))
 
-  module _ (g : ℕ) (key : tag ≡ g) (place : ℕ) (bd : Bound place g) where
-    tag-is : {t : Tree} {n : ℕ} {Γ : Ctx} {v : Tree} → Table s t st nx n → find t [] k ≡ found Γ v → tagOf v ≡ g
-    tag-is {t} {n} {Γ} {v} tb f = sym (pt .tag t n Γ v (tb .framed) f) ∙ key
+  module _ (g place : ℕ) (bd : Bound place g) (has : isIn sides place ≡ true) where
+    tag-is : tag ≡ g → {t : Tree} {n : ℕ} {Γ : Ctx} {v : Tree} → Table s t st nx n → find t [] k ≡ found Γ v → tagOf v ≡ g
+    tag-is key {t} {n} {Γ} {v} tb f = sym (pt .tag t n Γ v (tb .framed) f) ∙ key
 
     -- the right side has no operand, or the node itself is its operand
-    pub by-node : (new : Ctx → ℕ → List Ty → Forest → Tree)
-        → ((Γ : Ctx) (n : ℕ) (us : List Ty) (ks : Forest) → rule Γ (node (head g n us) ks) ≡ to place (new Γ n us ks))
-        → ((Γ : Ctx) (n : ℕ) (us : List Ty) (ks : Forest) → enc (new Γ n us ks) ≡ filled (template place) (filling Γ (node (head g n us) ks) (node (head g n us) ks) us))
-        → (r : Decision) → r ≡ D.Fixed place place k k k → Decides rule s st nx k r
-    by-node new ans bytes r er =
+    pub by-node : ((Γ : Ctx) (n : ℕ) (us : List Ty) (ks : Forest) → rule Γ (node (head g n us) ks) ≡ to place (side place Γ (node (head g n us) ks) (node (head g n us) ks) us))
+        → OfNode rule s st nx k tag g place
+    by-node ans key r er =
         record {
           means = λ t n Γ v tb f w Ξ kept.
-              let o = any g v (tag-is tb f) in
+              let o = any g v (tag-is key tb f) in
               let x : Tree = node (head g (o .n) (o .us)) (o .ks) in
               let fx : find t [] k ≡ found Γ x = f ∙ ap (found Γ) (o .is) in
               rw (er, o .is)
-              (fixed-at t place place (rule Γ x) (new Γ (o .n) (o .us) (o .ks)) (ans Γ (o .n) (o .us) (o .ks)) k k k Γ Γ x x x fx fx fx bd (bytes Γ (o .n) (o .us) (o .ks)));
+              (fixed-at t place place (rule Γ x) (side place Γ x x (o .us)) (ans Γ (o .n) (o .us) (o .ks)) k k k Γ Γ x x x fx fx fx bd (sym (right-side place has Γ x x (o .us))));
         }
 
     -- its operand is the child
-    pub by-single : (e : Sort) → Takes g (e ∷ []) → (new : Ctx → ℕ → List Ty → Tree → Tree)
-        → ((Γ : Ctx) (n : ℕ) (us : List Ty) (a : Tree) → rule Γ (node (head g n us) (cons a nil)) ≡ to place (new Γ n us a))
-        → ((Γ : Ctx) (n : ℕ) (us : List Ty) (a : Tree) → enc (new Γ n us a) ≡ filled (template place) (filling (under g us Γ) a a us))
-        → (r : Decision) → r ≡ D.Fixed place place (k + 1) (k + 1) k → Decides rule s st nx k r
-    by-single e tk new ans bytes r er =
+    pub by-single : (e : Sort) → Takes g (e ∷ [])
+        → ((Γ : Ctx) (n : ℕ) (us : List Ty) (a : Tree) → rule Γ (node (head g n us) (cons a nil)) ≡ to place (side place (under g us Γ) a a us))
+        → OfChild rule s st nx k tag g place
+    by-single e tk ans key r er =
         record {
           means = λ t n Γ v tb f w Ξ kept.
-              let o = single g e tk v (place-sorted s t st n (tb .framed) k Γ v f) (tag-is tb f) in
+              let o = single g e tk v (place-sorted s t st n (tb .framed) k Γ v f) (tag-is key tb f) in
               let x : Tree = node (head g (o .n) (o .us)) (cons (o .a) nil) in
               let fx : find t [] k ≡ found Γ x = f ∙ ap (found Γ) (o .is) in
               let fa = only-child t nx (tb .follows) k Γ g (o .n) (o .us) (o .a) fx in
+              let Δ : Ctx = under g (o .us) Γ in
               rw (er, o .is)
-              (fixed-at t place place (rule Γ x) (new Γ (o .n) (o .us) (o .a)) (ans Γ (o .n) (o .us) (o .a)) (k + 1) (k + 1) k (under g (o .us) Γ) Γ (o .a) (o .a) x fa fa fx bd (bytes Γ (o .n) (o .us) (o .a)));
+              (fixed-at t place place (rule Γ x) (side place Δ (o .a) (o .a) (o .us)) (ans Γ (o .n) (o .us) (o .a)) (k + 1) (k + 1) k Δ Γ (o .a) (o .a) x fa fa fx bd (sym (right-side place has Δ (o .a) (o .a) (o .us))));
         }
 
     -- its operands are the two children
-    pub by-double : (e d : Sort) → Takes g (e ∷ d ∷ []) → (new : Ctx → ℕ → List Ty → Tree → Tree → Tree)
-        → ((Γ : Ctx) (n : ℕ) (us : List Ty) (a b : Tree) → rule Γ (node (head g n us) (cons a (cons b nil))) ≡ to place (new Γ n us a b))
-        → ((Γ : Ctx) (n : ℕ) (us : List Ty) (a b : Tree) → enc (new Γ n us a b) ≡ filled (template place) (filling (under g us Γ) a b us))
-        → (j : ℕ) → (k + 1 < 2048 → j ≡ getD nx (k + 1) 0)
-        → (r : Decision) → r ≡ D.Fixed place place (k + 1) j k → Decides rule s st nx k r
-    by-double e d tk new ans bytes j ej r er =
+    pub by-double : (e d : Sort) → Takes g (e ∷ d ∷ [])
+        → ((Γ : Ctx) (n : ℕ) (us : List Ty) (a b : Tree) → rule Γ (node (head g n us) (cons a (cons b nil))) ≡ to place (side place (under g us Γ) a b us))
+        → OfTwo rule s st nx k tag g place
+    by-double e d tk ans key j ej r er =
         record {
           means = λ t n Γ v tb f w Ξ kept.
-              let o = double g e d tk v (place-sorted s t st n (tb .framed) k Γ v f) (tag-is tb f) in
+              let o = double g e d tk v (place-sorted s t st n (tb .framed) k Γ v f) (tag-is key tb f) in
               let x : Tree = node (head g (o .n) (o .us)) (cons (o .a) (cons (o .b) nil)) in
               let fx : find t [] k ≡ found Γ x = f ∙ ap (found Γ) (o .is) in
               let fs = two-children t nx (tb .follows) k Γ g (o .n) (o .us) (o .a) (o .b) fx in
+              let Δ : Ctx = under g (o .us) Γ in
               rw (er, o .is, ej (place-few tb (fs .0)))
-              (fixed-at t place place (rule Γ x) (new Γ (o .n) (o .us) (o .a) (o .b)) (ans Γ (o .n) (o .us) (o .a) (o .b)) (k + 1) (getD nx (k + 1) 0) k (under g (o .us) Γ) Γ (o .a) (o .b) x (fs .0) (fs .1) fx bd (bytes Γ (o .n) (o .us) (o .a) (o .b)));
+              (fixed-at t place place (rule Γ x) (side place Δ (o .a) (o .b) (o .us)) (ans Γ (o .n) (o .us) (o .a) (o .b)) (k + 1) (getD nx (k + 1) 0) k Δ Γ (o .a) (o .b) x (fs .0) (fs .1) fx bd (sym (right-side place has Δ (o .a) (o .b) (o .us))));
         }
 
 -- ---- a pattern for each child
@@ -212,14 +232,6 @@ each-bytes place Δ us f h (cons a ks) = ap₂ (λ (x y : List ℕ). x ++ y) (h 
 -- the bytes of an operator over a list
 abbrev pub Joins : ℕ → Type 0
 Joins o = (ls : Forest) → enc (many o ls) ≡ encNumber 2 o ++ (count ls ∷ encs ls)
-
-pub joins-and : Joins 351
-unfolding enc encHead encTys encNumber lookup classOf formAt
-joins-and ls = let z : count ls / 1 ≡ count ls = omega arith in rw z
-
-pub joins-or : Joins 352
-unfolding enc encHead encTys encNumber lookup classOf formAt
-joins-or ls = let z : count ls / 1 ≡ count ls = omega arith in rw z
 
 pub joined-many : (o : ℕ) (f : Tree → Tree) (ks : Forest) → 2 ≤ count ks → joined o (mapF f ks) ≡ many o (mapF f ks)
 joined-many o f nil h = absurd (omega arith)
@@ -268,12 +280,13 @@ some-two g h n us ks o = leb-true 2 (count ks) (both-counts g h n us ks o .0)
 pub sorted-is : (v w : Tree) → v ≡ w → Sorted v → Sorted w
 sorted-is v w z o = rw z at o
 
-module _ (rule : Ctx → Tree → Change) (s st nx : List ℕ) (k tag : ℕ) (pt : TagPost s st k tag) (g : ℕ) (key : tag ≡ g) (place : ℕ) (bd : Bound place g) where
-  pub by-each : Counts g → Joins (joint place) → (f : Ctx → Tree → Tree)
-      → ((Γ : Ctx) (n : ℕ) (us : List Ty) (ks : Forest) → 2 ≤ count ks → rule Γ (node (head g n us) ks) ≡ to place (many (joint place) (mapF (f Γ) ks)))
-      → ((Γ : Ctx) (us : List Ty) (a : Tree) → enc (f Γ a) ≡ filled (template place) (filling (under g us Γ) a a us))
-      → (r : Decision) → r ≡ D.Each place k k → Decides rule s st nx k r
-  by-each cs jo f ans bytes r er =
+module _ (rule : Ctx → Tree → Change) (s st nx : List ℕ) (k tag : ℕ) (pt : TagPost s st k tag) (g place : ℕ)
+    (bd : Bound place g) (has : isIn sides place ≡ true) where
+  pub by-each : Counts g → Joins (joint place)
+      → ((Γ : Ctx) (n : ℕ) (us : List Ty) (ks : Forest) → 2 ≤ count ks
+      → rule Γ (node (head g n us) ks) ≡ to place (many (joint place) (mapF (λ a. side place (under g us Γ) a a us) ks)))
+      → OfEach rule s st nx k tag g place
+  by-each cs jo ans key r er =
       record {
         means = λ t n Γ v tb q w Ξ kept.
             let y = any g v (sym (pt .tag t n Γ v (tb .framed) q) ∙ key) in
@@ -281,17 +294,15 @@ module _ (rule : Ctx → Tree → Change) (s st nx : List ℕ) (k tag : ℕ) (pt
             let fx : find t [] k ≡ found Γ x = q ∙ ap (found Γ) (y .is) in
             let sx = sorted-is v x (y .is) (place-sorted s t st n (tb .framed) k Γ v q) in
             let l = some-two g cs (y .n) (y .us) (y .ks) sx in
+            let Δ : Ctx = under g (y .us) Γ in
             rw (er, y .is)
-            (each-means t place k k (rule Γ x) jo (f Γ) (y .ks) (ans Γ (y .n) (y .us) (y .ks) l) Γ g (y .n) (y .us) fx (few-of g cs (y .n) (y .us) (y .ks) sx) Γ x fx bd (bytes Γ (y .us)));
+            (each-means t place k k (rule Γ x) jo (λ a. side place Δ a a (y .us)) (y .ks) (ans Γ (y .n) (y .us) (y .ks) l) Γ g (y .n) (y .us) fx (few-of g cs (y .n) (y .us) (y .ks) sx) Γ x fx bd (λ a. sym (right-side place has Δ a a (y .us))));
       }
 
   -- an operator over a list, where it has just two operands
-  pub by-pair : (new : Ctx → Tree → Tree → Tree)
-      → ((Γ : Ctx) (n : ℕ) (us : List Ty) (ks : Forest) → rule Γ (node (head g n us) ks) ≡ with2 ks (λ a b. to place (new Γ a b)))
-      → ((Γ : Ctx) (us : List Ty) (a b : Tree) → enc (new Γ a b) ≡ filled (template place) (filling (under g us Γ) a b us))
-      → (j : ℕ) → (k + 1 < 2048 → j ≡ getD nx (k + 1) 0) → (m : ℕ) → ChildrenPost s st k m
-      → (r : Decision) → r ≡ pick (eqb m 2) (D.Fixed place place (k + 1) j k) D.Rests → Decides rule s st nx k r
-  by-pair new ans bytes j ej m pm r er =
+  pub by-pair : ((Γ : Ctx) (n : ℕ) (us : List Ty) (ks : Forest) → rule Γ (node (head g n us) ks) ≡ with2 ks (λ a b. to place (side place (under g us Γ) a b us)))
+      → OfPair rule s st nx k tag g place
+  by-pair ans key j ej m pm r er =
       record {
         means = λ t n Γ v tb q w Ξ kept.
             let y = any g v (sym (pt .tag t n Γ v (tb .framed) q) ∙ key) in
@@ -309,8 +320,9 @@ module _ (rule : Ctx → Tree → Change) (s st nx : List ℕ) (k tag : ℕ) (pt
       go t n Γ i us (cons a (cons b nil)) tb fx w Ξ kept =
           let fs = two-children t nx (tb .follows) k Γ g i us a b fx in
           let x : Tree = node (head g i us) (cons a (cons b nil)) in
+          let Δ : Ctx = under g us Γ in
           rw (ej (place-few tb (fs .0)))
-          (fixed-at t place place (rule Γ x) (new Γ a b) (ans Γ i us (cons a (cons b nil))) (k + 1) (getD nx (k + 1) 0) k (under g us Γ) Γ a b x (fs .0) (fs .1) fx bd (bytes Γ us a b))
+          (fixed-at t place place (rule Γ x) (side place Δ a b us) (ans Γ i us (cons a (cons b nil))) (k + 1) (getD nx (k + 1) 0) k Δ Γ a b x (fs .0) (fs .1) fx bd (sym (right-side place has Δ a b us)))
       go t n Γ i us (cons a (cons b (cons d ks))) tb fx w Ξ kept =
           let z : eqb (count (cons a (cons b (cons d ks)))) 2 ≡ false = ne-eqb (count (cons a (cons b (cons d ks)))) 2 (λ h. omega arith) in
           rw z (ans Γ i us (cons a (cons b (cons d ks))))

@@ -1,101 +1,48 @@
--- The ways out of rewrite_equals_type of src/equals.rt: a law for each place.
-use mathlib.Core.Path.{_≡_, refl, sym, ap, _∙_}
+-- The ways out of rewrite_equals_type of src/equals.rt: a law over the tags for each shape of a right side.
+use mathlib.Core.Path.{_≡_, refl, ap}
+use mathlib.Core.Bool.{true}
 use mathlib.Core.List.{List, [], _∷_}
-use Prim.Native.Nat.{ℕ, _+_, _<_}
-use native.Mathlib.Omega.{arith}
-use lib.ListN.{getD}
+use Prim.Native.Nat.{ℕ}
 use borrow.Author.Tests.{ne-eqb}
-use Rattle.frame.specs.Types.{Ty}
-use Rattle.frame.specs.Trees.{head, Tree, node, Forest, nil, cons, tagOf, leaf, one, two, many, sole, quantified}
+use Rattle.frame.specs.Trees.{head, Tree, node, tagOf}
 use Rattle.frame.specs.Tags.{predicate, expression, lookup, classOf, formAt}
-use Rattle.frame.specs.Operators.{#SetExt, #Equal, #LImp, #BFalse, #Forall}
-use Rattle.frame.specs.Places.{Ctx, push}
+use Rattle.frame.specs.Places.{Ctx}
 use Rattle.typing.specs.Typing.{typeOf}
 use Rattle.nav.specs.PlaceTables.{TagPost}
-use Rattle.rules.specs.Change.{Change, to, same, onTag}
-use Rattle.rules.specs.Negation.{isEmpty}
-use Rattle.rules.specs.EqualsType.{baseExpression, isType, both, rewriteEqualsType}
-use Rattle.emit.proofs.RightSides.{right-24, right-25, right-26, right-27, right-28, right-29, right-30, right-31, right-32, right-33, right-34, right-35}
+use Rattle.rules.specs.Change.{to, same, onTag}
+use Rattle.rules.specs.EqualsType.{rewriteEqualsType}
+use Rattle.emit.proofs.Joins.{and-bytes}
+use Rattle.emit.proofs.RightSides.{side}
 use Rattle.rewriter.specs.Decides.{Decides}
-use Rattle.rewriter.specs.declared.decision.Decision.{Decision}
 use Rattle.rewriter.specs.declared.decision.Decision.the-variants as D
-use Rattle.rewriter.proofs.Shapes.{by-rest, by-single, by-double, by-each, joins-and, joined-many}
+use Rattle.rewriter.proofs.Shapes.{OfChild, OfTwo, OfEach, by-rest, by-single, by-double, by-each, joined-many}
+use Rattle.rewriter.proofs.TagRows.{Row, row, isRow, by-doubles}
+
+-- ---- the tags, each with its place
+-- a right side of the two children
+abbrev pub twos : List Row
+twos = row 213 25 ∷ row 214 26 ∷ row 221 27 ∷ row 217 28 ∷ row 218 29 ∷ row 219 30 ∷ row 220 31 ∷ row 215 32 ∷ row 216 32 ∷ []
 
 module _ (s st nx : List ℕ) (k tag : ℕ) (pt : TagPost s st k tag) where
-  pub type-24 : tag ≡ 302 → (r : Decision) → r ≡ D.Each 24 k k → Decides rewriteEqualsType s st nx k r
-  unfolding onTag lookup classOf formAt rewriteEqualsType
-  type-24 key =
-      by-each rewriteEqualsType s st nx k tag pt 302 key 24 refl (λ n us m. refl) joins-and (λ Γ. isType Γ) (λ Γ n us ks l. ap (to 24) (joined-many 351 (isType Γ) ks l)) (λ Γ us a. sym (right-24 Γ a _ _ us))
+  pub type-two : (g p : ℕ) → isRow twos g p ≡ true → OfTwo rewriteEqualsType s st nx k tag g p
+  unfolding onTag lookup classOf formAt side rewriteEqualsType
+  type-two = by-doubles rewriteEqualsType s st nx k tag pt twos refl refl expression expression (λ x. refl) (λ Γ n us a b. refl)
 
-  pub type-25 : tag ≡ 213 → (j : ℕ) → (k + 1 < 2048 → j ≡ getD nx (k + 1) 0) → (r : Decision) → r ≡ D.Fixed 25 25 (k + 1) j k → Decides rewriteEqualsType s st nx k r
-  unfolding onTag lookup classOf formAt rewriteEqualsType
-  type-25 key =
-      by-double rewriteEqualsType s st nx k tag pt 213 key 25 refl expression expression (λ x. refl) (λ Γ n us a b. both (isType Γ a) (isEmpty Γ b)) (λ Γ n us a b. refl)
-      (λ Γ n us a b. sym (right-25 Γ a b us))
+  pub type-24 : OfEach rewriteEqualsType s st nx k tag 302 24
+  unfolding onTag lookup classOf formAt side rewriteEqualsType
+  type-24 = by-each rewriteEqualsType s st nx k tag pt 302 24 refl refl (λ n us m. refl) and-bytes (λ Γ n us ks l. ap (to 24) (joined-many 351 (λ a. side 24 Γ a a us) ks l))
 
-  pub type-26 : tag ≡ 214 → (j : ℕ) → (k + 1 < 2048 → j ≡ getD nx (k + 1) 0) → (r : Decision) → r ≡ D.Fixed 26 26 (k + 1) j k → Decides rewriteEqualsType s st nx k r
-  unfolding onTag lookup classOf formAt rewriteEqualsType
-  type-26 key =
-      by-double rewriteEqualsType s st nx k tag pt 214 key 26 refl expression expression (λ x. refl) (λ Γ n us a b. both (isType Γ a) (isType Γ b)) (λ Γ n us a b. refl)
-      (λ Γ n us a b. sym (right-26 Γ a b us))
+  pub type-33 : OfChild rewriteEqualsType s st nx k tag 755 33
+  unfolding onTag lookup classOf formAt typeOf side rewriteEqualsType
+  type-33 = by-single rewriteEqualsType s st nx k tag pt 755 33 refl refl expression (λ x. refl) (λ Γ n us a. refl)
 
-  pub type-27 : tag ≡ 221 → (j : ℕ) → (k + 1 < 2048 → j ≡ getD nx (k + 1) 0) → (r : Decision) → r ≡ D.Fixed 27 27 (k + 1) j k → Decides rewriteEqualsType s st nx k r
-  unfolding onTag lookup classOf formAt rewriteEqualsType
-  type-27 key =
-      by-double rewriteEqualsType s st nx k tag pt 221 key 27 refl expression expression (λ x. refl) (λ Γ n us a b. leaf #BFalse) (λ Γ n us a b. refl)
-      (λ Γ n us a b. sym (right-27 _ _ us))
+  pub type-34 : OfChild rewriteEqualsType s st nx k tag 763 34
+  unfolding onTag lookup classOf formAt typeOf side rewriteEqualsType
+  type-34 = by-single rewriteEqualsType s st nx k tag pt 763 34 refl refl expression (λ x. refl) (λ Γ n us a. refl)
 
-  pub type-28 : tag ≡ 217 → (j : ℕ) → (k + 1 < 2048 → j ≡ getD nx (k + 1) 0) → (r : Decision) → r ≡ D.Fixed 28 28 (k + 1) j k → Decides rewriteEqualsType s st nx k r
-  unfolding onTag lookup classOf formAt rewriteEqualsType
-  type-28 key =
-      by-double rewriteEqualsType s st nx k tag pt 217 key 28 refl expression expression (λ x. refl) (λ Γ n us a b. both (isType Γ a) (isType Γ b)) (λ Γ n us a b. refl)
-      (λ Γ n us a b. sym (right-28 Γ a b us))
-
-  pub type-29 : tag ≡ 218 → (j : ℕ) → (k + 1 < 2048 → j ≡ getD nx (k + 1) 0) → (r : Decision) → r ≡ D.Fixed 29 29 (k + 1) j k → Decides rewriteEqualsType s st nx k r
-  unfolding onTag lookup classOf formAt rewriteEqualsType
-  type-29 key =
-      by-double rewriteEqualsType s st nx k tag pt 218 key 29 refl expression expression (λ x. refl) (λ Γ n us a b. both (isEmpty Γ a) (isType Γ b)) (λ Γ n us a b. refl)
-      (λ Γ n us a b. sym (right-29 Γ a b us))
-
-  pub type-30 : tag ≡ 219 → (j : ℕ) → (k + 1 < 2048 → j ≡ getD nx (k + 1) 0) → (r : Decision) → r ≡ D.Fixed 30 30 (k + 1) j k → Decides rewriteEqualsType s st nx k r
-  unfolding onTag lookup classOf formAt rewriteEqualsType
-  type-30 key =
-      by-double rewriteEqualsType s st nx k tag pt 219 key 30 refl expression expression (λ x. refl) (λ Γ n us a b. both (isType Γ b) (isType Γ a)) (λ Γ n us a b. refl)
-      (λ Γ n us a b. sym (right-30 Γ a b us))
-
-  pub type-31 : tag ≡ 220 → (j : ℕ) → (k + 1 < 2048 → j ≡ getD nx (k + 1) 0) → (r : Decision) → r ≡ D.Fixed 31 31 (k + 1) j k → Decides rewriteEqualsType s st nx k r
-  unfolding onTag lookup classOf formAt rewriteEqualsType
-  type-31 key =
-      by-double rewriteEqualsType s st nx k tag pt 220 key 31 refl expression expression (λ x. refl) (λ Γ n us a b. both (isEmpty Γ b) (isType Γ a)) (λ Γ n us a b. refl)
-      (λ Γ n us a b. sym (right-31 Γ a b us))
-
-  pub type-32-215 : tag ≡ 215 → (j : ℕ) → (k + 1 < 2048 → j ≡ getD nx (k + 1) 0) → (r : Decision) → r ≡ D.Fixed 32 32 (k + 1) j k → Decides rewriteEqualsType s st nx k r
-  unfolding onTag lookup classOf formAt rewriteEqualsType
-  type-32-215 key =
-      by-double rewriteEqualsType s st nx k tag pt 215 key 32 refl expression expression (λ x. refl) (λ Γ n us a b. both (isType Γ a) (isType Γ b)) (λ Γ n us a b. refl)
-      (λ Γ n us a b. sym (right-32 Γ a b us))
-
-  pub type-32-216 : tag ≡ 216 → (j : ℕ) → (k + 1 < 2048 → j ≡ getD nx (k + 1) 0) → (r : Decision) → r ≡ D.Fixed 32 32 (k + 1) j k → Decides rewriteEqualsType s st nx k r
-  unfolding onTag lookup classOf formAt rewriteEqualsType
-  type-32-216 key =
-      by-double rewriteEqualsType s st nx k tag pt 216 key 32 refl expression expression (λ x. refl) (λ Γ n us a b. both (isType Γ a) (isType Γ b)) (λ Γ n us a b. refl)
-      (λ Γ n us a b. sym (right-32 Γ a b us))
-
-  pub type-33 : tag ≡ 755 → (r : Decision) → r ≡ D.Fixed 33 33 (k + 1) (k + 1) k → Decides rewriteEqualsType s st nx k r
-  unfolding onTag lookup classOf formAt typeOf rewriteEqualsType
-  type-33 key =
-      by-single rewriteEqualsType s st nx k tag pt 755 key 33 refl expression (λ x. refl) (λ Γ n us a. two #Equal a (many #SetExt (sole (baseExpression Γ (node (head 755 n us) (cons a nil)))))) (λ Γ n us a. refl) (λ Γ n us a. sym (right-33 Γ a _ _ us))
-
-  pub type-34 : tag ≡ 763 → (r : Decision) → r ≡ D.Fixed 34 34 (k + 1) (k + 1) k → Decides rewriteEqualsType s st nx k r
-  unfolding onTag lookup classOf formAt typeOf rewriteEqualsType
-  type-34 key =
-      by-single rewriteEqualsType s st nx k tag pt 763 key 34 refl expression (λ x. refl) (λ Γ n us a. isType Γ a) (λ Γ n us a. refl) (λ Γ n us a. sym (right-34 Γ a _ _ us))
-
-  pub type-35 : tag ≡ 802 → (j : ℕ) → (k + 1 < 2048 → j ≡ getD nx (k + 1) 0) → (r : Decision) → r ≡ D.Fixed 35 35 (k + 1) j k → Decides rewriteEqualsType s st nx k r
-  unfolding onTag lookup classOf formAt rewriteEqualsType
-  type-35 key =
-      by-double rewriteEqualsType s st nx k tag pt 802 key 35 refl predicate expression (λ x. refl) (λ Γ n us a b. quantified #Forall us (two #LImp a (isType (push us Γ) b))) (λ Γ n us a b. refl)
-      (λ Γ n us a b. sym (right-35 Γ a b _ us))
+  pub type-35 : OfTwo rewriteEqualsType s st nx k tag 802 35
+  unfolding onTag lookup classOf formAt side rewriteEqualsType
+  type-35 = by-double rewriteEqualsType s st nx k tag pt 802 35 refl refl predicate expression (λ x. refl) (λ Γ n us a b. refl)
 
   pub type-none : (tag ≡ 302 → ⊥) → (tag ≡ 213 → ⊥) → (tag ≡ 214 → ⊥) → (tag ≡ 221 → ⊥) → (tag ≡ 217 → ⊥) → (tag ≡ 218 → ⊥) → (tag ≡ 219 → ⊥) → (tag ≡ 220 → ⊥)
       → (tag ≡ 215 → ⊥) → (tag ≡ 216 → ⊥) → (tag ≡ 755 → ⊥) → (tag ≡ 763 → ⊥) → (tag ≡ 802 → ⊥)

@@ -1,4 +1,5 @@
-use Rattle.rewriter.proofs.EmptyTurns.{empty-36, empty-39, empty-52, empty-53, empty-54, empty-55-756, empty-55-757, empty-55-763, empty-58, empty-60-402, empty-60-403, empty-61-412, empty-61-410, empty-61-411, empty-none}
+use mathlib.Core.Path.{refl}
+use Rattle.rewriter.proofs.EmptyTurns.{empty-node, empty-39, empty-child, empty-58, empty-none}
 use borrow.Author.Needs.{needs}
 use Rattle.rewriter.proofs.equals.empty_by_tag.Statement.{statement}
 use Rattle.rewriter.proofs.equals.empty_by_tag.Tie as tie
@@ -69,7 +70,7 @@ fixed-requires-12 c κs = search needs
 
 -- src/equals.rt:38:1
 returns : tie.Need-returns
-returns c = record { decides = λ s st nx pt. empty-36 s st nx _ _ pt (c .before .match .keys1) _ (c .fixed .ensures) }
+returns c = record { decides = λ s st nx pt. empty-node s st nx _ _ pt 5 36 refl (c .before .match .keys1) _ (c .fixed .ensures) }
 
 -- src/equals.rt:38:1
 returns-2 : tie.Need-returns-2
@@ -77,27 +78,27 @@ returns-2 c = record { decides = λ s st nx pt. empty-39 s st nx _ _ pt (c .befo
 
 -- src/equals.rt:38:1
 returns-3 : tie.Need-returns-3
-returns-3 c = record { decides = λ s st nx pt. empty-52 s st nx _ _ pt (c .before .match .keys3) _ (c .fixed2 .ensures) }
+returns-3 c = record { decides = λ s st nx pt. empty-child s st nx _ _ pt 752 52 refl (c .before .match .keys3) _ (c .fixed2 .ensures) }
 
 -- src/equals.rt:38:1
 returns-4 : tie.Need-returns-4
-returns-4 c = record { decides = λ s st nx pt. empty-53 s st nx _ _ pt (c .before .match .keys4) _ (c .fixed3 .ensures) }
+returns-4 c = record { decides = λ s st nx pt. empty-child s st nx _ _ pt 753 53 refl (c .before .match .keys4) _ (c .fixed3 .ensures) }
 
 -- src/equals.rt:38:1
 returns-5 : tie.Need-returns-5
-returns-5 c = record { decides = λ s st nx pt. empty-54 s st nx _ _ pt (c .before .match .keys5) _ (c .fixed4 .ensures) }
+returns-5 c = record { decides = λ s st nx pt. empty-child s st nx _ _ pt 754 54 refl (c .before .match .keys5) _ (c .fixed4 .ensures) }
 
 -- src/equals.rt:38:1
 returns-6 : tie.Need-returns-6
-returns-6 c = record { decides = λ s st nx pt. empty-55-756 s st nx _ _ pt (c .before .match .keys6) _ (c .fixed5 .ensures) }
+returns-6 c = record { decides = λ s st nx pt. empty-child s st nx _ _ pt 756 55 refl (c .before .match .keys6) _ (c .fixed5 .ensures) }
 
 -- src/equals.rt:38:1
 returns-7 : tie.Need-returns-7
-returns-7 c = record { decides = λ s st nx pt. empty-55-757 s st nx _ _ pt (c .before .match .keys7) _ (c .fixed6 .ensures) }
+returns-7 c = record { decides = λ s st nx pt. empty-child s st nx _ _ pt 757 55 refl (c .before .match .keys7) _ (c .fixed6 .ensures) }
 
 -- src/equals.rt:38:1
 returns-8 : tie.Need-returns-8
-returns-8 c = record { decides = λ s st nx pt. empty-55-763 s st nx _ _ pt (c .before .match .keys8) _ (c .fixed7 .ensures) }
+returns-8 c = record { decides = λ s st nx pt. empty-child s st nx _ _ pt 763 55 refl (c .before .match .keys8) _ (c .fixed7 .ensures) }
 
 -- src/equals.rt:38:1
 returns-9 : tie.Need-returns-9
@@ -105,23 +106,23 @@ returns-9 c = record { decides = λ s st nx pt. empty-58 s st nx _ _ pt (c .befo
 
 -- src/equals.rt:38:1
 returns-10 : tie.Need-returns-10
-returns-10 c = record { decides = λ s st nx pt. empty-60-402 s st nx _ _ pt (c .before .match .keys10) _ (c .fixed8 .ensures) }
+returns-10 c = record { decides = λ s st nx pt. empty-node s st nx _ _ pt 402 60 refl (c .before .match .keys10) _ (c .fixed8 .ensures) }
 
 -- src/equals.rt:38:1
 returns-11 : tie.Need-returns-11
-returns-11 c = record { decides = λ s st nx pt. empty-60-403 s st nx _ _ pt (c .before .match .keys11) _ (c .fixed9 .ensures) }
+returns-11 c = record { decides = λ s st nx pt. empty-node s st nx _ _ pt 403 60 refl (c .before .match .keys11) _ (c .fixed9 .ensures) }
 
 -- src/equals.rt:38:1
 returns-12 : tie.Need-returns-12
-returns-12 c = record { decides = λ s st nx pt. empty-61-412 s st nx _ _ pt (c .before .match .keys12) _ (c .fixed10 .ensures) }
+returns-12 c = record { decides = λ s st nx pt. empty-node s st nx _ _ pt 412 61 refl (c .before .match .keys12) _ (c .fixed10 .ensures) }
 
 -- src/equals.rt:38:1
 returns-13 : tie.Need-returns-13
-returns-13 c = record { decides = λ s st nx pt. empty-61-410 s st nx _ _ pt (c .before .match .keys13) _ (c .fixed11 .ensures) }
+returns-13 c = record { decides = λ s st nx pt. empty-node s st nx _ _ pt 410 61 refl (c .before .match .keys13) _ (c .fixed11 .ensures) }
 
 -- src/equals.rt:38:1
 returns-14 : tie.Need-returns-14
-returns-14 c = record { decides = λ s st nx pt. empty-61-411 s st nx _ _ pt (c .before .match .keys14) _ (c .fixed12 .ensures) }
+returns-14 c = record { decides = λ s st nx pt. empty-node s st nx _ _ pt 411 61 refl (c .before .match .keys14) _ (c .fixed12 .ensures) }
 
 -- src/equals.rt:38:1
 returns-15 : tie.Need-returns-15

@@ -1,6 +1,7 @@
+use mathlib.Core.Path.{refl}
 use native.Mathlib.Omega.{arith}
 use Rattle.rewriter.proofs.Shapes.{here-few, here-placed}
-use Rattle.rewriter.proofs.EmptyTurns.{inter-here, empty-inter, empty-40, empty-41, empty-42, empty-43, empty-44, empty-45, empty-46, empty-47, empty-48, empty-49, empty-50, empty-51, empty-56, empty-57, empty-59}
+use Rattle.rewriter.proofs.EmptyTurns.{inter-here, empty-inter, empty-two, empty-56, empty-57, empty-59}
 use borrow.Author.Needs.{needs}
 use Rattle.rewriter.proofs.equals.rewrite_equals_empty_set.Statement.{statement}
 use Rattle.rewriter.proofs.equals.rewrite_equals_empty_set.Tie as tie
@@ -104,51 +105,51 @@ returns c = empty-inter _ _ _ _ _ (c .before .before .before .before .tag-at .en
 
 -- src/equals.rt:63:1
 returns-2 : tie.Need-returns-2
-returns-2 c = empty-40 _ _ _ _ _ (c .before .before .before .before .tag-at .ensures) (c .before .match .keys2) _ (c .before .before .before .second-of .ensures) _ (c .fixed .ensures)
+returns-2 c = empty-two _ _ _ _ _ (c .before .before .before .before .tag-at .ensures) 213 40 refl (c .before .match .keys2) _ (c .before .before .before .second-of .ensures) _ (c .fixed .ensures)
 
 -- src/equals.rt:63:1
 returns-3 : tie.Need-returns-3
-returns-3 c = empty-41 _ _ _ _ _ (c .before .before .before .before .tag-at .ensures) (c .before .match .keys3) _ (c .before .before .before .second-of .ensures) _ (c .fixed2 .ensures)
+returns-3 c = empty-two _ _ _ _ _ (c .before .before .before .before .tag-at .ensures) 214 41 refl (c .before .match .keys3) _ (c .before .before .before .second-of .ensures) _ (c .fixed2 .ensures)
 
 -- src/equals.rt:63:1
 returns-4 : tie.Need-returns-4
-returns-4 c = empty-42 _ _ _ _ _ (c .before .before .before .before .tag-at .ensures) (c .before .match .keys4) _ (c .before .before .before .second-of .ensures) _ (c .fixed3 .ensures)
+returns-4 c = empty-two _ _ _ _ _ (c .before .before .before .before .tag-at .ensures) 221 42 refl (c .before .match .keys4) _ (c .before .before .before .second-of .ensures) _ (c .fixed3 .ensures)
 
 -- src/equals.rt:63:1
 returns-5 : tie.Need-returns-5
-returns-5 c = empty-43 _ _ _ _ _ (c .before .before .before .before .tag-at .ensures) (c .before .match .keys5) _ (c .before .before .before .second-of .ensures) _ (c .fixed4 .ensures)
+returns-5 c = empty-two _ _ _ _ _ (c .before .before .before .before .tag-at .ensures) 204 43 refl (c .before .match .keys5) _ (c .before .before .before .second-of .ensures) _ (c .fixed4 .ensures)
 
 -- src/equals.rt:63:1
 returns-6 : tie.Need-returns-6
-returns-6 c = empty-44 _ _ _ _ _ (c .before .before .before .before .tag-at .ensures) (c .before .match .keys6) _ (c .before .before .before .second-of .ensures) _ (c .fixed5 .ensures)
+returns-6 c = empty-two _ _ _ _ _ (c .before .before .before .before .tag-at .ensures) 205 44 refl (c .before .match .keys6) _ (c .before .before .before .second-of .ensures) _ (c .fixed5 .ensures)
 
 -- src/equals.rt:63:1
 returns-7 : tie.Need-returns-7
-returns-7 c = empty-45 _ _ _ _ _ (c .before .before .before .before .tag-at .ensures) (c .before .match .keys7) _ (c .before .before .before .second-of .ensures) _ (c .fixed6 .ensures)
+returns-7 c = empty-two _ _ _ _ _ (c .before .before .before .before .tag-at .ensures) 217 45 refl (c .before .match .keys7) _ (c .before .before .before .second-of .ensures) _ (c .fixed6 .ensures)
 
 -- src/equals.rt:63:1
 returns-8 : tie.Need-returns-8
-returns-8 c = empty-46 _ _ _ _ _ (c .before .before .before .before .tag-at .ensures) (c .before .match .keys8) _ (c .before .before .before .second-of .ensures) _ (c .fixed7 .ensures)
+returns-8 c = empty-two _ _ _ _ _ (c .before .before .before .before .tag-at .ensures) 218 46 refl (c .before .match .keys8) _ (c .before .before .before .second-of .ensures) _ (c .fixed7 .ensures)
 
 -- src/equals.rt:63:1
 returns-9 : tie.Need-returns-9
-returns-9 c = empty-47 _ _ _ _ _ (c .before .before .before .before .tag-at .ensures) (c .before .match .keys9) _ (c .before .before .before .second-of .ensures) _ (c .fixed8 .ensures)
+returns-9 c = empty-two _ _ _ _ _ (c .before .before .before .before .tag-at .ensures) 219 47 refl (c .before .match .keys9) _ (c .before .before .before .second-of .ensures) _ (c .fixed8 .ensures)
 
 -- src/equals.rt:63:1
 returns-10 : tie.Need-returns-10
-returns-10 c = empty-48 _ _ _ _ _ (c .before .before .before .before .tag-at .ensures) (c .before .match .keys10) _ (c .before .before .before .second-of .ensures) _ (c .fixed9 .ensures)
+returns-10 c = empty-two _ _ _ _ _ (c .before .before .before .before .tag-at .ensures) 220 48 refl (c .before .match .keys10) _ (c .before .before .before .second-of .ensures) _ (c .fixed9 .ensures)
 
 -- src/equals.rt:63:1
 returns-11 : tie.Need-returns-11
-returns-11 c = empty-49 _ _ _ _ _ (c .before .before .before .before .tag-at .ensures) (c .before .match .keys11) _ (c .before .before .before .second-of .ensures) _ (c .fixed10 .ensures)
+returns-11 c = empty-two _ _ _ _ _ (c .before .before .before .before .tag-at .ensures) 227 49 refl (c .before .match .keys11) _ (c .before .before .before .second-of .ensures) _ (c .fixed10 .ensures)
 
 -- src/equals.rt:63:1
 returns-12 : tie.Need-returns-12
-returns-12 c = empty-50 _ _ _ _ _ (c .before .before .before .before .tag-at .ensures) (c .before .match .keys12) _ (c .before .before .before .second-of .ensures) _ (c .fixed11 .ensures)
+returns-12 c = empty-two _ _ _ _ _ (c .before .before .before .before .tag-at .ensures) 215 50 refl (c .before .match .keys12) _ (c .before .before .before .second-of .ensures) _ (c .fixed11 .ensures)
 
 -- src/equals.rt:63:1
 returns-13 : tie.Need-returns-13
-returns-13 c = empty-51 _ _ _ _ _ (c .before .before .before .before .tag-at .ensures) (c .before .match .keys13) _ (c .before .before .before .second-of .ensures) _ (c .fixed12 .ensures)
+returns-13 c = empty-two _ _ _ _ _ (c .before .before .before .before .tag-at .ensures) 216 51 refl (c .before .match .keys13) _ (c .before .before .before .second-of .ensures) _ (c .fixed12 .ensures)
 
 -- src/equals.rt:63:1
 returns-14 : tie.Need-returns-14

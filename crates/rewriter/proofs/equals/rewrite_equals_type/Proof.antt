@@ -1,4 +1,5 @@
-use Rattle.rewriter.proofs.TypeTurns.{type-24, type-25, type-26, type-27, type-28, type-29, type-30, type-31, type-32-215, type-32-216, type-33, type-34, type-35, type-none}
+use mathlib.Core.Path.{refl}
+use Rattle.rewriter.proofs.TypeTurns.{type-24, type-two, type-33, type-34, type-35, type-none}
 use Rattle.rewriter.proofs.Shapes.{here-few, here-placed}
 use native.Mathlib.Omega.{arith}
 use borrow.Author.Needs.{needs}
@@ -81,39 +82,39 @@ returns c = type-24 _ _ _ _ _ (c .before .before .before .tag-at .ensures) (c .b
 
 -- src/equals.rt:10:1
 returns-2 : tie.Need-returns-2
-returns-2 c = type-25 _ _ _ _ _ (c .before .before .before .tag-at .ensures) (c .before .match .keys2) _ (c .before .before .second-of .ensures) _ (c .fixed .ensures)
+returns-2 c = type-two _ _ _ _ _ (c .before .before .before .tag-at .ensures) 213 25 refl (c .before .match .keys2) _ (c .before .before .second-of .ensures) _ (c .fixed .ensures)
 
 -- src/equals.rt:10:1
 returns-3 : tie.Need-returns-3
-returns-3 c = type-26 _ _ _ _ _ (c .before .before .before .tag-at .ensures) (c .before .match .keys3) _ (c .before .before .second-of .ensures) _ (c .fixed2 .ensures)
+returns-3 c = type-two _ _ _ _ _ (c .before .before .before .tag-at .ensures) 214 26 refl (c .before .match .keys3) _ (c .before .before .second-of .ensures) _ (c .fixed2 .ensures)
 
 -- src/equals.rt:10:1
 returns-4 : tie.Need-returns-4
-returns-4 c = type-27 _ _ _ _ _ (c .before .before .before .tag-at .ensures) (c .before .match .keys4) _ (c .before .before .second-of .ensures) _ (c .fixed3 .ensures)
+returns-4 c = type-two _ _ _ _ _ (c .before .before .before .tag-at .ensures) 221 27 refl (c .before .match .keys4) _ (c .before .before .second-of .ensures) _ (c .fixed3 .ensures)
 
 -- src/equals.rt:10:1
 returns-5 : tie.Need-returns-5
-returns-5 c = type-28 _ _ _ _ _ (c .before .before .before .tag-at .ensures) (c .before .match .keys5) _ (c .before .before .second-of .ensures) _ (c .fixed4 .ensures)
+returns-5 c = type-two _ _ _ _ _ (c .before .before .before .tag-at .ensures) 217 28 refl (c .before .match .keys5) _ (c .before .before .second-of .ensures) _ (c .fixed4 .ensures)
 
 -- src/equals.rt:10:1
 returns-6 : tie.Need-returns-6
-returns-6 c = type-29 _ _ _ _ _ (c .before .before .before .tag-at .ensures) (c .before .match .keys6) _ (c .before .before .second-of .ensures) _ (c .fixed5 .ensures)
+returns-6 c = type-two _ _ _ _ _ (c .before .before .before .tag-at .ensures) 218 29 refl (c .before .match .keys6) _ (c .before .before .second-of .ensures) _ (c .fixed5 .ensures)
 
 -- src/equals.rt:10:1
 returns-7 : tie.Need-returns-7
-returns-7 c = type-30 _ _ _ _ _ (c .before .before .before .tag-at .ensures) (c .before .match .keys7) _ (c .before .before .second-of .ensures) _ (c .fixed6 .ensures)
+returns-7 c = type-two _ _ _ _ _ (c .before .before .before .tag-at .ensures) 219 30 refl (c .before .match .keys7) _ (c .before .before .second-of .ensures) _ (c .fixed6 .ensures)
 
 -- src/equals.rt:10:1
 returns-8 : tie.Need-returns-8
-returns-8 c = type-31 _ _ _ _ _ (c .before .before .before .tag-at .ensures) (c .before .match .keys8) _ (c .before .before .second-of .ensures) _ (c .fixed7 .ensures)
+returns-8 c = type-two _ _ _ _ _ (c .before .before .before .tag-at .ensures) 220 31 refl (c .before .match .keys8) _ (c .before .before .second-of .ensures) _ (c .fixed7 .ensures)
 
 -- src/equals.rt:10:1
 returns-9 : tie.Need-returns-9
-returns-9 c = type-32-215 _ _ _ _ _ (c .before .before .before .tag-at .ensures) (c .before .match .keys9) _ (c .before .before .second-of .ensures) _ (c .fixed8 .ensures)
+returns-9 c = type-two _ _ _ _ _ (c .before .before .before .tag-at .ensures) 215 32 refl (c .before .match .keys9) _ (c .before .before .second-of .ensures) _ (c .fixed8 .ensures)
 
 -- src/equals.rt:10:1
 returns-10 : tie.Need-returns-10
-returns-10 c = type-32-216 _ _ _ _ _ (c .before .before .before .tag-at .ensures) (c .before .match .keys10) _ (c .before .before .second-of .ensures) _ (c .fixed9 .ensures)
+returns-10 c = type-two _ _ _ _ _ (c .before .before .before .tag-at .ensures) 216 32 refl (c .before .match .keys10) _ (c .before .before .second-of .ensures) _ (c .fixed9 .ensures)
 
 -- src/equals.rt:10:1
 returns-11 : tie.Need-returns-11

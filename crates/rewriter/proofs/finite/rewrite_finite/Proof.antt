@@ -1,6 +1,7 @@
+use mathlib.Core.Path.{refl}
 use native.Mathlib.Omega.{arith}
 use Rattle.rewriter.proofs.Shapes.{here-few, here-placed}
-use Rattle.rewriter.proofs.FiniteTurns.{finite-1, finite-2-402, finite-2-403, finite-2-401, finite-3, finite-4, finite-5, finite-6, finite-7, finite-8, finite-9, finite-10, set-here, finite-set, restricted-here, finite-restricted, finite-13-410, finite-13-411, finite-none}
+use Rattle.rewriter.proofs.FiniteTurns.{finite-node, finite-6, finite-child, finite-8, set-here, finite-set, restricted-here, finite-restricted, finite-none}
 use borrow.Author.Needs.{needs}
 use Rattle.rewriter.proofs.finite.rewrite_finite.Statement.{statement}
 use Rattle.rewriter.proofs.finite.rewrite_finite.Tie as tie
@@ -63,40 +64,40 @@ fixed-requires-13 : tie.Need-fixed-requires-13
 fixed-requires-13 c κs = search needs
 
 returns : tie.Need-returns
-returns c = finite-1 _ _ _ _ _ (c .before .before .before .tag-at .ensures) (c .before .match .keys1) _ (c .fixed .ensures)
+returns c = finite-node _ _ _ _ _ (c .before .before .before .tag-at .ensures) 407 1 refl (c .before .match .keys1) _ (c .fixed .ensures)
 
 returns-2 : tie.Need-returns-2
-returns-2 c = finite-2-402 _ _ _ _ _ (c .before .before .before .tag-at .ensures) (c .before .match .keys2) _ (c .fixed2 .ensures)
+returns-2 c = finite-node _ _ _ _ _ (c .before .before .before .tag-at .ensures) 402 2 refl (c .before .match .keys2) _ (c .fixed2 .ensures)
 
 returns-3 : tie.Need-returns-3
-returns-3 c = finite-2-403 _ _ _ _ _ (c .before .before .before .tag-at .ensures) (c .before .match .keys3) _ (c .fixed3 .ensures)
+returns-3 c = finite-node _ _ _ _ _ (c .before .before .before .tag-at .ensures) 403 2 refl (c .before .match .keys3) _ (c .fixed3 .ensures)
 
 returns-4 : tie.Need-returns-4
-returns-4 c = finite-2-401 _ _ _ _ _ (c .before .before .before .tag-at .ensures) (c .before .match .keys4) _ (c .fixed4 .ensures)
+returns-4 c = finite-node _ _ _ _ _ (c .before .before .before .tag-at .ensures) 401 2 refl (c .before .match .keys4) _ (c .fixed4 .ensures)
 
 returns-5 : tie.Need-returns-5
-returns-5 c = finite-3 _ _ _ _ _ (c .before .before .before .tag-at .ensures) (c .before .match .keys5) _ (c .fixed5 .ensures)
+returns-5 c = finite-node _ _ _ _ _ (c .before .before .before .tag-at .ensures) 404 3 refl (c .before .match .keys5) _ (c .fixed5 .ensures)
 
 returns-6 : tie.Need-returns-6
-returns-6 c = finite-4 _ _ _ _ _ (c .before .before .before .tag-at .ensures) (c .before .match .keys6) _ (c .fixed6 .ensures)
+returns-6 c = finite-node _ _ _ _ _ (c .before .before .before .tag-at .ensures) 412 4 refl (c .before .match .keys6) _ (c .fixed6 .ensures)
 
 returns-7 : tie.Need-returns-7
-returns-7 c = finite-5 _ _ _ _ _ (c .before .before .before .tag-at .ensures) (c .before .match .keys7) _ (c .fixed7 .ensures)
+returns-7 c = finite-node _ _ _ _ _ (c .before .before .before .tag-at .ensures) 5 5 refl (c .before .match .keys7) _ (c .fixed7 .ensures)
 
 returns-8 : tie.Need-returns-8
 returns-8 c = finite-6 _ _ _ _ _ (c .before .before .before .tag-at .ensures) (c .before .match .keys8) _ (c .each .ensures)
 
 returns-9 : tie.Need-returns-9
-returns-9 c = finite-7 _ _ _ _ _ (c .before .before .before .tag-at .ensures) (c .before .match .keys9) _ (c .fixed8 .ensures)
+returns-9 c = finite-child _ _ _ _ _ (c .before .before .before .tag-at .ensures) 752 7 refl (c .before .match .keys9) _ (c .fixed8 .ensures)
 
 returns-10 : tie.Need-returns-10
 returns-10 c = finite-8 _ _ _ _ _ (c .before .before .before .tag-at .ensures) (c .before .match .keys10) _ (c .before .before .second-of .ensures) _ (c .fixed9 .ensures)
 
 returns-11 : tie.Need-returns-11
-returns-11 c = finite-9 _ _ _ _ _ (c .before .before .before .tag-at .ensures) (c .before .match .keys11) _ (c .fixed10 .ensures)
+returns-11 c = finite-child _ _ _ _ _ (c .before .before .before .tag-at .ensures) 763 9 refl (c .before .match .keys11) _ (c .fixed10 .ensures)
 
 returns-12 : tie.Need-returns-12
-returns-12 c = finite-10 _ _ _ _ _ (c .before .before .before .tag-at .ensures) (c .before .match .keys12) _ (c .fixed11 .ensures)
+returns-12 c = finite-node _ _ _ _ _ (c .before .before .before .tag-at .ensures) 221 10 refl (c .before .match .keys12) _ (c .fixed11 .ensures)
 
 returns-13 : tie.Need-returns-13
 returns-13 c = finite-set _ _ _ _ _ (c .before .before .before .tag-at .ensures) (c .before .match .keys13) _ (c .finite-set-at .ensures)
@@ -105,10 +106,10 @@ returns-14 : tie.Need-returns-14
 returns-14 c = finite-restricted _ _ _ _ _ (c .before .before .before .tag-at .ensures) (c .before .match .keys14) _ (c .before .before .second-of .ensures) _ (c .finite-restricted-at .ensures)
 
 returns-15 : tie.Need-returns-15
-returns-15 c = finite-13-410 _ _ _ _ _ (c .before .before .before .tag-at .ensures) (c .before .match .keys15) _ (c .fixed12 .ensures)
+returns-15 c = finite-node _ _ _ _ _ (c .before .before .before .tag-at .ensures) 410 13 refl (c .before .match .keys15) _ (c .fixed12 .ensures)
 
 returns-16 : tie.Need-returns-16
-returns-16 c = finite-13-411 _ _ _ _ _ (c .before .before .before .tag-at .ensures) (c .before .match .keys16) _ (c .fixed13 .ensures)
+returns-16 c = finite-node _ _ _ _ _ (c .before .before .before .tag-at .ensures) 411 13 refl (c .before .match .keys16) _ (c .fixed13 .ensures)
 
 returns-17 : tie.Need-returns-17
 returns-17 c = finite-none _ _ _ _ _ (c .before .before .tag-at .ensures) (c .match .rest .0 .0 .0 .0 .0 .0 .0 .0 .0 .0 .0 .0 .0 .0 .0 .1) (c .match .rest .0 .0 .0 .0 .0 .0 .0 .0 .0 .0 .0 .0 .0 .0 .1) (c .match .rest .0 .0 .0 .0 .0 .0 .0 .0 .0 .0 .0 .0 .0 .1) (c .match .rest .0 .0 .0 .0 .0 .0 .0 .0 .0 .0 .0 .0 .1) (c .match .rest .0 .0 .0 .0 .0 .0 .0 .0 .0 .0 .0 .1) (c .match .rest .0 .0 .0 .0 .0 .0 .0 .0 .0 .0 .1) (c .match .rest .0 .0 .0 .0 .0 .0 .0 .0 .0 .1) (c .match .rest .0 .0 .0 .0 .0 .0 .0 .0 .1) (c .match .rest .0 .0 .0 .0 .0 .0 .0 .1) (c .match .rest .0 .0 .0 .0 .0 .0 .1) (c .match .rest .0 .0 .0 .0 .0 .1) (c .match .rest .0 .0 .0 .0 .1) (c .match .rest .0 .0 .0 .1) (c .match .rest .0 .0 .1) (c .match .rest .0 .1) (c .match .rest .1)

@@ -1,6 +1,7 @@
+use mathlib.Core.Path.{refl}
 use native.Mathlib.Omega.{arith}
 use Rattle.rewriter.proofs.Shapes.{here-few, here-placed}
-use Rattle.rewriter.proofs.Negations.{not-16, not-17, not-18, not-19, equation-here, not-equal, not-none, not-other, inner-here, of-inner}
+use Rattle.rewriter.proofs.Negations.{not-compared, equation-here, not-equal, not-none, not-other, inner-here, of-inner}
 use borrow.Author.Needs.{needs}
 use Rattle.rewriter.proofs.negation.rewrite_not.Statement.{statement}
 use Rattle.rewriter.proofs.negation.rewrite_not.Tie as tie
@@ -57,19 +58,19 @@ unequal-at-requires c κs = equation-here _ _ _ _ _ (c .before .before .tag-at2 
 
 -- src/negation.rt:31:1
 returns-2 : tie.Need-returns-2
-returns-2 c = of-inner _ _ _ _ _ (c .before .before .before .before .before .tag-at .ensures) (c .before .before .before .before .if1 .left) _ (not-16 _ _ _ _ _ (c .before .before .before .tag-at2 .ensures) _ (c .before .before .second-of .ensures) (c .before .match .keys1) _ (c .fixed .ensures))
+returns-2 c = of-inner _ _ _ _ _ (c .before .before .before .before .before .tag-at .ensures) (c .before .before .before .before .if1 .left) _ (not-compared _ _ _ _ _ (c .before .before .before .tag-at2 .ensures) 104 16 refl (c .before .match .keys1) _ (c .before .before .second-of .ensures) _ (c .fixed .ensures))
 
 -- src/negation.rt:31:1
 returns-3 : tie.Need-returns-3
-returns-3 c = of-inner _ _ _ _ _ (c .before .before .before .before .before .tag-at .ensures) (c .before .before .before .before .if1 .left) _ (not-17 _ _ _ _ _ (c .before .before .before .tag-at2 .ensures) _ (c .before .before .second-of .ensures) (c .before .match .keys2) _ (c .fixed2 .ensures))
+returns-3 c = of-inner _ _ _ _ _ (c .before .before .before .before .before .tag-at .ensures) (c .before .before .before .before .if1 .left) _ (not-compared _ _ _ _ _ (c .before .before .before .tag-at2 .ensures) 106 17 refl (c .before .match .keys2) _ (c .before .before .second-of .ensures) _ (c .fixed2 .ensures))
 
 -- src/negation.rt:31:1
 returns-4 : tie.Need-returns-4
-returns-4 c = of-inner _ _ _ _ _ (c .before .before .before .before .before .tag-at .ensures) (c .before .before .before .before .if1 .left) _ (not-18 _ _ _ _ _ (c .before .before .before .tag-at2 .ensures) _ (c .before .before .second-of .ensures) (c .before .match .keys3) _ (c .fixed3 .ensures))
+returns-4 c = of-inner _ _ _ _ _ (c .before .before .before .before .before .tag-at .ensures) (c .before .before .before .before .if1 .left) _ (not-compared _ _ _ _ _ (c .before .before .before .tag-at2 .ensures) 105 18 refl (c .before .match .keys3) _ (c .before .before .second-of .ensures) _ (c .fixed3 .ensures))
 
 -- src/negation.rt:31:1
 returns-5 : tie.Need-returns-5
-returns-5 c = of-inner _ _ _ _ _ (c .before .before .before .before .before .tag-at .ensures) (c .before .before .before .before .if1 .left) _ (not-19 _ _ _ _ _ (c .before .before .before .tag-at2 .ensures) _ (c .before .before .second-of .ensures) (c .before .match .keys4) _ (c .fixed4 .ensures))
+returns-5 c = of-inner _ _ _ _ _ (c .before .before .before .before .before .tag-at .ensures) (c .before .before .before .before .if1 .left) _ (not-compared _ _ _ _ _ (c .before .before .before .tag-at2 .ensures) 103 19 refl (c .before .match .keys4) _ (c .before .before .second-of .ensures) _ (c .fixed4 .ensures))
 
 -- src/negation.rt:31:1
 returns-6 : tie.Need-returns-6
