@@ -6,7 +6,7 @@ use Prim.Native.Nat.{ℕ}
 use Rattle.frame.specs.Types.{Ty, bool, int}
 use Rattle.frame.specs.Trees.{Tree, Forest, leaf, two}
 use Rattle.frame.specs.Tags.{predicate, classOf, lookup, formAt}
-use Rattle.frame.specs.Operators.{#Lt, #Le, #Gt, #Ge, #True, #False}
+use Rattle.frame.specs.Operators.{#Lt, #Le, #Gt, #Ge, #True, #False, #Equal, #Not}
 use Rattle.frame.specs.Places.{Ctx}
 use Rattle.typing.specs.Typing.{typeOf}
 use Rattle.typing.specs.Accepted.{Accepted}
@@ -168,13 +168,13 @@ module _ (I : Interpretation) (σ : ℕ → Ty) (Γ : Ctx) where
     right-keeps a s =
         let h = a .kids .0 .fits in
         let k = f .type in
-        keeps-truth I (¬ᵖ (e ≐ x)) (e ≐ y) Γ (refl, refl) (refl, refl) (kit.equal-single I Γ e y (s .3 .0 .3 .0) (f .single)) (λ l. kit.equal-alive I Γ e y (l .2 .0 .2 .0) (f .alive))
+        keeps-truth I (¬ᵖ (e ≐ x)) (e ≐ y) Γ (refl, refl) (refl, refl) (kit.two-single I Γ #Equal (refl, refl) e y (s .3 .0 .3 .0) (f .single)) (λ l. kit.two-alive I Γ #Equal (refl, refl) e y (l .2 .0 .2 .0) (f .alive))
         (λ l ρ. kit.not-truth I Γ (e ≐ x) ρ ∙ right-truth (cc) ρ)
 
     left-keeps : typeOf y Γ ≡ bool → SingleIntegers (¬ᵖ (x ≐ e)) Γ → Keeps I Γ (¬ᵖ (x ≐ e)) (y ≐ e)
     unfolding SingleIntegers Alive opOf opAt classOf lookup formAt
     left-keeps h s =
-        keeps-truth I (¬ᵖ (x ≐ e)) (y ≐ e) Γ (refl, refl) (refl, refl) (kit.equal-single I Γ y e (f .single) (s .3 .0 .3 .1 .0)) (λ l. kit.equal-alive I Γ y e (f .alive) (l .2 .0 .2 .1 .0))
+        keeps-truth I (¬ᵖ (x ≐ e)) (y ≐ e) Γ (refl, refl) (refl, refl) (kit.two-single I Γ #Equal (refl, refl) y e (f .single) (s .3 .0 .3 .1 .0)) (λ l. kit.two-alive I Γ #Equal (refl, refl) y e (f .alive) (l .2 .0 .2 .1 .0))
         (λ l ρ. kit.not-truth I Γ (x ≐ e) ρ ∙ left-truth h ρ)
 
   module _ (e : Tree) where
@@ -242,7 +242,7 @@ module _ (I : Interpretation) (σ : ℕ → Ty) (Γ : Ctx) where
   pub imp-opposite-keeps : (ps : Forest) (q m : Tree) → Opposite q m → Among m ps → SingleIntegers (⋀ ps ⇒ q) Γ → Keeps I Γ (⋀ ps ⇒ q) (¬ᵖ (⋀ ps))
   unfolding SingleIntegers Alive opOf opAt classOf lookup formAt
   imp-opposite-keeps ps q m o i s =
-      keeps-truth I (⋀ ps ⇒ q) (¬ᵖ (⋀ ps)) Γ (refl, refl) (refl, refl) (kit.not-single I Γ (⋀ ps) (s .3 .0)) (λ l. kit.not-alive I Γ (⋀ ps) (l .2 .0))
+      keeps-truth I (⋀ ps ⇒ q) (¬ᵖ (⋀ ps)) Γ (refl, refl) (refl, refl) (kit.one-single I Γ #Not (refl, refl) (⋀ ps) (s .3 .0)) (λ l. kit.one-alive I Γ #Not (refl, refl) (⋀ ps) (l .2 .0))
       (λ l ρ. kit.implies-truth I Γ (⋀ ps) q ρ ∙ imp-apart (Truth ρ (⋀ ps)) (Truth ρ q) (λ h. rw (opposite-truth o ρ) at (among-true ps m i ρ h)) ∙ sym (kit.not-truth I Γ (⋀ ps) ρ))
 
   -- ---- ⇔

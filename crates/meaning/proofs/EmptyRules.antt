@@ -6,7 +6,7 @@ use Prim.Native.Nat.{ℕ}
 use Rattle.frame.specs.Types.{Ty, pow, prod}
 use Rattle.frame.specs.Trees.{Tree, one, two, many, sole, pair}
 use Rattle.frame.specs.Tags.{classOf, lookup, formAt}
-use Rattle.frame.specs.Operators.{#SRel, #STRel, #SetMinus, #CProd, #DProd, #PProd, #DomRes, #DomSub, #RanRes, #RanSub, #RelImage, #BComp, #FComp, #Pow, #Pow1, #KUnion, #Converse}
+use Rattle.frame.specs.Operators.{#SRel, #STRel, #SetMinus, #CProd, #DProd, #PProd, #DomRes, #DomSub, #RanRes, #RanSub, #RelImage, #BComp, #FComp, #Pow, #Pow1, #KUnion, #Converse, #LEqv, #Not}
 use Rattle.frame.specs.Places.{Ctx}
 use Rattle.typing.specs.Typing.{element, relation, typeOf}
 use Rattle.rules.specs.Equations.{⊥ᵖ, ¬ᵖ, _⇔_, ⋀, ⋁, _⊆_, ext, dom, ran, ⋂, ∅, _≐∅}
@@ -181,8 +181,8 @@ module _ (I : Interpretation) (σ : ℕ → Ty) (Γ : Ctx) where
     unfolding SingleIntegers Alive means holds valueOf typeOf opOf opAt classOf lookup formAt
     srel-emptied f =
         emptied I σ Γ (two #SRel a b) (⋀ (pair (_≐∅ Γ a) (¬ᵖ (_≐∅ Γ b)))) (pow (prod u v)) (rw (ha, hb)) (refl, refl)
-        (empty.and-two-single I Γ (_≐∅ Γ a) (¬ᵖ (_≐∅ Γ b)) (kit.empty-single I Γ a (f .3 .0)) (kit.not-single I Γ (_≐∅ Γ b) (kit.empty-single I Γ b (f .3 .1 .0))))
-        (λ l. empty.and-two-alive I Γ (_≐∅ Γ a) (¬ᵖ (_≐∅ Γ b)) (kit.empty-alive I Γ a (l .2 .0)) (kit.not-alive I Γ (_≐∅ Γ b) (kit.empty-alive I Γ b (l .2 .1 .0))))
+        (empty.and-two-single I Γ (_≐∅ Γ a) (¬ᵖ (_≐∅ Γ b)) (kit.empty-single I Γ a (f .3 .0)) (kit.one-single I Γ #Not (refl, refl) (_≐∅ Γ b) (kit.empty-single I Γ b (f .3 .1 .0))))
+        (λ l. empty.and-two-alive I Γ (_≐∅ Γ a) (¬ᵖ (_≐∅ Γ b)) (kit.empty-alive I Γ a (l .2 .0)) (kit.one-alive I Γ #Not (refl, refl) (_≐∅ Γ b) (kit.empty-alive I Γ b (l .2 .1 .0))))
         (λ l ρ. empty.and-two-truth I Γ (_≐∅ Γ a) (¬ᵖ (_≐∅ Γ b)) ρ ∙ ap₂ _&&_ (kit.empty-truth I Γ a u ha ρ) (ap not (kit.empty-truth I Γ b v hb ρ))
         ∙ law (some I u (setOf I (means I a Γ) ρ u)) (some I v (setOf I (means I b Γ) ρ v))
         ∙ ap not (sym (more.srel-some (I .size) u v (kit.no-int a Γ u (f .3 .0) ha) (kit.no-int b Γ v (f .3 .1 .0) hb) (setOf I (means I a Γ) ρ u) (setOf I (means I b Γ) ρ v))))
@@ -197,8 +197,8 @@ module _ (I : Interpretation) (σ : ℕ → Ty) (Γ : Ctx) where
     unfolding SingleIntegers Alive means holds valueOf typeOf opOf opAt classOf lookup formAt
     strel-emptied f =
         emptied I σ Γ (two #STRel a b) (_≐∅ Γ a ⇔ ¬ᵖ (_≐∅ Γ b)) (pow (prod u v)) (rw (ha, hb)) (refl, refl)
-        (kit.equiv-single I Γ (_≐∅ Γ a) (¬ᵖ (_≐∅ Γ b)) (kit.empty-single I Γ a (f .3 .0)) (kit.not-single I Γ (_≐∅ Γ b) (kit.empty-single I Γ b (f .3 .1 .0))))
-        (λ l. kit.equiv-alive I Γ (_≐∅ Γ a) (¬ᵖ (_≐∅ Γ b)) (kit.empty-alive I Γ a (l .2 .0)) (kit.not-alive I Γ (_≐∅ Γ b) (kit.empty-alive I Γ b (l .2 .1 .0))))
+        (kit.two-single I Γ #LEqv (refl, refl) (_≐∅ Γ a) (¬ᵖ (_≐∅ Γ b)) (kit.empty-single I Γ a (f .3 .0)) (kit.one-single I Γ #Not (refl, refl) (_≐∅ Γ b) (kit.empty-single I Γ b (f .3 .1 .0))))
+        (λ l. kit.two-alive I Γ #LEqv (refl, refl) (_≐∅ Γ a) (¬ᵖ (_≐∅ Γ b)) (kit.empty-alive I Γ a (l .2 .0)) (kit.one-alive I Γ #Not (refl, refl) (_≐∅ Γ b) (kit.empty-alive I Γ b (l .2 .1 .0))))
         (λ l ρ. kit.equiv-truth I Γ (_≐∅ Γ a) (¬ᵖ (_≐∅ Γ b)) ρ ∙ ap₂ Bool·beq (kit.empty-truth I Γ a u ha ρ) (ap not (kit.empty-truth I Γ b v hb ρ))
         ∙ law (some I u (setOf I (means I a Γ) ρ u)) (some I v (setOf I (means I b Γ) ρ v))
         ∙ ap not (sym (more.strel-some (I .size) u v (kit.no-int a Γ u (f .3 .0) ha) (kit.no-int b Γ v (f .3 .1 .0) hb) (setOf I (means I a Γ) ρ u) (setOf I (means I b Γ) ρ v))))

@@ -6,7 +6,7 @@ use Prim.Native.Nat.{ℕ}
 use Rattle.frame.specs.Types.{Ty, pow}
 use Rattle.frame.specs.Trees.{Tree, Forest, nil, cons, sole, append}
 use Rattle.frame.specs.Tags.{classOf, lookup, formAt}
-use Rattle.frame.specs.Operators.{#BUnion, #BInter}
+use Rattle.frame.specs.Operators.{#BUnion, #BInter, #In, #Not}
 use Rattle.frame.specs.Places.{Ctx}
 use Rattle.typing.specs.Typing.{typeOf}
 use Rattle.rules.specs.Equations.{¬ᵖ, _∈ᵖ_, _⊆_, ext, ⋂, over, Subtracted, none, minus, other}
@@ -92,10 +92,10 @@ module _ (I : Interpretation) (σ : ℕ → Ty) (Γ : Ctx) (a : Tree) (left righ
   single-emptied u he ha s =
       let r = right-single Γ left (cons (ext (sole a)) right) (s .3) in
       emptied I σ Γ (⋂ with-a) (¬ᵖ (a ∈ᵖ rest)) u he (refl, refl)
-      (kit.not-single I Γ (a ∈ᵖ rest) (kit.member-single I Γ a rest (r .0 .3 .0)
+      (kit.one-single I Γ #Not (refl, refl) (a ∈ᵖ rest) (kit.two-single I Γ #In (refl, refl) a rest (r .0 .3 .0)
       (cap-over-single Γ (append left right) (append-single Γ left right (left-single Γ left (cons (ext (sole a)) right) (s .3)) (r .1)))))
       (λ l. (let k = right-alive I Γ left (cons (ext (sole a)) right) (l .2) in
-      kit.not-alive I Γ (a ∈ᵖ rest) (kit.member-alive I Γ a rest (k .0 .2 .0)
+      kit.one-alive I Γ #Not (refl, refl) (a ∈ᵖ rest) (kit.two-alive I Γ #In (refl, refl) a rest (k .0 .2 .0)
       (cap-over-alive I Γ (append left right) (append-alive I Γ left right (left-alive I Γ left (cons (ext (sole a)) right) (l .2)) (k .1))))))
       (λ l ρ. kit.not-truth I Γ (a ∈ᵖ rest) ρ ∙ ap not (kit.member-truth I Γ a rest u ha ρ ∙ sym (single-some u (kit.no-int (⋂ with-a) Γ u s he) ρ)))
 

@@ -9,7 +9,7 @@ use Prim.Native.Nat.{ℕ}
 use Rattle.frame.specs.Types.{Ty, pow, prod}
 use Rattle.frame.specs.Trees.{Tree, two, many, pair}
 use Rattle.frame.specs.Tags.{classOf, lookup, formAt}
-use Rattle.frame.specs.Operators.{#RelImage, #FComp, #BComp}
+use Rattle.frame.specs.Operators.{#RelImage, #FComp, #BComp, #SubsetEq}
 use Rattle.frame.specs.Places.{Ctx}
 use Rattle.typing.specs.Typing.{relation, typeOf}
 use Rattle.rules.specs.Equations.{⊥ᵖ, ⋀, ⋁, _⊆_, dom, ran, ⋂, _≐∅}
@@ -157,7 +157,7 @@ module _ (I : Interpretation) (Γ : Ctx) where
           → Emptied I σ Γ e (a ⊆ b)
       unfolding classOf lookup formAt
       within-emptied m =
-          emptied I σ Γ e (a ⊆ b) w he (refl, refl) (kit.subset-single I Γ a b s r) (λ x. kit.subset-alive I Γ a b (k x) (l x))
+          emptied I σ Γ e (a ⊆ b) w he (refl, refl) (kit.two-single I Γ #SubsetEq (refl, refl) a b s r) (λ x. kit.two-alive I Γ #SubsetEq (refl, refl) a b (k x) (l x))
           (λ x ρ. kit.subset-truth I Γ a b u ha ρ ∙ m ρ)
 
       -- A = ∅ ∨ B = ∅

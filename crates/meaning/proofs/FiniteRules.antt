@@ -8,7 +8,7 @@ use Prim.Native.Nat.{ℕ}
 use Rattle.frame.specs.Types.{Ty, int, pow}
 use Rattle.frame.specs.Trees.{Tree, Forest, nil, cons, leaf, one, two, many, typed, sole, pair, bodied, mapF}
 use Rattle.frame.specs.Tags.{predicate, classOf, lookup, formAt}
-use Rattle.frame.specs.Operators.{#Natural, #Natural1, #Integer, #BUnion, #Pow, #CProd, #Converse, #CSet, #Mapsto, #DomRes, #Partition}
+use Rattle.frame.specs.Operators.{#Natural, #Natural1, #Integer, #BUnion, #Pow, #CProd, #Converse, #CSet, #Mapsto, #DomRes, #Partition, #Equal, #LAnd, #LOr}
 use Rattle.frame.specs.Places.{Ctx}
 use Rattle.typing.specs.Typing.{element, relation, typeOf, typesIn}
 use Rattle.typing.specs.TypeExpression.{toExpression}
@@ -94,8 +94,8 @@ module _ (I : Interpretation) (σ : ℕ → Ty) (Γ : Ctx) where
   pub finite-union-keeps : (ks : Forest) → SingleIntegers (fin (many #BUnion ks)) Γ → Keeps I Γ (fin (many #BUnion ks)) (⋀ (mapF fin ks))
   unfolding SingleIntegers Alive opOf opAt classOf lookup formAt
   finite-union-keeps ks s =
-      finite-keeps (many #BUnion ks) (⋀ (mapF fin ks)) (refl, refl) (kit.and-single I Γ (mapF fin ks) (many.map-single fin Γ Γ fin-single ks (s .3 .0 .3)))
-      (λ a. kit.and-alive I Γ (mapF fin ks) (many.map-alive I fin Γ Γ fin-alive ks (a .2))) (λ ρ. kit.and-truth I Γ (mapF fin ks) ρ ∙ fins-truth ρ ks)
+      finite-keeps (many #BUnion ks) (⋀ (mapF fin ks)) (refl, refl) (kit.many-single I Γ #LAnd (refl, refl) (mapF fin ks) (many.map-single fin Γ Γ fin-single ks (s .3 .0 .3)))
+      (λ a. kit.many-alive I Γ #LAnd (refl, refl) (mapF fin ks) (many.map-alive I fin Γ Γ fin-alive ks (a .2))) (λ ρ. kit.and-truth I Γ (mapF fin ks) ρ ∙ fins-truth ρ ks)
 
   pub finite-power-keeps : (s : Tree) → SingleIntegers (fin (one #Pow s)) Γ → Keeps I Γ (fin (one #Pow s)) (fin s)
   unfolding SingleIntegers Alive opOf opAt classOf lookup formAt
@@ -125,8 +125,8 @@ module _ (I : Interpretation) (σ : ℕ → Ty) (Γ : Ctx) where
         let ht = h .3 .0 .3 .1 .0 in
         let ds = cons (_≐∅ Γ s) (pair (_≐∅ Γ t) (⋀ (pair (fin s) (fin t)))) in
         finite-keeps (two #CProd s t) product-new (refl, refl)
-        (kit.or-single I Γ ds (kit.empty-single I Γ s hs, (kit.empty-single I Γ t ht, (kit.and-single I Γ (pair (fin s) (fin t)) (fin-single s hs, (fin-single t ht, tt)), tt))))
-        (λ a. kit.or-alive I Γ ds (kit.empty-alive I Γ s (a .2 .0), (kit.empty-alive I Γ t (a .2 .1 .0), (kit.and-alive I Γ (pair (fin s) (fin t)) (fin-alive s (a .2 .0), (fin-alive t (a .2 .1 .0), tt)), tt))))
+        (kit.many-single I Γ #LOr (refl, refl) ds (kit.empty-single I Γ s hs, (kit.empty-single I Γ t ht, (kit.many-single I Γ #LAnd (refl, refl) (pair (fin s) (fin t)) (fin-single s hs, (fin-single t ht, tt)), tt))))
+        (λ a. kit.many-alive I Γ #LOr (refl, refl) ds (kit.empty-alive I Γ s (a .2 .0), (kit.empty-alive I Γ t (a .2 .1 .0), (kit.many-alive I Γ #LAnd (refl, refl) (pair (fin s) (fin t)) (fin-alive s (a .2 .0), (fin-alive t (a .2 .1 .0), tt)), tt))))
         product-truth
 
   -- λx·P∣F, a set of maplets E ↦ F
@@ -168,5 +168,5 @@ module _ (I : Interpretation) (σ : ℕ → Ty) (Γ : Ctx) where
   unfolding Accepted SingleIntegers Alive typeOf opOf opAt classOf lookup formAt
   partition-one-keeps s t a h =
       let e = a .fits in
-      keeps-truth I (many #Partition (pair s t)) (s ≐ t) Γ (refl, refl) (refl, refl) (kit.equal-single I Γ s t (h .3 .0) (h .3 .1 .0)) (λ l. kit.equal-alive I Γ s t (l .2 .0) (l .2 .1 .0))
+      keeps-truth I (many #Partition (pair s t)) (s ≐ t) Γ (refl, refl) (refl, refl) (kit.two-single I Γ #Equal (refl, refl) s t (h .3 .0) (h .3 .1 .0)) (λ l. kit.two-alive I Γ #Equal (refl, refl) s t (l .2 .0) (l .2 .1 .0))
       (λ l ρ. partition-one s (element (typeOf s Γ)) (cc) ρ t)

@@ -5,6 +5,7 @@ use mathlib.Core.List.{List}
 use Prim.Native.Nat.{ℕ}
 use Rattle.frame.specs.Types.{Ty, bool}
 use Rattle.frame.specs.Trees.{Tree, Forest, mapF}
+use Rattle.frame.specs.Operators.{#Exists, #Forall, #LAnd, #LImp, #LOr}
 use Rattle.frame.specs.Tags.{predicate, classOf, lookup, formAt}
 use Rattle.frame.specs.Places.{Ctx, push}
 use Rattle.typing.specs.Typing.{typeOf, typesIn}
@@ -38,8 +39,8 @@ module _ (I : Interpretation) (σ : ℕ → Ty) (Γ : Ctx) (xs : List Ty) where
     unfolding Accepted SingleIntegers Alive typeOf opOf opAt classOf lookup formAt
     forall-and-keeps a s =
         keeps-truth I (∀ᵖ xs (⋀ ps)) (⋀ (mapF (∀ᵖ xs) ps)) Γ (refl, refl) (refl, refl)
-        (kit.and-single I Γ (mapF (∀ᵖ xs) ps) (many.map-single (∀ᵖ xs) (push xs Γ) Γ (λ k r. kit.forall-single I Γ xs k (s .0) (s .2) r) ps (s .3 .0 .3)))
-        (λ l. kit.and-alive I Γ (mapF (∀ᵖ xs) ps) (many.map-alive I (∀ᵖ xs) (push xs Γ) Γ (λ k r. kit.forall-alive I Γ xs k r) ps (l .2 .0 .2)))
+        (kit.many-single I Γ #LAnd (refl, refl) (mapF (∀ᵖ xs) ps) (many.map-single (∀ᵖ xs) (push xs Γ) Γ (λ k r. kit.bound-single I Γ #Forall (refl, refl) (λ us. refl) xs k (s .0) (s .2) r) ps (s .3 .0 .3)))
+        (λ l. kit.many-alive I Γ #LAnd (refl, refl) (mapF (∀ᵖ xs) ps) (many.map-alive I (∀ᵖ xs) (push xs Γ) Γ (λ k r. kit.bound-alive I Γ #Forall (refl, refl) (λ us. refl) xs k refl refl r) ps (l .2 .0 .2)))
         (λ l ρ. forall-and-truth (many.each-alike bool (typesIn ps (push xs Γ)) (a .kids .0 .fits)) ρ)
 
     -- ∃x·(P ∨ … ∨ Q) is (∃x·P) ∨ … ∨ (∃x·Q)
@@ -47,8 +48,8 @@ module _ (I : Interpretation) (σ : ℕ → Ty) (Γ : Ctx) (xs : List Ty) where
     unfolding Accepted SingleIntegers Alive typeOf opOf opAt classOf lookup formAt
     exists-or-keeps a s =
         keeps-truth I (∃ᵖ xs (⋁ ps)) (⋁ (mapF (∃ᵖ xs) ps)) Γ (refl, refl) (refl, refl)
-        (kit.or-single I Γ (mapF (∃ᵖ xs) ps) (many.map-single (∃ᵖ xs) (push xs Γ) Γ (λ k r. kit.exists-single I Γ xs k (s .0) (s .2) r) ps (s .3 .0 .3)))
-        (λ l. kit.or-alive I Γ (mapF (∃ᵖ xs) ps) (many.map-alive I (∃ᵖ xs) (push xs Γ) Γ (λ k r. kit.exists-alive I Γ xs k r) ps (l .2 .0 .2)))
+        (kit.many-single I Γ #LOr (refl, refl) (mapF (∃ᵖ xs) ps) (many.map-single (∃ᵖ xs) (push xs Γ) Γ (λ k r. kit.bound-single I Γ #Exists (refl, refl) (λ us. refl) xs k (s .0) (s .2) r) ps (s .3 .0 .3)))
+        (λ l. kit.many-alive I Γ #LOr (refl, refl) (mapF (∃ᵖ xs) ps) (many.map-alive I (∃ᵖ xs) (push xs Γ) Γ (λ k r. kit.bound-alive I Γ #Exists (refl, refl) (λ us. refl) xs k refl refl r) ps (l .2 .0 .2)))
         (λ l ρ. exists-or-truth (many.each-alike bool (typesIn ps (push xs Γ)) (a .kids .0 .fits)) ρ)
 
   -- ∃x·(P ⇒ Q) is (∀x·P) ⇒ (∃x·Q)
@@ -56,6 +57,6 @@ module _ (I : Interpretation) (σ : ℕ → Ty) (Γ : Ctx) (xs : List Ty) where
   unfolding SingleIntegers Alive means holds quantified typeOf opOf opAt classOf lookup formAt
   exists-imp-keeps p q s =
       keeps-truth I (∃ᵖ xs (p ⇒ q)) (∀ᵖ xs p ⇒ ∃ᵖ xs q) Γ (refl, refl) (refl, refl)
-      (kit.implies-single I Γ (∀ᵖ xs p) (∃ᵖ xs q) (kit.forall-single I Γ xs p (s .0) (s .2) (s .3 .0 .3 .0)) (kit.exists-single I Γ xs q (s .0) (s .2) (s .3 .0 .3 .1 .0)))
-      (λ l. kit.implies-alive I Γ (∀ᵖ xs p) (∃ᵖ xs q) (kit.forall-alive I Γ xs p (l .2 .0 .2 .0)) (kit.exists-alive I Γ xs q (l .2 .0 .2 .1 .0)))
+      (kit.two-single I Γ #LImp (refl, refl) (∀ᵖ xs p) (∃ᵖ xs q) (kit.bound-single I Γ #Forall (refl, refl) (λ us. refl) xs p (s .0) (s .2) (s .3 .0 .3 .0)) (kit.bound-single I Γ #Exists (refl, refl) (λ us. refl) xs q (s .0) (s .2) (s .3 .0 .3 .1 .0)))
+      (λ l. kit.two-alive I Γ #LImp (refl, refl) (∀ᵖ xs p) (∃ᵖ xs q) (kit.bound-alive I Γ #Forall (refl, refl) (λ us. refl) xs p refl refl (l .2 .0 .2 .0)) (kit.bound-alive I Γ #Exists (refl, refl) (λ us. refl) xs q refl refl (l .2 .0 .2 .1 .0)))
       (λ l ρ. any-imp (truth I (means I p (push xs Γ))) (truth I (means I q (push xs Γ))) (choices I xs Γ ρ))
