@@ -6,7 +6,7 @@ use Prim.Native.Nat.{ℕ}
 use Rattle.frame.specs.Types.{Ty, bool, int}
 use Rattle.frame.specs.Trees.{Tree, Forest, leaf, two}
 use Rattle.frame.specs.Tags.{predicate, classOf, lookup, formAt}
-use Rattle.frame.specs.Operators.{#Lt, #Le, #Gt, #Ge, #True, #False, #Equal, #Not}
+use Rattle.frame.specs.Operators.{#BTrue, #BFalse, #Lt, #Le, #Gt, #Ge, #True, #False, #Equal, #Not}
 use Rattle.frame.specs.Places.{Ctx}
 use Rattle.typing.specs.Typing.{typeOf}
 use Rattle.typing.specs.Accepted.{Accepted}
@@ -74,22 +74,6 @@ module _ (I : Interpretation) (σ : ℕ → Ty) (Γ : Ctx) where
   -- the truth of a tree
   abbrev Truth : Vals I Γ → Tree → Bool
   Truth ρ t = truth I (means I t Γ) ρ
-
-  pub top-single : SingleIntegers ⊤ Γ
-  unfolding SingleIntegers typeOf classOf lookup formAt
-  top-single = (tt, tt, tt, tt)
-
-  pub top-alive : Alive I ⊤ Γ
-  unfolding Alive opOf opAt classOf lookup
-  top-alive = (tt, tt, tt)
-
-  pub bottom-single : SingleIntegers ⊥ᵖ Γ
-  unfolding SingleIntegers typeOf classOf lookup formAt
-  bottom-single = (tt, tt, tt, tt)
-
-  pub bottom-alive : Alive I ⊥ᵖ Γ
-  unfolding Alive opOf opAt classOf lookup
-  bottom-alive = (tt, tt, tt)
 
   -- ---- n is the opposite of p
   opposite-truth : {p n : Tree} → Opposite p n → (ρ : Vals I Γ) → Truth ρ n ≡ not (Truth ρ p)
@@ -199,15 +183,15 @@ module _ (I : Interpretation) (σ : ℕ → Ty) (Γ : Ctx) where
 
     pub imp-bottom-left-keeps : Keeps I Γ (⊥ᵖ ⇒ p) ⊤
     unfolding means holds opOf opAt classOf lookup formAt
-    imp-bottom-left-keeps = keeps-truth I (⊥ᵖ ⇒ p) ⊤ Γ (refl, refl) (refl, refl) top-single (λ l. top-alive) (λ l ρ. refl)
+    imp-bottom-left-keeps = keeps-truth I (⊥ᵖ ⇒ p) ⊤ Γ (refl, refl) (refl, refl) (kit.leaf-single I Γ #BTrue (refl, refl)) (λ l. kit.leaf-alive I Γ #BTrue (refl, refl)) (λ l ρ. refl)
 
     pub imp-top-right-keeps : Keeps I Γ (p ⇒ ⊤) ⊤
     unfolding means holds opOf opAt classOf lookup formAt
-    imp-top-right-keeps = keeps-truth I (p ⇒ ⊤) ⊤ Γ (refl, refl) (refl, refl) top-single (λ l. top-alive) (λ l ρ. or-true (not (Truth ρ p)))
+    imp-top-right-keeps = keeps-truth I (p ⇒ ⊤) ⊤ Γ (refl, refl) (refl, refl) (kit.leaf-single I Γ #BTrue (refl, refl)) (λ l. kit.leaf-alive I Γ #BTrue (refl, refl)) (λ l ρ. or-true (not (Truth ρ p)))
 
     pub imp-self-keeps : Keeps I Γ (p ⇒ p) ⊤
     unfolding means holds opOf opAt classOf lookup formAt
-    imp-self-keeps = keeps-truth I (p ⇒ p) ⊤ Γ (refl, refl) (refl, refl) top-single (λ l. top-alive) (λ l ρ. imp-self (Truth ρ p))
+    imp-self-keeps = keeps-truth I (p ⇒ p) ⊤ Γ (refl, refl) (refl, refl) (kit.leaf-single I Γ #BTrue (refl, refl)) (λ l. kit.leaf-alive I Γ #BTrue (refl, refl)) (λ l ρ. imp-self (Truth ρ p))
 
     pub imp-not-left-keeps : Accepted σ (¬ᵖ p ⇒ p) Γ predicate → SingleIntegers (¬ᵖ p ⇒ p) Γ → Keeps I Γ (¬ᵖ p ⇒ p) p
     unfolding Accepted SingleIntegers Alive means holds opOf opAt classOf lookup formAt
@@ -233,7 +217,7 @@ module _ (I : Interpretation) (σ : ℕ → Ty) (Γ : Ctx) where
   pub imp-among-keeps : (ps : Forest) (q : Tree) → Among q ps → Keeps I Γ (⋀ ps ⇒ q) ⊤
   unfolding classOf lookup formAt
   imp-among-keeps ps q i =
-      keeps-truth I (⋀ ps ⇒ q) ⊤ Γ (refl, refl) (refl, refl) top-single (λ l. top-alive)
+      keeps-truth I (⋀ ps ⇒ q) ⊤ Γ (refl, refl) (refl, refl) (kit.leaf-single I Γ #BTrue (refl, refl)) (λ l. kit.leaf-alive I Γ #BTrue (refl, refl))
       (λ l ρ. kit.implies-truth I Γ (⋀ ps) q ρ ∙ so-imp (Truth ρ (⋀ ps)) (Truth ρ q) .1 (among-true ps q i ρ) ∙ sym (top-truth ρ))
     where
       top-truth : (ρ : Vals I Γ) → truth I (means I ⊤ Γ) ρ ≡ true
@@ -257,15 +241,15 @@ module _ (I : Interpretation) (σ : ℕ → Ty) (Γ : Ctx) where
 
     pub eqv-self-keeps : Keeps I Γ (p ⇔ p) ⊤
     unfolding means holds opOf opAt classOf lookup formAt
-    eqv-self-keeps = keeps-truth I (p ⇔ p) ⊤ Γ (refl, refl) (refl, refl) top-single (λ l. top-alive) (λ l ρ. beq-self (Truth ρ p))
+    eqv-self-keeps = keeps-truth I (p ⇔ p) ⊤ Γ (refl, refl) (refl, refl) (kit.leaf-single I Γ #BTrue (refl, refl)) (λ l. kit.leaf-alive I Γ #BTrue (refl, refl)) (λ l ρ. beq-self (Truth ρ p))
 
     pub eqv-not-right-keeps : Keeps I Γ (p ⇔ ¬ᵖ p) ⊥ᵖ
     unfolding means holds opOf opAt classOf lookup formAt
-    eqv-not-right-keeps = keeps-truth I (p ⇔ ¬ᵖ p) ⊥ᵖ Γ (refl, refl) (refl, refl) bottom-single (λ l. bottom-alive) (λ l ρ. beq-not-right (Truth ρ p))
+    eqv-not-right-keeps = keeps-truth I (p ⇔ ¬ᵖ p) ⊥ᵖ Γ (refl, refl) (refl, refl) (kit.leaf-single I Γ #BFalse (refl, refl)) (λ l. kit.leaf-alive I Γ #BFalse (refl, refl)) (λ l ρ. beq-not-right (Truth ρ p))
 
     pub eqv-not-left-keeps : Keeps I Γ (¬ᵖ p ⇔ p) ⊥ᵖ
     unfolding means holds opOf opAt classOf lookup formAt
-    eqv-not-left-keeps = keeps-truth I (¬ᵖ p ⇔ p) ⊥ᵖ Γ (refl, refl) (refl, refl) bottom-single (λ l. bottom-alive) (λ l ρ. beq-not-left (Truth ρ p))
+    eqv-not-left-keeps = keeps-truth I (¬ᵖ p ⇔ p) ⊥ᵖ Γ (refl, refl) (refl, refl) (kit.leaf-single I Γ #BFalse (refl, refl)) (λ l. kit.leaf-alive I Γ #BFalse (refl, refl)) (λ l ρ. beq-not-left (Truth ρ p))
 
     -- ---- ¬
     pub not-not-keeps : Accepted σ (¬ᵖ (¬ᵖ p)) Γ predicate → SingleIntegers (¬ᵖ (¬ᵖ p)) Γ → Keeps I Γ (¬ᵖ (¬ᵖ p)) p
@@ -287,8 +271,8 @@ module _ (I : Interpretation) (σ : ℕ → Ty) (Γ : Ctx) where
 
   pub not-top-keeps : Keeps I Γ (¬ᵖ ⊤) ⊥ᵖ
   unfolding means holds opOf opAt classOf lookup formAt
-  not-top-keeps = keeps-truth I (¬ᵖ ⊤) ⊥ᵖ Γ (refl, refl) (refl, refl) bottom-single (λ l. bottom-alive) (λ l ρ. refl)
+  not-top-keeps = keeps-truth I (¬ᵖ ⊤) ⊥ᵖ Γ (refl, refl) (refl, refl) (kit.leaf-single I Γ #BFalse (refl, refl)) (λ l. kit.leaf-alive I Γ #BFalse (refl, refl)) (λ l ρ. refl)
 
   pub not-bottom-keeps : Keeps I Γ (¬ᵖ ⊥ᵖ) ⊤
   unfolding means holds opOf opAt classOf lookup formAt
-  not-bottom-keeps = keeps-truth I (¬ᵖ ⊥ᵖ) ⊤ Γ (refl, refl) (refl, refl) top-single (λ l. top-alive) (λ l ρ. refl)
+  not-bottom-keeps = keeps-truth I (¬ᵖ ⊥ᵖ) ⊤ Γ (refl, refl) (refl, refl) (kit.leaf-single I Γ #BTrue (refl, refl)) (λ l. kit.leaf-alive I Γ #BTrue (refl, refl)) (λ l ρ. refl)

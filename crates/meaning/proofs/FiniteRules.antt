@@ -8,7 +8,7 @@ use Prim.Native.Nat.{ℕ}
 use Rattle.frame.specs.Types.{Ty, int, pow}
 use Rattle.frame.specs.Trees.{Tree, Forest, nil, cons, leaf, one, two, many, typed, sole, pair, bodied, mapF}
 use Rattle.frame.specs.Tags.{predicate, classOf, lookup, formAt}
-use Rattle.frame.specs.Operators.{#Natural, #Natural1, #Integer, #BUnion, #Pow, #CProd, #Converse, #CSet, #Mapsto, #DomRes, #Partition, #Equal, #LAnd, #LOr}
+use Rattle.frame.specs.Operators.{#BTrue, #Natural, #Natural1, #Integer, #BUnion, #Pow, #CProd, #Converse, #CSet, #Mapsto, #DomRes, #Partition, #Equal, #LAnd, #LOr}
 use Rattle.frame.specs.Places.{Ctx}
 use Rattle.typing.specs.Typing.{element, relation, typeOf, typesIn}
 use Rattle.typing.specs.TypeExpression.{toExpression}
@@ -23,7 +23,6 @@ use Rattle.meaning.proofs.Sets.{is-empty}
 use Rattle.meaning.proofs.Sound.{Formula, Keeps, keeps-truth}
 use Rattle.meaning.proofs.Kit as kit
 use Rattle.meaning.proofs.Many as many
-use Rattle.meaning.proofs.Connectives.{top-single, top-alive}
 
 or-last : (a b : Bool) → (a || (b || (true || false))) ≡ true
 or-last true b = refl
@@ -52,7 +51,7 @@ module _ (I : Interpretation) (σ : ℕ → Ty) (Γ : Ctx) where
   -- ∅, BOOL, {a, …, b}
   pub finite-top-keeps : (s : Tree) → Keeps I Γ (fin s) ⊤
   unfolding means holds opOf opAt classOf lookup formAt
-  finite-top-keeps s = finite-keeps s ⊤ (refl, refl) (top-single I σ Γ) (λ a. top-alive I σ Γ) (λ ρ. refl)
+  finite-top-keeps s = finite-keeps s ⊤ (refl, refl) (kit.leaf-single I Γ #BTrue (refl, refl)) (λ a. kit.leaf-alive I Γ #BTrue (refl, refl)) (λ ρ. refl)
 
   finite-finite : (s r : Tree) → SingleIntegers r Γ → (Alive I s Γ → Alive I r Γ) → Keeps I Γ (fin s) (fin r)
   unfolding classOf lookup formAt

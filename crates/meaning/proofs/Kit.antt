@@ -9,15 +9,15 @@ use lib.Dec.{eqb, eqb-refl, T}
 use Rattle.frame.specs.Types.{Ty, bool, int, given, pow, prod}
 use Rattle.frame.specs.Trees.{head, Tree, node, Forest, nil, leaf, one, two, many, sole, pair}
 use Rattle.frame.specs.Tags.{Layout, these, payload, counted, binding, bindersOf, classOf, lookup, formAt, formOf}
-use Rattle.frame.specs.Operators.{#Equal, #KInter, #QInter}
+use Rattle.frame.specs.Operators.{#Equal, #In, #SubsetEq, #KInter, #QInter}
 use Rattle.frame.specs.Places.{Ctx, push}
 use Prim.Native.Nat.{ℕ}
-use Rattle.typing.specs.Typing.{element, typeOf}
+use Rattle.typing.specs.Typing.{element, typeOf, typesIn}
 use Rattle.typing.specs.TypeExpression.{toExpression}
 use Rattle.rules.specs.Equations.{¬ᵖ, _⇒_, _⇔_, ⋀, ⋁, ∀ᵖ, ∃ᵖ, _≐_, _∈ᵖ_, _⊆_, ∅, _≐∅, Ty-of, _≐Ty}
 use Rattle.meaning.specs.Lists.{any, all}
-use Rattle.meaning.specs.Operations.{equal, subset, member, opAt, opOf}
-use Rattle.meaning.specs.Meaning.{Interpretation, Vals, truth, val, setOf, some, every, equals, choices, identifierValue, holds, valueOf, quantified, means, meansAll}
+use Rattle.meaning.specs.Operations.{Logic, Op, logic, equal, subset, member, opAt, opOf}
+use Rattle.meaning.specs.Meaning.{Interpretation, Vals, truth, val, setOf, some, every, equals, choices, bindersIn, nodeMeans, identifierValue, holds, valueOf, quantified, means, meansAll}
 use Rattle.meaning.specs.Premises.{NoInt, Single, AllNoInt, AllSingle, SingleIntegers, SingleIntegersIn, Alive, AliveAll}
 use Rattle.meaning.proofs.Lists.{or-true}
 use Rattle.meaning.proofs.Sound.{Formula, formula-type, binders-agree}
@@ -139,7 +139,13 @@ module _ (I : Interpretation) (Γ : Ctx) (g : ℕ) (ks : Forest) where
   unfolding Alive
   kids-alive a = rw (sym (binders-agree I g []), no-binders (formOf g .layout)) at (a .2)
 
+-- ---- what a node without types means, by its operator
 module _ (I : Interpretation) (Γ : Ctx) where
+  pub means-at : (g : ℕ) (o : Op) → opOf g ≡ o → (ks : Forest)
+      → means I (many g ks) Γ ≡ nodeMeans I o g 0 [] Γ (typesIn ks (push (bindersIn I o []) Γ)) (meansAll I ks (push (bindersIn I o []) Γ))
+  unfolding means
+  means-at g o e ks = ap (λ x. nodeMeans I x g 0 [] Γ (typesIn ks (push (bindersIn I x []) Γ)) (meansAll I ks (push (bindersIn I x []) Γ))) e
+
   -- ---- connectives
   module _ (p : Tree) where
     pub not-truth : (ρ : Vals I Γ) → truth I (means I (¬ᵖ p) Γ) ρ ≡ not (truth I (means I p Γ) ρ)
@@ -176,33 +182,23 @@ module _ (I : Interpretation) (Γ : Ctx) where
 
   -- ---- = ∈ ⊆. The operands' types show in what these mean: first the operator shut, then opened.
   module _ (a b : Tree) where
-    equal-at : (t : Ty) → typeOf a Γ ≡ t → (ρ : Vals I Γ)
-        → truth I (means I (a ≐ b) Γ) ρ ≡ holds I equal 101 (t ∷ typeOf b Γ ∷ []) (means I a Γ ∷ means I b Γ ∷ []) ρ
-    unfolding means typeOf opOf opAt classOf lookup
-    equal-at t h ρ = rw h
+    shut : (g : ℕ) (o : Logic) → opOf g ≡ logic o → (t : Ty) → typeOf a Γ ≡ t → (ρ : Vals I Γ)
+        → truth I (means I (two g a b) Γ) ρ ≡ holds I o g (t ∷ typeOf b Γ ∷ []) (means I a Γ ∷ means I b Γ ∷ []) ρ
+    unfolding means typeOf
+    shut g o e t h ρ = ap (λ k. truth I k ρ) (means-at g (logic o) e (pair a b)) ∙ ap (λ x. holds I o g (x ∷ typeOf b Γ ∷ []) (means I a Γ ∷ means I b Γ ∷ []) ρ) h
 
     pub equal-truth : (t : Ty) → typeOf a Γ ≡ t → (ρ : Vals I Γ) → truth I (means I (a ≐ b) Γ) ρ ≡ equals I t (val I (means I a Γ) ρ t) (val I (means I b Γ) ρ t)
-    unfolding holds
-    equal-truth t h ρ = equal-at t h ρ
-
-    member-at : (t : Ty) → typeOf a Γ ≡ t → (ρ : Vals I Γ)
-        → truth I (means I (a ∈ᵖ b) Γ) ρ ≡ holds I member 107 (t ∷ typeOf b Γ ∷ []) (means I a Γ ∷ means I b Γ ∷ []) ρ
-    unfolding means typeOf opOf opAt classOf lookup
-    member-at t h ρ = rw h
+    unfolding holds opOf opAt classOf lookup
+    equal-truth t h ρ = shut #Equal equal refl t h ρ
 
     pub member-truth : (t : Ty) → typeOf a Γ ≡ t → (ρ : Vals I Γ) → truth I (means I (a ∈ᵖ b) Γ) ρ ≡ setOf I (means I b Γ) ρ t (val I (means I a Γ) ρ t)
-    unfolding holds
-    member-truth t h ρ = member-at t h ρ
-
-    subset-at : (u : Ty) → typeOf a Γ ≡ pow u → (ρ : Vals I Γ)
-        → truth I (means I (a ⊆ b) Γ) ρ ≡ holds I subset 111 (pow u ∷ typeOf b Γ ∷ []) (means I a Γ ∷ means I b Γ ∷ []) ρ
-    unfolding means typeOf opOf opAt classOf lookup
-    subset-at u h ρ = rw h
+    unfolding holds opOf opAt classOf lookup
+    member-truth t h ρ = shut #In member refl t h ρ
 
     pub subset-truth : (u : Ty) → typeOf a Γ ≡ pow u → (ρ : Vals I Γ)
         → truth I (means I (a ⊆ b) Γ) ρ ≡ every I u (λ x. not (setOf I (means I a Γ) ρ u x) || setOf I (means I b Γ) ρ u x)
-    unfolding holds
-    subset-truth u h ρ = subset-at u h ρ
+    unfolding holds opOf opAt classOf lookup
+    subset-truth u h ρ = shut #SubsetEq subset refl (pow u) h ρ
 
   -- ---- E = ∅, E = Ty
   pub none-of : (t : Ty) (ρ : Vals I Γ) (u : Ty) → setOf I (means I (∅ t) Γ) ρ u ≡ (λ x. false)
