@@ -77,17 +77,20 @@ module _ (I : Interpretation) where
   type-full (pow t) Γ ρ = fun-ext (λ s. ap (λ f. every I t (λ x. not (s x) || f x)) (type-full t Γ ρ) ∙ simp (or-true, every-true))
   type-full (prod t u) Γ ρ = fun-ext (λ p. ap₂ (λ f g. f (p .0) && g (p .1)) (type-full t Γ ρ) (type-full u Γ ρ))
 
--- ---- a predicate without types of its own, by its tag and its operands
+-- ---- a node without types of its own, a predicate, by its tag and its operands
 no-binders : (l : Layout) → bindersOf l [] ≡ []
 no-binders (these es) = refl
 no-binders (payload w) = refl
 no-binders (counted lo hi e) = refl
 no-binders (binding lo hi es) = refl
 
+pub node-single : (Γ : Ctx) (g : ℕ) (ks : Forest) → Single (typeOf (many g ks) Γ) → SingleIntegersIn ks Γ → SingleIntegers (many g ks) Γ
+unfolding SingleIntegers
+node-single Γ g ks h s = rw (no-binders (formOf g .layout)) (tt, h, tt, s)
+
 module _ (I : Interpretation) (Γ : Ctx) (g : ℕ) (f : Formula (leaf g)) where
   pub many-single : (ks : Forest) → SingleIntegersIn ks Γ → SingleIntegers (many g ks) Γ
-  unfolding SingleIntegers
-  many-single ks s = rw (formula-type I (many g ks) Γ f, no-binders (formOf g .layout)) (tt, tt, tt, s)
+  many-single ks s = node-single Γ g ks (rw (formula-type I (many g ks) Γ f) tt) s
 
   pub leaf-single : SingleIntegers (leaf g) Γ
   unfolding SingleIntegers
