@@ -5,9 +5,9 @@ use mathlib.Core.Bool.{Bool, true, false, not, _&&_, _||_}
 use Prim.Native.Nat.{ℕ}
 use lib.Dec.{eqb}
 use Rattle.frame.specs.Types.{Ty, pow}
-use Rattle.frame.specs.Trees.{Tree, Forest, nil, cons, many, sole, append}
+use Rattle.frame.specs.Trees.{Tree, Forest, nil, cons, two, many, sole, append}
 use Rattle.frame.specs.Tags.{classOf, lookup, formAt}
-use Rattle.frame.specs.Operators.{#BUnion, #BInter, #KInter, #QInter, #In, #Not}
+use Rattle.frame.specs.Operators.{#SetMinus, #BUnion, #BInter, #KInter, #QInter, #In, #Not}
 use Rattle.frame.specs.Places.{Ctx}
 use Rattle.typing.specs.Typing.{ty, typeOf, typesIn}
 use Rattle.rules.specs.Equations.{¬ᵖ, _∈ᵖ_, _⊆_, ext, ⋂, over, Subtracted, none, minus, other}
@@ -19,7 +19,7 @@ use Rattle.meaning.proofs.Lists.{and-true, or-false, and-assoc}
 use Rattle.meaning.proofs.Sets.{within-is}
 use Rattle.meaning.proofs.EmptySetsMore as more
 use Rattle.meaning.proofs.Kit as kit
-use Rattle.meaning.proofs.Many.{append-means, append-single, append-alive, left-single, right-single, left-alive, right-alive}
+use Rattle.meaning.proofs.Many.{append-means, Every, every-mid, single-each, single-all, alive-each, alive-all}
 use Rattle.meaning.proofs.Emptied.{Emptied, emptied}
 use Rattle.meaning.proofs.EmptyRulesKit.{within-emptied}
 
@@ -78,42 +78,28 @@ module _ (I : Interpretation) (σ : ℕ → Ty) (Γ : Ctx) (a : Tree) (left righ
       → Emptied I σ Γ (⋂ (append left (cons (ext (sole a)) right))) (¬ᵖ (a ∈ᵖ over #BInter (append left right)))
   unfolding with-a rest SingleIntegers Alive typeOf opOf opAt classOf lookup formAt
   single-emptied u he ha s =
-      let r = right-single Γ left (cons (ext (sole a)) right) (s .3) in
+      let r = every-mid (λ k. SingleIntegers k Γ) left (ext (sole a)) right (single-each Γ with-a (s .3)) in
       emptied I σ Γ (⋂ with-a) (¬ᵖ (a ∈ᵖ rest)) u he (refl, refl)
       (kit.one-single I Γ #Not (refl, refl) (a ∈ᵖ rest) (kit.two-single I Γ #In (refl, refl) a rest (r .0 .3 .0)
-      (over-single Γ #BInter (λ k. refl) (append left right) (append-single Γ left right (left-single Γ left (cons (ext (sole a)) right) (s .3)) (r .1)))))
-      (λ l. (let k = right-alive I Γ left (cons (ext (sole a)) right) (l .2) in
+      (over-single Γ #BInter (λ k. refl) (append left right) (single-all Γ (append left right) (r .1)))))
+      (λ l. (let k = every-mid (λ k. Alive I k Γ) left (ext (sole a)) right (alive-each I Γ with-a (l .2)) in
       kit.one-alive I Γ #Not (refl, refl) (a ∈ᵖ rest) (kit.two-alive I Γ #In (refl, refl) a rest (k .0 .2 .0)
-      (over-alive I Γ #BInter (refl, refl) (append left right) (append-alive I Γ left right (left-alive I Γ left (cons (ext (sole a)) right) (l .2)) (k .1))))))
+      (over-alive I Γ #BInter (refl, refl) (append left right) (alive-all I Γ (append left right) (k .1))))))
       (λ l ρ. kit.not-truth I Γ (a ∈ᵖ rest) ρ ∙ ap not (kit.member-truth I Γ a rest u ha ρ ∙ sym (single-some u (kit.no-int (⋂ with-a) Γ u s he) ρ)))
 
 -- ---- (A ∖ B) ∩ C ∩ (D ∖ E) = ∅ is A ∩ C ∩ D ⊆ B ∪ E
-module _ (Γ : Ctx) where
-  minuends-single : {ks ls ms : Forest} → Subtracted ks ls ms → SingleIntegersIn ks Γ → SingleIntegersIn ls Γ
-  unfolding SingleIntegers classOf lookup formAt
-  minuends-single none s = tt
-  minuends-single (minus a b ks ls ms d) s = (s .0 .3 .0, minuends-single d (s .1))
-  minuends-single (other k ks ls ms d) s = (s .0, minuends-single d (s .1))
+module _ (P : Tree → Type 0) (h : (a b : Tree) → P (two #SetMinus a b) → P a × P b) where
+  minuends-every : {ks ls ms : Forest} → Subtracted ks ls ms → Every P ks → Every P ls
+  minuends-every none s = tt
+  minuends-every (minus a b ks ls ms d) s = (h a b (s .0) .0, minuends-every d (s .1))
+  minuends-every (other k ks ls ms d) s = (s .0, minuends-every d (s .1))
 
-  subtrahends-single : {ks ls ms : Forest} → Subtracted ks ls ms → SingleIntegersIn ks Γ → SingleIntegersIn ms Γ
-  unfolding SingleIntegers classOf lookup formAt
-  subtrahends-single none s = tt
-  subtrahends-single (minus a b ks ls ms d) s = (s .0 .3 .1 .0, subtrahends-single d (s .1))
-  subtrahends-single (other k ks ls ms d) s = subtrahends-single d (s .1)
+  subtrahends-every : {ks ls ms : Forest} → Subtracted ks ls ms → Every P ks → Every P ms
+  subtrahends-every none s = tt
+  subtrahends-every (minus a b ks ls ms d) s = (h a b (s .0) .1, subtrahends-every d (s .1))
+  subtrahends-every (other k ks ls ms d) s = subtrahends-every d (s .1)
 
 module _ (I : Interpretation) (Γ : Ctx) where
-  minuends-alive : {ks ls ms : Forest} → Subtracted ks ls ms → AliveAll I ks Γ → AliveAll I ls Γ
-  unfolding Alive opOf opAt classOf lookup
-  minuends-alive none s = tt
-  minuends-alive (minus a b ks ls ms d) s = (s .0 .2 .0, minuends-alive d (s .1))
-  minuends-alive (other k ks ls ms d) s = (s .0, minuends-alive d (s .1))
-
-  subtrahends-alive : {ks ls ms : Forest} → Subtracted ks ls ms → AliveAll I ks Γ → AliveAll I ms Γ
-  unfolding Alive opOf opAt classOf lookup
-  subtrahends-alive none s = tt
-  subtrahends-alive (minus a b ks ls ms d) s = (s .0 .2 .1 .0, subtrahends-alive d (s .1))
-  subtrahends-alive (other k ks ls ms d) s = subtrahends-alive d (s .1)
-
   apart : (a b l m : Bool) → ((a && not b) && (l && not m)) ≡ ((a && l) && not (b || m))
   apart true true true m = refl
   apart true true false m = refl
@@ -139,7 +125,9 @@ module _ (I : Interpretation) (Γ : Ctx) where
   subtracted-emptied σ ks ls ms u d he hl s =
       let a = over #BInter ls in
       let b = over #BUnion ms in
-      within-emptied I Γ σ (⋂ ks) u he a b u hl (over-single Γ #BInter (λ k. refl) ls (minuends-single Γ d (s .3))) (over-single Γ #BUnion (λ k. refl) ms (subtrahends-single Γ d (s .3)))
-      (λ l. over-alive I Γ #BInter (refl, refl) ls (minuends-alive d (l .2))) (λ l. over-alive I Γ #BUnion (refl, refl) ms (subtrahends-alive d (l .2)))
+      let parts : (x y : Tree) → SingleIntegers (two #SetMinus x y) Γ → SingleIntegers x Γ × SingleIntegers y Γ = λ x y t. (t .3 .0, t .3 .1 .0) in
+      let lives : (x y : Tree) → Alive I (two #SetMinus x y) Γ → Alive I x Γ × Alive I y Γ = λ x y t. (t .2 .0, t .2 .1 .0) in
+      within-emptied I Γ σ (⋂ ks) u he a b u hl (over-single Γ #BInter (λ k. refl) ls (single-all Γ ls (minuends-every (λ k. SingleIntegers k Γ) parts d (single-each Γ ks (s .3))))) (over-single Γ #BUnion (λ k. refl) ms (single-all Γ ms (subtrahends-every (λ k. SingleIntegers k Γ) parts d (single-each Γ ks (s .3)))))
+      (λ l. over-alive I Γ #BInter (refl, refl) ls (alive-all I Γ ls (minuends-every (λ k. Alive I k Γ) lives d (alive-each I Γ ks (l .2))))) (λ l. over-alive I Γ #BUnion (refl, refl) ms (alive-all I Γ ms (subtrahends-every (λ k. Alive I k Γ) lives d (alive-each I Γ ks (l .2)))))
       (λ ρ. within-is (I .size) u (setOf I (means I a Γ) ρ u) (setOf I (means I b Γ) ρ u)
       ∙ ap (λ f. not (some I u f)) (fun-ext (λ x. ap₂ (λ c e. c && not e) (cap-over-is I Γ ρ u x ls) (cup-over-is I Γ ρ u x ms) ∙ sym (subtracted-is ρ u x d) ∙ sym (cap-is I Γ ρ u x ks))))

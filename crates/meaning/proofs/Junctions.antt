@@ -21,6 +21,7 @@ use Rattle.meaning.specs.Premises.{SingleIntegers, SingleIntegersIn, Ali
 use Rattle.meaning.proofs.Lists.{so-any, so-all, clash, not-so, In-left, all-mid, any-mid, and-true, or-false}
 use Rattle.meaning.proofs.Sound.{Formula, Keeps, keeps-truth, accepted-formula}
 use Rattle.meaning.proofs.Kit as kit
+use Rattle.meaning.proofs.Many.{Every, every-mid, single-each, single-all, alive-each, alive-all}
 use Rattle.meaning.proofs.Many as many
 
 -- ---- truth values: d decides a junction (false ∧, true ∨)
@@ -70,45 +71,16 @@ module _ {A : Type 0} where
 
 -- ---- operands: what holds of each, of those that are left
 module _ (P : Tree → Type 0) where
-  abbrev Every : Forest → Type 0
-  Every nil = Unit {0}
-  Every (cons k ks) = P k × Every ks
-
-  every-mid : (ks : Forest) (q : Tree) (ls : Forest) → Every (append ks (cons q ls)) → Every (append ks ls)
-  every-mid nil q ls h = h .1
-  every-mid (cons k ks) q ls h = (h .0, every-mid ks q ls (h .1))
-
-  dropped-every : {n : ℕ} {ks ls : Forest} → Dropped n ks ls → Every ks → Every ls
+  dropped-every : {n : ℕ} {ks ls : Forest} → Dropped n ks ls → Every P ks → Every P ls
   dropped-every (done ks) h = h
-  dropped-every {n} (literal ks ls left right e r) h = dropped-every r (every-mid left (leaf n) right (rw e at h))
-  dropped-every (repeated ks ls left right q e i r) h = dropped-every r (every-mid left q right (rw e at h))
+  dropped-every {n} (literal ks ls left right e r) h = dropped-every r (every-mid P left (leaf n) right (rw e at h) .1)
+  dropped-every (repeated ks ls left right q e i r) h = dropped-every r (every-mid P left q right (rw e at h) .1)
 
 module _ (Γ : Ctx) where
-  single-each : (ks : Forest) → SingleIntegersIn ks Γ → Every (λ k. SingleIntegers k Γ) ks
-  unfolding SingleIntegers
-  single-each nil s = tt
-  single-each (cons k ks) s = (s .0, single-each ks (s .1))
-
-  single-all : (ks : Forest) → Every (λ k. SingleIntegers k Γ) ks → SingleIntegersIn ks Γ
-  unfolding SingleIntegers
-  single-all nil s = tt
-  single-all (cons k ks) s = (s .0, single-all ks (s .1))
-
   formula-each : (σ : ℕ → Ty) (ks : Forest) → AcceptedAll σ ks Γ (repeat predicate (count ks)) → Every Formula ks
   unfolding Accepted
   formula-each σ nil a = tt
   formula-each σ (cons k ks) a = (accepted-formula σ k Γ (a .0), formula-each σ ks (a .1))
-
-module _ (I : Interpretation) (Γ : Ctx) where
-  alive-each : (ks : Forest) → AliveAll I ks Γ → Every (λ k. Alive I k Γ) ks
-  unfolding Alive
-  alive-each nil s = tt
-  alive-each (cons k ks) s = (s .0, alive-each ks (s .1))
-
-  alive-all : (ks : Forest) → Every (λ k. Alive I k Γ) ks → AliveAll I ks Γ
-  unfolding Alive
-  alive-all nil s = tt
-  alive-all (cons k ks) s = (s .0, alive-all ks (s .1))
 
 -- ---- the two junctions
 module _ (I : Interpretation) (σ : ℕ → Ty) (Γ : Ctx) where
