@@ -47,6 +47,19 @@ module _ (s : List ℕ) (n : ℕ) (st nx : List ℕ) (t : Tree) (tb : Table s t 
   inter-row : RowAt t (at + 1) (under #BInter vs Ξ) ks
   inter-row = kids-of t [] at Ξ #BInter x vs ks f
 
+  inter-placed : Placed s st at
+  inter-placed = record { t = t; n = n; framed = tb .framed; below = find-lt t [] at _ _ f }
+
+  module _ (m : ℕ) (pm : ChildrenPost s st at m) where
+    inter-count : m ≡ count ks
+    inter-count = pm .many t n Ξ (node (head #BInter x vs) ks) (tb .framed) f
+
+    inter-many : (2 ≤ m) × (m ≤ 255)
+    inter-many = (omega (arith, inter-count, inter-few .0), omega (arith, inter-count, inter-few .1))
+
+    inter-pre : RowPre s n st nx (at + 1) m
+    inter-pre = record { t = t; table = tb; Γ = under #BInter vs Ξ; ks = ks; row = inter-row; many = inter-count }
+
 -- ---- a tree of operators over lists as bytes
 -- one operand stands alone
 joined-bytes : (g : ℕ) → ((ks : Forest) → enc (many g ks) ≡ encNumber 2 g ++ (count ks ∷ encs ks)) → (ks : Forest) → enc (joined g ks) ≡ joinedBytes g (count ks) ++ encs ks
@@ -148,7 +161,7 @@ module _ (at single : ℕ) (s : List ℕ) (n : ℕ) (st nx leaves : List ℕ) wh
       (g, only-child t nx (tb .follows) single (under #BInter (w .vs) (w .Ξ)) #SetExt 0 [] (w .a) g)
 
   pub apart-placed : BuildPre (OfApart at single) s n st nx leaves → Placed s st at
-  apart-placed p = record { t = p .t; n = n; framed = p .table .framed; below = find-lt (p .t) [] at _ _ (p .means .at-node) }
+  apart-placed p = inter-placed s n st nx (p .t) (p .table) at _ _ _ _ (p .means .at-node)
 
   pub apart-few : BuildPre (OfApart at single) s n st nx leaves → (at < 2048) × (single < 2048)
   apart-few p = (place-few (p .table) (p .means .at-node), place-few (p .table) (member-at (p .t) (p .c) (p .table) (p .means) .0))
@@ -157,26 +170,11 @@ module _ (at single : ℕ) (s : List ℕ) (n : ℕ) (st nx leaves : List ℕ) wh
   apart-member p = record { t = p .t; table = p .table; below = find-lt (p .t) [] (single + 1) _ _ (member-at (p .t) (p .c) (p .table) (p .means) .1) }
 
   module _ (m : ℕ) (pm : ChildrenPost s st at m) where
-    apart-count : (t : Tree) (c : Change) → Table s t st nx n → (w : ApartMeans t at single c) → (m ≡ count (operands t c w)) × ((2 ≤ m) × (m ≤ 255))
-    apart-count t c tb w =
-        let e = pm .many t n (w .Ξ) (node (head #BInter (w .n) (w .vs)) (operands t c w)) (tb .framed) (w .at-node) in
-        let f = inter-few s n st nx t tb at (w .Ξ) (w .n) (w .vs) (operands t c w) (w .at-node) in
-        (e, (omega (arith, f .0), omega (arith, f .1)))
-
     pub apart-many : BuildPre (OfApart at single) s n st nx leaves → (2 ≤ m) × (m ≤ 255)
-    apart-many p = apart-count (p .t) (p .c) (p .table) (p .means) .1
+    apart-many p = inter-many s n st nx (p .t) (p .table) at _ _ _ _ (p .means .at-node) m pm
 
     pub apart-row : BuildPre (OfApart at single) s n st nx leaves → RowPre s n st nx (at + 1) m
-    apart-row p =
-        let w = p .means in
-        record {
-          t = p .t;
-          table = p .table;
-          Γ = under #BInter (w .vs) (w .Ξ);
-          ks = operands (p .t) (p .c) w;
-          row = inter-row s n st nx (p .t) (p .table) at (w .Ξ) (w .n) (w .vs) (operands (p .t) (p .c) w) (w .at-node);
-          many = apart-count (p .t) (p .c) (p .table) w .0;
-        }
+    apart-row p = inter-pre s n st nx (p .t) (p .table) at _ _ _ _ (p .means .at-node) m pm
 
     pub apart-built : (o₀ : List ℕ) (i₀ : ℕ) (o₁ : List ℕ) (i₁ : ℕ) → Puts o₀ i₀ o₁ i₁ (encNumber 2 #Not) → (o₂ : List ℕ) (i₂ : ℕ) → Puts o₁ i₁ o₂ i₂ (encNumber 2 #In)
         → (o₃ : List ℕ) (i₃ : ℕ) → CopyPost s n st nx (single + 1) o₂ i₂ o₃ i₃ → (o₄ : List ℕ) (i₄ : ℕ) → Puts o₃ i₃ o₄ i₄ (joinedBytes #BInter (m - 1))
@@ -188,7 +186,7 @@ module _ (at single : ℕ) (s : List ℕ) (n : ℕ) (st nx leaves : List ℕ) wh
               let b : Tree = joined #BInter rest in
               let y = ap enc (new-is (one #Not (two #In (w .a) b)) new 37 p (sym (w .answer) ∙ ans)) in
               let r = inter-row s n st nx t tb at (w .Ξ) (w .n) (w .vs) (operands t c w) (w .at-node) in
-              let e = apart-count t c tb w .0 in
+              let e = inter-count s n st nx t tb at (w .Ξ) (w .n) (w .vs) (operands t c w) (w .at-node) m pm in
               let x₃ = h₃ .puts t _ (w .a) tb (member-at t c tb w .1) in
               let x₅ = puts-as o₄ i₄ o₅ i₅ _ _ (row-besides single (at + 1) (w .left) (many #SetExt (sole (w .a))) (w .right) (w .there))
               (h₅ .puts t (under #BInter (w .vs) (w .Ξ)) (operands t c w) tb r e) in
@@ -201,32 +199,17 @@ module _ (at single : ℕ) (s : List ℕ) (n : ℕ) (st nx leaves : List ℕ) wh
 -- ---- build_within
 module _ (at : ℕ) (s : List ℕ) (n : ℕ) (st nx leaves : List ℕ) where
   pub within-placed : BuildPre (OfWithin at) s n st nx leaves → Placed s st at
-  within-placed p = record { t = p .t; n = n; framed = p .table .framed; below = find-lt (p .t) [] at _ _ (p .means .at-node) }
+  within-placed p = inter-placed s n st nx (p .t) (p .table) at _ _ _ _ (p .means .at-node)
 
   pub within-few : BuildPre (OfWithin at) s n st nx leaves → at < 2048
   within-few p = place-few (p .table) (p .means .at-node)
 
   module _ (m : ℕ) (pm : ChildrenPost s st at m) where
-    within-count : (t : Tree) (c : Change) → Table s t st nx n → (w : WithinMeans t at c) → (m ≡ count (w .ks)) × (m ≤ 255)
-    within-count t c tb w =
-        let e = pm .many t n (w .Ξ) (node (head #BInter (w .n) (w .vs)) (w .ks)) (tb .framed) (w .at-node) in
-        let f = inter-few s n st nx t tb at (w .Ξ) (w .n) (w .vs) (w .ks) (w .at-node) in
-        (e, omega (arith, f .1))
-
     pub within-many : BuildPre (OfWithin at) s n st nx leaves → m ≤ 255
-    within-many p = within-count (p .t) (p .c) (p .table) (p .means) .1
+    within-many p = inter-many s n st nx (p .t) (p .table) at _ _ _ _ (p .means .at-node) m pm .1
 
     pub within-row : BuildPre (OfWithin at) s n st nx leaves → RowPre s n st nx (at + 1) m
-    within-row p =
-        let w = p .means in
-        record {
-          t = p .t;
-          table = p .table;
-          Γ = under #BInter (w .vs) (w .Ξ);
-          ks = w .ks;
-          row = inter-row s n st nx (p .t) (p .table) at (w .Ξ) (w .n) (w .vs) (w .ks) (w .at-node);
-          many = within-count (p .t) (p .c) (p .table) w .0;
-        }
+    within-row p = inter-pre s n st nx (p .t) (p .table) at _ _ _ _ (p .means .at-node) m pm
 
     pub within-built : (o₀ : List ℕ) (i₀ : ℕ) (o₁ : List ℕ) (i₁ : ℕ) → Puts o₀ i₀ o₁ i₁ (encNumber 2 #SubsetEq) → (o₂ : List ℕ) (i₂ : ℕ) → Puts o₁ i₁ o₂ i₂ (joinedBytes #BInter m)
         → (o₃ : List ℕ) (i₃ : ℕ) → RowPost s n st nx (at + 1) m Minuend o₂ i₂ o₃ i₃ → (d : ℕ) → MinusRowPost s n st nx (at + 1) m d
@@ -241,7 +224,7 @@ module _ (at : ℕ) (s : List ℕ) (n : ℕ) (st nx leaves : List ℕ) where
               let Γ = under #BInter (w .vs) (w .Ξ) in
               let y = ap enc (new-is (two #SubsetEq a b) new 38 p (sym (w .answer) ∙ ans)) in
               let r = inter-row s n st nx t tb at (w .Ξ) (w .n) (w .vs) ks (w .at-node) in
-              let e = within-count t c tb w .0 in
+              let e = inter-count s n st nx t tb at (w .Ξ) (w .n) (w .vs) ks (w .at-node) m pm in
               let x₂ = puts-as o₁ i₁ o₂ i₂ _ _ (ap (joinedBytes #BInter) (e ∙ sym (count-minuends ks))) h₂ in
               let x₃ = puts-as o₂ i₂ o₃ i₃ _ _ (row-minuends (at + 1) ks) (h₃ .puts t Γ ks tb r e) in
               let x₄ = puts-as o₃ i₃ o₄ i₄ _ _ (ap (joinedBytes #BUnion) (pd .counts t Γ ks tb r e)) h₄ in
