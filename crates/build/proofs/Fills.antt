@@ -4,24 +4,22 @@ use mathlib.Core.Path.{_≡_, refl, sym, ap, _∙_}
 use mathlib.Core.Bool.{Bool, true, false, not, _&&_, _||_}
 use mathlib.Core.List.{List, [], _∷_}
 use Prim.Native.Nat.{ℕ, zero, suc, _/_, _%_, _^_, _≤_, _<_}
-use native.Mathlib.Omega.{arith}
 use lib.ListN.{length, getD}
 use lib.Dec.{eqb, leb, ltb}
 use borrow.Author.Tests.{ltb-true, le-leb, lt-leb}
 use Rattle.frame.specs.Types.{Ty}
-use Rattle.frame.specs.Trees.{head, Tree, node, Forest}
+use Rattle.frame.specs.Trees.{head, Tree, node}
 use Rattle.frame.specs.Tags.{pick, formOf}
 use Rattle.frame.specs.Encoding.{encTys, enc}
 use Rattle.frame.specs.Spans.{Spans}
-use Rattle.frame.specs.Places.{Ctx, found, find}
+use Rattle.frame.specs.Places.{Ctx}
 use Rattle.frame.proofs.Inversion.{true-not}
 use Rattle.frame.proofs.SameTrees.{both-true}
 use Rattle.frame.proofs.Splices.{find-lt}
 use Rattle.frame.proofs.TagTables.{allBelow, below, flag}
 use Rattle.typing.specs.Typing.{typeOf}
 use Rattle.nav.specs.PlaceTables.{Table}
-use Rattle.emit.specs.Out.{Puts}
-use Rattle.emit.specs.Template.{Part, tag, byte, operand, type, expression, binders, Filling, operandAt, typeAt, filled}
+use Rattle.emit.specs.Template.{Part, tag, byte, operand, type, expression, binders, Filling, operandAt, typeAt}
 use Rattle.emit.specs.Programs.{templates, among, findRow, template}
 use Rattle.emit.specs.Holds.{fromOf, endOf, typeOfOperand, boolAt, MadeFrom, Holds, Fillable, Filled}
 use Rattle.emit.specs.declared.template.Ranges.{Ranges}

@@ -2,16 +2,13 @@
 -- Main results: copy-range, copy-done; the shares (besides-none .. subtrahend-none); row-none, row-first, row-rest, row-more; minus-none,
 -- minus-yes, minus-no; kept-none, kept-place, kept-rest, kept-more.
 use mathlib.Core.Path.{_≡_, refl, sym, ap, _∙_, subst}
-use mathlib.Core.Bool.{Bool, true, false}
 use mathlib.Core.List.{List, [], _∷_, _++_, append-nil}
 use Prim.Native.Nat.{ℕ, zero, suc, _+_, _-_, _≤_, _<_}
 use native.Mathlib.Omega.{arith}
 use lib.ListN.{length, getD, take, drop}
-use lib.Dec.{eqb}
 use borrow.Author.Tests.{eq-eqb, ne-eqb}
-use Rattle.frame.specs.Types.{Ty}
 use Rattle.frame.specs.Trees.{head, Tree, node, Forest, nil, cons, count, nodes, tagOf}
-use Rattle.frame.specs.Tags.{pick, expression, lookup, classOf, formAt}
+use Rattle.frame.specs.Tags.{expression, lookup, classOf, formAt}
 use Rattle.frame.specs.Encoding.{enc, encs}
 use Rattle.frame.specs.Places.{Ctx, under, found, find}
 use Rattle.frame.proofs.Splices.{find-some, find-lt}
@@ -24,7 +21,7 @@ use Rattle.emit.specs.Copied.{between}
 use Rattle.emit.proofs.Puts.{puts-nil, puts-then, puts-as, between-span}
 use Rattle.rewriter.specs.Decision.{At}
 use Rattle.rewriter.proofs.Shapes.{Double, double, place-few}
-use Rattle.build.specs.Rows.{CopyPost, shareOf, rowOf, ShareOfPost, RowAt, RowPre, RowPost, MinusRowPre, MinusRowPost, KeptPre, KeptPost}
+use Rattle.build.specs.Rows.{CopyPost, shareOf, rowOf, ShareOfPost, RowAt, RowPre, RowPost, MinusRowPost, KeptPre, KeptPost}
 use Rattle.build.specs.declared.rows.Share.{Share}
 use Rattle.build.specs.declared.rows.Share.the-variants.{Besides, Minuend, Subtrahend}
 use Rattle.build.proofs.Subtrees.{span-at}

@@ -8,27 +8,26 @@ use lib.ListN.{length, getD}
 use Rattle.frame.specs.Types.{Ty, bool}
 use Rattle.frame.specs.Trees.{head, Tree, node, Forest, nil, cons, nodes}
 use Rattle.frame.specs.Tags.{Sort, Layout, these, payload, counted, binding, formOf, sortsOf}
-use Rattle.frame.specs.Encoding.{encTy, encTys, enc}
+use Rattle.frame.specs.Encoding.{encTy, enc}
 use Rattle.frame.specs.Spans.{Spans}
 use Rattle.frame.specs.At.{IsAt}
 use Rattle.frame.specs.WellFormed.{Wfs, numberIn}
 use Rattle.frame.specs.Places.{Ctx, found, find}
 use Rattle.frame.proofs.Inversion.{true-not}
 use Rattle.frame.proofs.Spans.{span-one}
-use Rattle.frame.proofs.Splices.{find-some, find-lt}
+use Rattle.frame.proofs.Splices.{find-some}
 use Rattle.frame.proofs.View.{stands-at}
-use Rattle.typing.specs.Typing.{typeOf, typedTree}
+use Rattle.typing.specs.Typing.{typeOf}
 use Rattle.typing.specs.Buffers.{Copied}
 use Rattle.typing.specs.TypingPosts.{TypePre, TypePost, Typing}
 use Rattle.typing.specs.declared.patterns.Typed.{Typed}
 use Rattle.typing.specs.declared.patterns.Typed.the-variants as T
-use Rattle.typing.proofs.BufferLaws.{copied-span, span-kept, span-by, span-get}
-use Rattle.nav.specs.PlaceTables.{Framed, Table, PlacedIn, EndAtPost}
+use Rattle.typing.proofs.BufferLaws.{copied-span, span-kept}
+use Rattle.nav.specs.PlaceTables.{Framed, PlacedIn, EndAtPost}
 use Rattle.nav.proofs.Hops.{framed-few, place-end, place-sorted, place-stands}
 use Rattle.emit.specs.Programs.{template}
 use Rattle.emit.specs.Written.{TypeAt}
-use Rattle.emit.specs.Holds.{boolAt, MadeFrom}
-use Rattle.emit.specs.declared.template.Ranges.{Ranges}
+use Rattle.emit.specs.Holds.{boolAt}
 use Rattle.rewriter.specs.Decision.{hasBinders}
 use Rattle.frame.proofs.Extents.{nodes-enc}
 use Rattle.build.specs.Operands.{asksTypes, Held, TypeOfPre, TypeOfPost, TypesPre, TypesPost, RangesPre, RangesPost}

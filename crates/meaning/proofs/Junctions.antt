@@ -11,13 +11,12 @@ use Rattle.frame.specs.Trees.{Tree, Forest, nil, cons, leaf, many, sole, append
 use Rattle.frame.specs.Tags.{predicate, repeat, classOf, lookup, formAt}
 use Rattle.frame.specs.Operators.{#LAnd, #LOr, #BTrue, #BFalse, #KInter, #QInter}
 use Rattle.frame.specs.Places.{Ctx}
-use Rattle.typing.specs.Typing.{typeOf}
 use Rattle.typing.specs.Accepted.{Accepted, AcceptedAll}
 use Rattle.rules.specs.Equations.{¬ᵖ, Among, Junction, conjunction, disjunction, Dropped, done, literal, repeated}
 use Rattle.meaning.specs.Lists.{any, all, In}
 use Rattle.meaning.specs.Operations.{opAt, opOf}
 use Rattle.meaning.specs.Meaning.{Interpretation, Vals, Den, truth, holds, means, meansAll}
-use Rattle.meaning.specs.Premises.{SingleIntegers, SingleIntegersIn, Alive, AliveAll}
+use Rattle.meaning.specs.Premises.{SingleIntegers, Alive}
 use Rattle.meaning.proofs.Lists.{so-any, so-all, clash, not-so, In-left, all-mid, any-mid, and-true, or-false}
 use Rattle.meaning.proofs.Sound.{Formula, Keeps, keeps-truth, accepted-formula}
 use Rattle.meaning.proofs.Kit as kit
