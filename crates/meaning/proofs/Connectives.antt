@@ -4,7 +4,7 @@ use mathlib.Core.Path.{_≡_, refl, sym, ap, _∙_}
 use mathlib.Core.Bool.{Bool, true, false, not, _||_, Bool·beq, So, false≢true}
 use Prim.Native.Nat.{ℕ}
 use Rattle.frame.specs.Types.{Ty, bool, int}
-use Rattle.frame.specs.Trees.{Tree, Forest, leaf, two}
+use Rattle.frame.specs.Trees.{Tree, Forest, leaf, two, pair}
 use Rattle.frame.specs.Tags.{predicate, classOf, lookup, formAt}
 use Rattle.frame.specs.Operators.{#BTrue, #BFalse, #Lt, #Le, #Gt, #Ge, #True, #False, #Equal, #Not}
 use Rattle.frame.specs.Places.{Ctx}
@@ -17,6 +17,7 @@ use Rattle.meaning.specs.Meaning.{Interpretation, Vals, truth, val, leIn
 use Rattle.meaning.specs.Premises.{SingleIntegers, Alive}
 use Rattle.meaning.proofs.Lists.{so-imp, so-all, not-not, or-true, or-false, beq-true, beq-false}
 use Rattle.meaning.proofs.Sound.{Formula, Keeps, keeps-truth, accepted-formula}
+use Rattle.meaning.proofs.Kit.{NoInter}
 use Rattle.meaning.proofs.Kit as kit
 use Rattle.meaning.proofs.Many as many
 
@@ -98,25 +99,29 @@ module _ (I : Interpretation) (σ : ℕ → Ty) (Γ : Ctx) where
 
   -- ---- ¬ of an order
   module _ (a b : Tree) where
+    -- h is the order that g is not
+    order-keeps : (g h : ℕ) → Formula (leaf h) → NoInter h → ((ρ : Vals I Γ) → not (Truth ρ (two g a b)) ≡ Truth ρ (two h a b)) → SingleIntegers (¬ᵖ (two g a b)) Γ
+        → Keeps I Γ (¬ᵖ (two g a b)) (two h a b)
+    unfolding SingleIntegers Alive opOf opAt classOf lookup formAt
+    order-keeps g h f n t s =
+        keeps-truth I (¬ᵖ (two g a b)) (two h a b) Γ (refl, refl) f (kit.many-single I Γ h f (pair a b) (kit.kids-single I Γ g (pair a b) (s .3 .0)))
+        (λ l. kit.many-alive I Γ h n (pair a b) (kit.kids-alive I Γ g (pair a b) (l .2 .0))) (λ l ρ. kit.not-truth I Γ (two g a b) ρ ∙ t ρ)
+
     pub not-le-keeps : SingleIntegers (¬ᵖ (two #Le a b)) Γ → Keeps I Γ (¬ᵖ (two #Le a b)) (two #Gt a b)
-    unfolding SingleIntegers Alive typeOf means holds opOf opAt classOf lookup formAt
-    not-le-keeps s = keeps-truth I (¬ᵖ (two #Le a b)) (two #Gt a b) Γ (refl, refl) (refl, refl) (tt, tt, tt, s .3 .0 .3) (λ l. (tt, tt, l .2 .0 .2)) (λ l ρ. refl)
+    unfolding means holds opOf opAt classOf lookup formAt
+    not-le-keeps = order-keeps #Le #Gt (refl, refl) (refl, refl) (λ ρ. refl)
 
     pub not-ge-keeps : SingleIntegers (¬ᵖ (two #Ge a b)) Γ → Keeps I Γ (¬ᵖ (two #Ge a b)) (two #Lt a b)
-    unfolding SingleIntegers Alive typeOf means holds opOf opAt classOf lookup formAt
-    not-ge-keeps s = keeps-truth I (¬ᵖ (two #Ge a b)) (two #Lt a b) Γ (refl, refl) (refl, refl) (tt, tt, tt, s .3 .0 .3) (λ l. (tt, tt, l .2 .0 .2)) (λ l ρ. refl)
+    unfolding means holds opOf opAt classOf lookup formAt
+    not-ge-keeps = order-keeps #Ge #Lt (refl, refl) (refl, refl) (λ ρ. refl)
 
     pub not-gt-keeps : SingleIntegers (¬ᵖ (two #Gt a b)) Γ → Keeps I Γ (¬ᵖ (two #Gt a b)) (two #Le a b)
-    unfolding SingleIntegers Alive typeOf means holds opOf opAt classOf lookup formAt
-    not-gt-keeps s =
-        keeps-truth I (¬ᵖ (two #Gt a b)) (two #Le a b) Γ (refl, refl) (refl, refl) (tt, tt, tt, s .3 .0 .3) (λ l. (tt, tt, l .2 .0 .2))
-        (λ l ρ. not-not (leInt (val I (means I a Γ) ρ int) (val I (means I b Γ) ρ int)))
+    unfolding means holds opOf opAt classOf lookup formAt
+    not-gt-keeps = order-keeps #Gt #Le (refl, refl) (refl, refl) (λ ρ. not-not (leInt (val I (means I a Γ) ρ int) (val I (means I b Γ) ρ int)))
 
     pub not-lt-keeps : SingleIntegers (¬ᵖ (two #Lt a b)) Γ → Keeps I Γ (¬ᵖ (two #Lt a b)) (two #Ge a b)
-    unfolding SingleIntegers Alive typeOf means holds opOf opAt classOf lookup formAt
-    not-lt-keeps s =
-        keeps-truth I (¬ᵖ (two #Lt a b)) (two #Ge a b) Γ (refl, refl) (refl, refl) (tt, tt, tt, s .3 .0 .3) (λ l. (tt, tt, l .2 .0 .2))
-        (λ l ρ. not-not (leInt (val I (means I b Γ) ρ int) (val I (means I a Γ) ρ int)))
+    unfolding means holds opOf opAt classOf lookup formAt
+    not-lt-keeps = order-keeps #Lt #Ge (refl, refl) (refl, refl) (λ ρ. not-not (leInt (val I (means I b Γ) ρ int) (val I (means I a Γ) ρ int)))
 
   -- ---- ¬ of E = FALSE, E = TRUE
   -- x and y are the two truth values

@@ -3,11 +3,10 @@
 use mathlib.Core.Path.{_≡_, refl, sym, ap, ap₂, _∙_, fun-ext}
 use mathlib.Core.Bool.{Bool, true, false, not, _&&_, _||_}
 use Prim.Native.Nat.{ℕ}
-use lib.Dec.{eqb}
 use Rattle.frame.specs.Types.{Ty, pow}
 use Rattle.frame.specs.Trees.{Tree, Forest, nil, cons, two, many, sole, append}
 use Rattle.frame.specs.Tags.{classOf, lookup, formAt}
-use Rattle.frame.specs.Operators.{#SetMinus, #BUnion, #BInter, #KInter, #QInter, #In, #Not}
+use Rattle.frame.specs.Operators.{#SetMinus, #BUnion, #BInter, #In, #Not}
 use Rattle.frame.specs.Places.{Ctx}
 use Rattle.typing.specs.Typing.{ty, typeOf, typesIn}
 use Rattle.rules.specs.Equations.{¬ᵖ, _∈ᵖ_, _⊆_, ext, ⋂, over, Subtracted, none, minus, other}
@@ -18,6 +17,7 @@ use Rattle.meaning.specs.Premises.{NoInt, SingleIntegers, SingleIntegers
 use Rattle.meaning.proofs.Lists.{and-true, or-false, and-assoc}
 use Rattle.meaning.proofs.Sets.{within-is}
 use Rattle.meaning.proofs.EmptySetsMore as more
+use Rattle.meaning.proofs.Kit.{NoInter}
 use Rattle.meaning.proofs.Kit as kit
 use Rattle.meaning.proofs.Many.{append-means, Every, every-mid, single-each, single-all, alive-each, alive-all}
 use Rattle.meaning.proofs.Emptied.{Emptied, emptied}
@@ -31,7 +31,7 @@ over-single Γ g h (cons a nil) s = s .0
 over-single Γ g h (cons a (cons b ks)) s = kit.node-single Γ g (cons a (cons b ks)) (rw (h (cons a (cons b ks))) (kit.single-type a Γ (s .0))) s
 
 module _ (I : Interpretation) (Γ : Ctx) where
-  over-alive : (g : ℕ) → (eqb g #KInter ≡ false) × (eqb g #QInter ≡ false) → (ks : Forest) → AliveAll I ks Γ → Alive I (over g ks) Γ
+  over-alive : (g : ℕ) → NoInter g → (ks : Forest) → AliveAll I ks Γ → Alive I (over g ks) Γ
   unfolding Alive
   over-alive g f nil a = kit.many-alive I Γ g f nil tt
   over-alive g f (cons k nil) a = a .0

@@ -82,7 +82,7 @@ module _ (I : Interpretation) (σ : ℕ → Ty) (Γ : Ctx) where
       let Δ = push xs Γ in
       emptied I σ Γ (bodied #QUnion xs p e) (∀ᵖ xs (p ⇒ _≐∅ Δ e)) u h (refl, refl)
       (kit.bound-single I Γ #Forall (refl, refl) (λ us. refl) xs (p ⇒ _≐∅ Δ e) (s .0) (s .2) (kit.two-single I Δ #LImp (refl, refl) p (_≐∅ Δ e) (s .3 .0) (kit.empty-single I Δ e (s .3 .1 .0))))
-      (λ a. kit.bound-alive I Γ #Forall (refl, refl) (λ us. refl) xs (p ⇒ _≐∅ Δ e) refl refl (kit.two-alive I Δ #LImp (refl, refl) p (_≐∅ Δ e) (a .2 .0) (kit.empty-alive I Δ e (a .2 .1 .0))))
+      (λ a. kit.bound-alive I Γ #Forall (refl, refl) (λ us. refl) xs (p ⇒ _≐∅ Δ e) (refl, refl) (kit.two-alive I Δ #LImp (refl, refl) p (_≐∅ Δ e) (a .2 .0) (kit.empty-alive I Δ e (a .2 .1 .0))))
       (λ a ρ. kit.forall-truth I Γ xs (p ⇒ _≐∅ Δ e) ρ
       ∙ ap (λ g. all g (choices I xs Γ ρ)) (fun-ext (λ τ. kit.implies-truth I Δ p (_≐∅ Δ e) τ ∙ ap (λ b. not (truth I (means I p Δ) τ) || b) (kit.empty-truth I Δ e u h τ)))
       ∙ set.qunion-none (I .size) u (kit.no-int e Δ u (s .3 .1 .0) h) (truth I (means I p Δ)) (λ τ. setOf I (means I e Δ) τ u) (choices I xs Γ ρ))

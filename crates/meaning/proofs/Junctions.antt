@@ -5,11 +5,10 @@ use mathlib.Core.Path.{_≡_, refl, sym, ap, _∙_}
 use mathlib.Core.Bool.{Bool, true, false, not, _&&_, _||_}
 use mathlib.Core.List.{List, _∷_, _++_}
 use Prim.Native.Nat.{ℕ}
-use lib.Dec.{eqb}
 use Rattle.frame.specs.Types.{Ty}
 use Rattle.frame.specs.Trees.{Tree, Forest, nil, cons, leaf, many, sole, append, count}
 use Rattle.frame.specs.Tags.{predicate, repeat, classOf, lookup, formAt}
-use Rattle.frame.specs.Operators.{#LAnd, #LOr, #BTrue, #BFalse, #KInter, #QInter}
+use Rattle.frame.specs.Operators.{#LAnd, #LOr, #BTrue, #BFalse}
 use Rattle.frame.specs.Places.{Ctx}
 use Rattle.typing.specs.Accepted.{Accepted, AcceptedAll}
 use Rattle.rules.specs.Equations.{¬ᵖ, Among, Junction, conjunction, disjunction, Dropped, done, literal, repeated}
@@ -19,6 +18,7 @@ use Rattle.meaning.specs.Meaning.{Interpretation, Vals, Den, truth, hold
 use Rattle.meaning.specs.Premises.{SingleIntegers, Alive}
 use Rattle.meaning.proofs.Lists.{so-any, so-all, clash, not-so, In-left, all-mid, any-mid, and-true, or-false}
 use Rattle.meaning.proofs.Sound.{Formula, Keeps, keeps-truth, accepted-formula}
+use Rattle.meaning.proofs.Kit.{NoInter}
 use Rattle.meaning.proofs.Kit as kit
 use Rattle.meaning.proofs.Many.{Every, every-mid, single-each, single-all, alive-each, alive-all}
 use Rattle.meaning.proofs.Many as many
@@ -91,13 +91,13 @@ module _ (I : Interpretation) (σ : ℕ → Ty) (Γ : Ctx) where
   record Literal (b : Bool) (g : ℕ) : Type 0 where
     formula : Formula (leaf g)
     truly : (ρ : Vals I Γ) → truth I (means I (leaf g) Γ) ρ ≡ b
-    other : (eqb g #KInter ≡ false) × (eqb g #QInter ≡ false)
+    other : NoInter g
 
   -- the operator g is decided by b
   record Joins (b : Bool) (g : ℕ) : Type 0 where
     formula : Formula (leaf g)
     truly : (ks : Forest) (ρ : Vals I Γ) → truth I (means I (many g ks) Γ) ρ ≡ says b ρ ks
-    other : (eqb g #KInter ≡ false) × (eqb g #QInter ≡ false)
+    other : NoInter g
     kids-formula : (ks : Forest) → Accepted σ (many g ks) Γ predicate → Every Formula ks
 
   literal-true : Literal true #BTrue

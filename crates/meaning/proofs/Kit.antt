@@ -105,7 +105,10 @@ module _ (I : Interpretation) (Γ : Ctx) (g : ℕ) (f : Formula (leaf g)) where
   two-single p q s r = many-single (pair p q) (s, (r, tt))
 
 -- ---- a node that is no intersection, by its tag and its operands
-module _ (I : Interpretation) (Γ : Ctx) (g : ℕ) (f : (eqb g #KInter ≡ false) × (eqb g #QInter ≡ false)) where
+abbrev pub NoInter : ℕ → Type 0
+NoInter g = (eqb g #KInter ≡ false) × (eqb g #QInter ≡ false)
+
+module _ (I : Interpretation) (Γ : Ctx) (g : ℕ) (f : NoInter g) where
   pub many-alive : (ks : Forest) → AliveAll I ks Γ → Alive I (many g ks) Γ
   unfolding Alive
   many-alive ks a = rw (f .0, f .1, sym (binders-agree I g []), no-binders (formOf g .layout)) (tt, tt, a)
@@ -128,9 +131,9 @@ module _ (I : Interpretation) (Γ : Ctx) (g : ℕ) (f : Formula (leaf g)) (b : (
   unfolding SingleIntegers
   bound-single s n r = rw (formula-type I (node (head g 0 xs) (sole p)) Γ f, b xs) (s, tt, n, (r, tt))
 
-  pub bound-alive : eqb g #KInter ≡ false → eqb g #QInter ≡ false → Alive I p (push xs Γ) → Alive I (node (head g 0 xs) (sole p)) Γ
+  pub bound-alive : NoInter g → Alive I p (push xs Γ) → Alive I (node (head g 0 xs) (sole p)) Γ
   unfolding Alive
-  bound-alive h k a = rw (h, k, sym (binders-agree I g xs), b xs) (tt, tt, (a, tt))
+  bound-alive h a = rw (h .0, h .1, sym (binders-agree I g xs), b xs) (tt, tt, (a, tt))
 
 -- ---- the operands of a node without types
 module _ (I : Interpretation) (Γ : Ctx) (g : ℕ) (ks : Forest) where
