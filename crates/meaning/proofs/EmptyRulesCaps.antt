@@ -10,6 +10,7 @@ use Rattle.frame.specs.Operators.{#SetMinus, #BUnion, #BInter, #In, #Not}
 use Rattle.frame.specs.Places.{Ctx}
 use Rattle.typing.specs.Typing.{ty, typeOf, typesIn}
 use Rattle.rules.specs.Equations.{¬ᵖ, _∈ᵖ_, _⊆_, ext, ⋂, over, Subtracted, none, minus, other}
+use Rattle.rules.proofs.Operands.{every-mid, minuends-every, subtrahends-every}
 use Rattle.meaning.specs.Lists.{any, all}
 use Rattle.meaning.specs.Operations.{opAt, opOf}
 use Rattle.meaning.specs.Meaning.{Interpretation, Vals, Val, Den, val, setOf, some, equals, valueOf, means, meansAll}
@@ -19,7 +20,7 @@ use Rattle.meaning.proofs.Sets.{within-is}
 use Rattle.meaning.proofs.EmptySetsMore as more
 use Rattle.meaning.proofs.Kit.{NoInter}
 use Rattle.meaning.proofs.Kit as kit
-use Rattle.meaning.proofs.Many.{append-means, Every, every-mid, single-each, single-all, alive-each, alive-all}
+use Rattle.meaning.proofs.Many.{append-means, single-each, single-all, alive-each, alive-all}
 use Rattle.meaning.proofs.Emptied.{Emptied, emptied}
 use Rattle.meaning.proofs.EmptyRulesKit.{within-emptied}
 
@@ -88,17 +89,6 @@ module _ (I : Interpretation) (σ : ℕ → Ty) (Γ : Ctx) (a : Tree) (left righ
       (λ l ρ. kit.not-truth I Γ (a ∈ᵖ rest) ρ ∙ ap not (kit.member-truth I Γ a rest u ha ρ ∙ sym (single-some u (kit.no-int (⋂ with-a) Γ u s he) ρ)))
 
 -- ---- (A ∖ B) ∩ C ∩ (D ∖ E) = ∅ is A ∩ C ∩ D ⊆ B ∪ E
-module _ (P : Tree → Type 0) (h : (a b : Tree) → P (two #SetMinus a b) → P a × P b) where
-  minuends-every : {ks ls ms : Forest} → Subtracted ks ls ms → Every P ks → Every P ls
-  minuends-every none s = tt
-  minuends-every (minus a b ks ls ms d) s = (h a b (s .0) .0, minuends-every d (s .1))
-  minuends-every (other k ks ls ms d) s = (s .0, minuends-every d (s .1))
-
-  subtrahends-every : {ks ls ms : Forest} → Subtracted ks ls ms → Every P ks → Every P ms
-  subtrahends-every none s = tt
-  subtrahends-every (minus a b ks ls ms d) s = (h a b (s .0) .1, subtrahends-every d (s .1))
-  subtrahends-every (other k ks ls ms d) s = subtrahends-every d (s .1)
-
 module _ (I : Interpretation) (Γ : Ctx) where
   apart : (a b l m : Bool) → ((a && not b) && (l && not m)) ≡ ((a && l) && not (b || m))
   apart true true true m = refl

@@ -12,6 +12,8 @@ use Rattle.frame.specs.Operators.{#LAnd, #LOr, #BTrue, #BFalse}
 use Rattle.frame.specs.Places.{Ctx}
 use Rattle.typing.specs.Accepted.{Accepted, AcceptedAll}
 use Rattle.rules.specs.Equations.{¬ᵖ, Among, Junction, conjunction, disjunction, Dropped, done, literal, repeated}
+use Rattle.rules.proofs.Nodes.{Every}
+use Rattle.rules.proofs.Operands.{dropped-every}
 use Rattle.meaning.specs.Lists.{any, all, In}
 use Rattle.meaning.specs.Operations.{opAt, opOf}
 use Rattle.meaning.specs.Meaning.{Interpretation, Vals, Den, truth, holds, means, meansAll}
@@ -20,7 +22,7 @@ use Rattle.meaning.proofs.Lists.{so-any, so-all, clash, not-so, In-left
 use Rattle.meaning.proofs.Sound.{Formula, Keeps, keeps-truth, accepted-formula}
 use Rattle.meaning.proofs.Kit.{NoInter}
 use Rattle.meaning.proofs.Kit as kit
-use Rattle.meaning.proofs.Many.{Every, every-mid, single-each, single-all, alive-each, alive-all}
+use Rattle.meaning.proofs.Many.{single-each, single-all, alive-each, alive-all}
 use Rattle.meaning.proofs.Many as many
 
 -- ---- truth values: d decides a junction (false ∧, true ∨)
@@ -68,13 +70,7 @@ module _ {A : Type 0} where
         go false true h = refl
         go false false h = sym (joined-decided false (l ++ m) k (In-left k l m i) h)
 
--- ---- operands: what holds of each, of those that are left
-module _ (P : Tree → Type 0) where
-  dropped-every : {n : ℕ} {ks ls : Forest} → Dropped n ks ls → Every P ks → Every P ls
-  dropped-every (done ks) h = h
-  dropped-every {n} (literal ks ls left right e r) h = dropped-every r (every-mid P left (leaf n) right (rw e at h) .1)
-  dropped-every (repeated ks ls left right q e i r) h = dropped-every r (every-mid P left q right (rw e at h) .1)
-
+-- ---- operands: what holds of each
 module _ (Γ : Ctx) where
   formula-each : (σ : ℕ → Ty) (ks : Forest) → AcceptedAll σ ks Γ (repeat predicate (count ks)) → Every Formula ks
   unfolding Accepted

@@ -1,7 +1,7 @@
 -- Lists of operands: one predicate made of each, lists joined, an operand among others.
 -- Main results: map-single, map-alive, map-all, map-any (operands changed one by one), empties-all, fulls-all (each operand
--- is ∅, is full), append-means (two lists joined), among-means, each-alike (operands of one type); Every,
--- every-mid, single-each, single-all, alive-each, alive-all (what holds of each operand).
+-- is ∅, is full), append-means (two lists joined), among-means, each-alike (operands of one type); single-each,
+-- single-all, alive-each, alive-all (what holds of each operand).
 use mathlib.Core.Path.{_≡_, refl, sym, ap, ap₂, _∙_}
 use mathlib.Core.Logic.{inl, inr}
 use mathlib.Core.Bool.{Bool, not, _&&_, _||_}
@@ -11,6 +11,7 @@ use Rattle.frame.specs.Trees.{Tree, Forest, nil, cons, append, mapF}
 use Rattle.frame.specs.Places.{Ctx}
 use Rattle.typing.specs.Typing.{alike, typeOf, typesIn}
 use Rattle.rules.specs.Equations.{Among, _≐∅, _≐Ty}
+use Rattle.rules.proofs.Nodes.{Every}
 use Rattle.meaning.specs.Lists.{any, all, In}
 use Rattle.meaning.specs.Meaning.{Interpretation, Vals, Den, truth, setOf, some, every, means, meansAll}
 use Rattle.meaning.specs.Premises.{SingleIntegers, SingleIntegersIn, Alive, AliveAll}
@@ -27,16 +28,6 @@ each-alike t [] e = tt
 each-alike t (u ∷ us) e = ((cc), each-alike t us (cc))
 
 -- ---- what holds of each operand
-module _ (P : Tree → Type 0) where
-  abbrev pub Every : Forest → Type 0
-  Every nil = Unit {0}
-  Every (cons k ks) = P k × Every ks
-
-  -- of the operand q, and of those beside it
-  pub every-mid : (ks : Forest) (q : Tree) (ls : Forest) → Every (append ks (cons q ls)) → P q × Every (append ks ls)
-  every-mid nil q ls h = h
-  every-mid (cons k ks) q ls h = let r = every-mid ks q ls (h .1) in (r .0, (h .0, r .1))
-
 module _ (Γ : Ctx) where
   pub single-each : (ks : Forest) → SingleIntegersIn ks Γ → Every (λ k. SingleIntegers k Γ) ks
   unfolding SingleIntegers

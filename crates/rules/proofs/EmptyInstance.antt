@@ -6,15 +6,15 @@ use Prim.Native.Nat.{ℕ, _≤_}
 use native.Mathlib.Omega.{arith}
 use lib.Dec.{eqb}
 use Rattle.frame.specs.Types.{Ty}
-use Rattle.frame.specs.Trees.{head, Tree, node, Forest, nil, cons, count, leaf, one, two, many, sole, pair, append, mapF}
+use Rattle.frame.specs.Trees.{head, Tree, node, Forest, nil, cons, count, leaf, two, many, sole, pair, append, mapF}
 use Rattle.frame.specs.Tags.{pick, classOf, lookup, formAt}
 use Rattle.frame.specs.Operators.{#SetExt, #SRel, #STRel, #SetMinus, #CProd, #DProd, #PProd, #DomRes, #DomSub, #RanRes, #RanSub, #UpTo, #RelImage, #BUnion, #BInter, #BComp, #FComp, #Ovr, #LAnd, #Natural, #Natural1, #KPrj1Gen, #KPrj2Gen, #KIdGen, #BFalse, #Pow, #Pow1, #KUnion, #KDom, #KRan, #Converse, #QUnion}
 use Rattle.frame.specs.Places.{Ctx}
 use Rattle.frame.proofs.Inversion.{true-not}
 use Rattle.typing.specs.Typing.{typeOf}
-use Rattle.rules.specs.Change.{Change, to, isTag, with2, joined}
+use Rattle.rules.specs.Change.{Change, isTag, with2, joined}
 use Rattle.rules.specs.Negation.{isEmpty}
-use Rattle.rules.specs.EqualsEmptySet.{Single, single, none, soleOf, singleOf, anySingle, Singled, singled, noneSingled, besides, orNext, firstSingle, interSingle, Minus, minus, whole, partsOf, minusOf, isMinus, minuend, withSubtrahend, anyMinus, minuends, subtrahends, interEmpty, inter, rewriteEqualsEmptySet}
+use Rattle.rules.specs.EqualsEmptySet.{Single, single, none, soleOf, singleOf, anySingle, Singled, singled, noneSingled, besides, orNext, firstSingle, interSingle, Minus, minus, whole, partsOf, minusOf, isMinus, minuend, withSubtrahend, anyMinus, minuends, subtrahends, interEmpty, rewriteEqualsEmptySet}
 use Rattle.rules.specs.Equations
 use Rattle.rules.specs.Equations.{Empties, Subtracted, over, ext, ⋂}
 use Rattle.rules.proofs.Shapes.{Is, gives, nothing, or-else, by-test, either, Ok, OkAll, on-many, on-two, on-one, on-bodied, is-leaf, is-many, is-two, is-typed}
