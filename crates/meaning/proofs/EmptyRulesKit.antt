@@ -1,6 +1,6 @@
 -- What the equations of E = ∅ are made of: dom, ran, ∩ of two, ∨ and ∧ of two; what operators mean at the types of their operands.
--- Main results: NAME-type, NAME-single, NAME-is for NAME dom or ran; image-is, forward-is, backward-is; and-two-truth; false-emptied, meet-emptied, within-emptied, either-emptied (E = ∅ is ⊥, is A ∩ B = ∅, is
--- A ⊆ B, is A = ∅ ∨ B = ∅).
+-- Main results: NAME-type, NAME-single, NAME-is for NAME dom or ran; image-is, forward-is, backward-is; and-two-truth;
+-- false-emptied, meet-emptied, within-emptied, either-emptied (E = ∅ is ⊥, is A ∩ B = ∅, is A ⊆ B, is A = ∅ ∨ B = ∅).
 use mathlib.Core.Path.{_≡_, refl, sym, ap, ap₂, _∙_, fun-ext}
 use mathlib.Core.Bool.{true, not, _&&_, _||_}
 use mathlib.Core.List.{[], _∷_}

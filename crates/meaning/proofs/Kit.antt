@@ -1,7 +1,9 @@
 -- What the trees that the equations build mean: truth, single integers, no intersection over nothing.
--- Main results: NAME-truth, NAME-single, NAME-alive for NAME one of not, and, or, implies, equiv, forall, exists, equal,
--- member, subset, empty (E = ∅), full (E = Ty); type-full (a type's expression is everything), type-type, type-single,
--- type-alive; single-type, no-int (the integers premise at a tree's type).
+-- Main results: many-single, leaf-single, one-single, two-single (any predicate without binders), bound-single (a quantifier),
+-- many-alive, leaf-alive, one-alive, two-alive, bound-alive (any node that is no intersection), kids-single, kids-alive (the
+-- operands); NAME-truth for NAME one of not, and, or, implies, equiv, forall, exists, equal, member, subset; NAME-truth,
+-- NAME-single, NAME-alive for empty (E = ∅) and full (E = Ty); type-full (a type's expression is everything), type-type,
+-- type-single, type-alive; single-type, no-int (the integers premise at a tree's type).
 use mathlib.Core.Path.{_≡_, refl, sym, ap, ap₂, _∙_, fun-ext}
 use mathlib.Core.Bool.{Bool, true, false, not, _&&_, _||_, Bool·beq}
 use mathlib.Core.List.{List, [], _∷_}
