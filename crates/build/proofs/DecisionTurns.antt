@@ -1,13 +1,11 @@
 -- The ways out of `build` of src/subtree.rt, by the decision.
-use mathlib.Core.Path.{_≡_, refl, sym, ap, _∙_, subst}
-use mathlib.Core.List.{List, []}
+use mathlib.Core.Path.{_≡_, sym, ap, _∙_, subst}
+use mathlib.Core.List.{List}
 use Prim.Native.Nat.{ℕ}
 use native.Mathlib.Omega.{arith}
-use lib.ListN.{length}
 use Rattle.frame.specs.Trees.{Tree}
 use Rattle.frame.specs.Encoding.{enc}
 use Rattle.rules.specs.Change.{Change, to, same}
-use Rattle.emit.specs.Out.{Puts}
 use Rattle.emit.proofs.Puts.{puts-as}
 use Rattle.rewriter.specs.Decision.{FixedMeans, Means}
 use Rattle.rewriter.specs.declared.decision.Decision.{Decision}

@@ -1,34 +1,32 @@
 -- The ways out of build_apart and build_within of src/subtree.rt.
 -- Main results: apart-placed .. apart-built, within-placed .. within-built.
-use mathlib.Core.Path.{_≡_, refl, sym, ap, ap₂, _∙_, subst}
-use mathlib.Core.Bool.{Bool, true, false}
+use mathlib.Core.Path.{_≡_, refl, sym, ap, _∙_}
+use mathlib.Core.Bool.{true, false}
 use mathlib.Core.List.{List, [], _∷_, _++_, append-assoc, append-nil}
-use Prim.Native.Nat.{ℕ, zero, suc, _+_, _-_, _≤_, _<_}
+use Prim.Native.Nat.{ℕ, suc, _+_, _-_, _≤_, _<_}
 use native.Mathlib.Omega.{arith}
-use lib.ListN.{length, getD}
-use lib.Dec.{eqb, ltb}
+use lib.Dec.{eqb}
 use borrow.Author.Tests.{eq-eqb, ne-eqb}
 use Rattle.frame.specs.Types.{Ty}
-use Rattle.frame.specs.Trees.{head, Tree, node, Forest, nil, cons, count, nodes, nodesIn, one, two, many, sole, append}
-use Rattle.frame.specs.Tags.{pick, Sort, counted, formOf, lookup, classOf, formAt}
+use Rattle.frame.specs.Trees.{head, Tree, node, Forest, nil, cons, count, nodes, nodesIn, one, two, many, sole, pair, append}
+use Rattle.frame.specs.Tags.{Sort, these, formOf, lookup, classOf, formAt}
 use Rattle.frame.specs.Operators.{#SetExt, #In, #SubsetEq, #BUnion, #BInter, #Not}
 use Rattle.frame.specs.Encoding.{encNumber, enc, encs}
-use Rattle.frame.specs.Places.{Ctx, under, found, find, findIn}
+use Rattle.frame.specs.Places.{Ctx, under, found, find}
 use Rattle.frame.proofs.Splices.{find-lt}
 use Rattle.frame.proofs.Within.{kids-of, kid-first, kid-next}
 use Rattle.nav.specs.PlaceTables.{Table, Placed, PlacedIn, ChildrenPost}
 use Rattle.nav.proofs.Hops.{place-sorted, some-node}
 use Rattle.nav.proofs.SamePlaces.{only-child}
-use Rattle.rules.specs.Change.{Change, to, joined}
+use Rattle.rules.specs.Change.{Change, joined}
 use Rattle.rules.specs.EqualsEmptySet.{minusOf, minuend, withSubtrahend, minuends, subtrahends}
 use Rattle.emit.specs.Out.{Puts}
 use Rattle.emit.proofs.Puts.{puts-then, puts-as}
 use Rattle.emit.proofs.Joins.{plain-bytes, inter-bytes, union-bytes}
-use Rattle.rewriter.specs.Decision.{ApartMeans, WithinMeans}
+use Rattle.rewriter.specs.Decision.{ApartMeans}
 use Rattle.rewriter.proofs.Shapes.{Counts, few-of, some-two, place-few}
-use Rattle.build.specs.Rows.{CopyPost, shareOf, rowOf, RowAt, RowPre, RowPost, MinusRowPre, MinusRowPost}
-use Rattle.build.specs.Subtree.{manyBytes, joinedBytes, BuildPre, BuildPost, OfApart, OfWithin}
-use Rattle.build.specs.declared.rows.Share.{Share}
+use Rattle.build.specs.Rows.{CopyPost, rowOf, RowAt, RowPre, RowPost, MinusRowPost}
+use Rattle.build.specs.Subtree.{joinedBytes, BuildPre, BuildPost, OfApart, OfWithin}
 use Rattle.build.specs.declared.rows.Share.the-variants.{Besides, Minuend, Subtrahend}
 use Rattle.build.proofs.SubtreeTurns.{many-then, new-is}
 
@@ -47,6 +45,19 @@ module _ (s : List ℕ) (n : ℕ) (st nx : List ℕ) (t : Tree) (tb : Table s t 
   inter-row : RowAt t (at + 1) (under #BInter vs Ξ) ks
   inter-row = kids-of t [] at Ξ #BInter x vs ks f
 
+  inter-placed : Placed s st at
+  inter-placed = record { t = t; n = n; framed = tb .framed; below = find-lt t [] at _ _ f }
+
+  module _ (m : ℕ) (pm : ChildrenPost s st at m) where
+    inter-count : m ≡ count ks
+    inter-count = pm .many t n Ξ (node (head #BInter x vs) ks) (tb .framed) f
+
+    inter-many : (2 ≤ m) × (m ≤ 255)
+    inter-many = (omega (arith, inter-count, inter-few .0), omega (arith, inter-count, inter-few .1))
+
+    inter-pre : RowPre s n st nx (at + 1) m
+    inter-pre = record { t = t; table = tb; Γ = under #BInter vs Ξ; ks = ks; row = inter-row; many = inter-count }
+
 -- ---- a tree of operators over lists as bytes
 -- one operand stands alone
 joined-bytes : (g : ℕ) → ((ks : Forest) → enc (many g ks) ≡ encNumber 2 g ++ (count ks ∷ encs ks)) → (ks : Forest) → enc (joined g ks) ≡ joinedBytes g (count ks) ++ encs ks
@@ -62,13 +73,9 @@ not-bytes : (a : Tree) → enc (one #Not a) ≡ encNumber 2 #Not ++ enc a
 unfolding lookup classOf formAt enc
 not-bytes a = plain-bytes #Not (sole a) _ refl ∙ ap (λ (l : List ℕ). encNumber 2 #Not ++ l) (append-nil (enc a))
 
-in-bytes : (a b : Tree) → enc (two #In a b) ≡ encNumber 2 #In ++ (enc a ++ enc b)
-unfolding lookup classOf formAt enc
-in-bytes a b = plain-bytes #In (cons a (cons b nil)) _ refl ∙ ap (λ (l : List ℕ). encNumber 2 #In ++ (enc a ++ l)) (append-nil (enc b))
-
-within-bytes : (a b : Tree) → enc (two #SubsetEq a b) ≡ encNumber 2 #SubsetEq ++ (enc a ++ enc b)
-unfolding lookup classOf formAt enc
-within-bytes a b = plain-bytes #SubsetEq (cons a (cons b nil)) _ refl ∙ ap (λ (l : List ℕ). encNumber 2 #SubsetEq ++ (enc a ++ l)) (append-nil (enc b))
+two-bytes : (g : ℕ) (es : List Sort) → formOf g .layout ≡ these es → (a b : Tree) → enc (two g a b) ≡ encNumber 2 g ++ (enc a ++ enc b)
+unfolding enc
+two-bytes g es h a b = plain-bytes g (pair a b) es h ∙ ap (λ (l : List ℕ). encNumber 2 g ++ (enc a ++ l)) (append-nil (enc b))
 
 -- ---- rows as trees
 count-append : (left right : Forest) → count (append left right) ≡ count left + count right
@@ -148,7 +155,7 @@ module _ (at single : ℕ) (s : List ℕ) (n : ℕ) (st nx leaves : List ℕ) wh
       (g, only-child t nx (tb .follows) single (under #BInter (w .vs) (w .Ξ)) #SetExt 0 [] (w .a) g)
 
   pub apart-placed : BuildPre (OfApart at single) s n st nx leaves → Placed s st at
-  apart-placed p = record { t = p .t; n = n; framed = p .table .framed; below = find-lt (p .t) [] at _ _ (p .means .at-node) }
+  apart-placed p = inter-placed s n st nx (p .t) (p .table) at _ _ _ _ (p .means .at-node)
 
   pub apart-few : BuildPre (OfApart at single) s n st nx leaves → (at < 2048) × (single < 2048)
   apart-few p = (place-few (p .table) (p .means .at-node), place-few (p .table) (member-at (p .t) (p .c) (p .table) (p .means) .0))
@@ -157,30 +164,16 @@ module _ (at single : ℕ) (s : List ℕ) (n : ℕ) (st nx leaves : List ℕ) wh
   apart-member p = record { t = p .t; table = p .table; below = find-lt (p .t) [] (single + 1) _ _ (member-at (p .t) (p .c) (p .table) (p .means) .1) }
 
   module _ (m : ℕ) (pm : ChildrenPost s st at m) where
-    apart-count : (t : Tree) (c : Change) → Table s t st nx n → (w : ApartMeans t at single c) → (m ≡ count (operands t c w)) × ((2 ≤ m) × (m ≤ 255))
-    apart-count t c tb w =
-        let e = pm .many t n (w .Ξ) (node (head #BInter (w .n) (w .vs)) (operands t c w)) (tb .framed) (w .at-node) in
-        let f = inter-few s n st nx t tb at (w .Ξ) (w .n) (w .vs) (operands t c w) (w .at-node) in
-        (e, (omega (arith, f .0), omega (arith, f .1)))
-
     pub apart-many : BuildPre (OfApart at single) s n st nx leaves → (2 ≤ m) × (m ≤ 255)
-    apart-many p = apart-count (p .t) (p .c) (p .table) (p .means) .1
+    apart-many p = inter-many s n st nx (p .t) (p .table) at _ _ _ _ (p .means .at-node) m pm
 
     pub apart-row : BuildPre (OfApart at single) s n st nx leaves → RowPre s n st nx (at + 1) m
-    apart-row p =
-        let w = p .means in
-        record {
-          t = p .t;
-          table = p .table;
-          Γ = under #BInter (w .vs) (w .Ξ);
-          ks = operands (p .t) (p .c) w;
-          row = inter-row s n st nx (p .t) (p .table) at (w .Ξ) (w .n) (w .vs) (operands (p .t) (p .c) w) (w .at-node);
-          many = apart-count (p .t) (p .c) (p .table) w .0;
-        }
+    apart-row p = inter-pre s n st nx (p .t) (p .table) at _ _ _ _ (p .means .at-node) m pm
 
     pub apart-built : (o₀ : List ℕ) (i₀ : ℕ) (o₁ : List ℕ) (i₁ : ℕ) → Puts o₀ i₀ o₁ i₁ (encNumber 2 #Not) → (o₂ : List ℕ) (i₂ : ℕ) → Puts o₁ i₁ o₂ i₂ (encNumber 2 #In)
         → (o₃ : List ℕ) (i₃ : ℕ) → CopyPost s n st nx (single + 1) o₂ i₂ o₃ i₃ → (o₄ : List ℕ) (i₄ : ℕ) → Puts o₃ i₃ o₄ i₄ (joinedBytes #BInter (m - 1))
         → (o₅ : List ℕ) (i₅ : ℕ) → RowPost s n st nx (at + 1) m (Besides single) o₄ i₄ o₅ i₅ → BuildPost (OfApart at single) s n st nx leaves o₀ i₀ o₅ i₅
+    unfolding lookup classOf formAt
     apart-built o₀ i₀ o₁ i₁ h₁ o₂ i₂ h₂ o₃ i₃ h₃ o₄ i₄ h₄ o₅ i₅ h₅ =
         record {
           puts = λ t c p new tb h w ans.
@@ -188,50 +181,36 @@ module _ (at single : ℕ) (s : List ℕ) (n : ℕ) (st nx leaves : List ℕ) wh
               let b : Tree = joined #BInter rest in
               let y = ap enc (new-is (one #Not (two #In (w .a) b)) new 37 p (sym (w .answer) ∙ ans)) in
               let r = inter-row s n st nx t tb at (w .Ξ) (w .n) (w .vs) (operands t c w) (w .at-node) in
-              let e = apart-count t c tb w .0 in
+              let e = inter-count s n st nx t tb at (w .Ξ) (w .n) (w .vs) (operands t c w) (w .at-node) m pm in
               let x₃ = h₃ .puts t _ (w .a) tb (member-at t c tb w .1) in
               let x₅ = puts-as o₄ i₄ o₅ i₅ _ _ (row-besides single (at + 1) (w .left) (many #SetExt (sole (w .a))) (w .right) (w .there))
               (h₅ .puts t (under #BInter (w .vs) (w .Ξ)) (operands t c w) tb r e) in
               let z : m - 1 ≡ count rest = omega (arith, count-append (w .left) (cons (many #SetExt (sole (w .a))) (w .right)), count-append (w .left) (w .right)) in
               let x₄ = puts-as o₃ i₃ o₄ i₄ _ _ (ap (joinedBytes #BInter) z) h₄ in
               let x = puts-then o₀ i₀ o₁ i₁ o₅ i₅ _ _ h₁ (puts-then o₁ i₁ o₂ i₂ o₅ i₅ _ _ h₂ (puts-then o₂ i₂ o₃ i₃ o₅ i₅ _ _ x₃ (puts-then o₃ i₃ o₄ i₄ o₅ i₅ _ _ x₄ x₅))) in
-              puts-as o₀ i₀ o₅ i₅ _ _ (sym (not-bytes (two #In (w .a) b) ∙ ap (λ (l : List ℕ). encNumber 2 #Not ++ l) (in-bytes (w .a) b ∙ ap (λ (l : List ℕ). encNumber 2 #In ++ (enc (w .a) ++ l)) (joined-bytes #BInter inter-bytes rest))) ∙ y) x);
+              puts-as o₀ i₀ o₅ i₅ _ _ (sym (not-bytes (two #In (w .a) b) ∙ ap (λ (l : List ℕ). encNumber 2 #Not ++ l) (two-bytes #In _ refl (w .a) b ∙ ap (λ (l : List ℕ). encNumber 2 #In ++ (enc (w .a) ++ l)) (joined-bytes #BInter inter-bytes rest))) ∙ y) x);
         }
 
 -- ---- build_within
 module _ (at : ℕ) (s : List ℕ) (n : ℕ) (st nx leaves : List ℕ) where
   pub within-placed : BuildPre (OfWithin at) s n st nx leaves → Placed s st at
-  within-placed p = record { t = p .t; n = n; framed = p .table .framed; below = find-lt (p .t) [] at _ _ (p .means .at-node) }
+  within-placed p = inter-placed s n st nx (p .t) (p .table) at _ _ _ _ (p .means .at-node)
 
   pub within-few : BuildPre (OfWithin at) s n st nx leaves → at < 2048
   within-few p = place-few (p .table) (p .means .at-node)
 
   module _ (m : ℕ) (pm : ChildrenPost s st at m) where
-    within-count : (t : Tree) (c : Change) → Table s t st nx n → (w : WithinMeans t at c) → (m ≡ count (w .ks)) × (m ≤ 255)
-    within-count t c tb w =
-        let e = pm .many t n (w .Ξ) (node (head #BInter (w .n) (w .vs)) (w .ks)) (tb .framed) (w .at-node) in
-        let f = inter-few s n st nx t tb at (w .Ξ) (w .n) (w .vs) (w .ks) (w .at-node) in
-        (e, omega (arith, f .1))
-
     pub within-many : BuildPre (OfWithin at) s n st nx leaves → m ≤ 255
-    within-many p = within-count (p .t) (p .c) (p .table) (p .means) .1
+    within-many p = inter-many s n st nx (p .t) (p .table) at _ _ _ _ (p .means .at-node) m pm .1
 
     pub within-row : BuildPre (OfWithin at) s n st nx leaves → RowPre s n st nx (at + 1) m
-    within-row p =
-        let w = p .means in
-        record {
-          t = p .t;
-          table = p .table;
-          Γ = under #BInter (w .vs) (w .Ξ);
-          ks = w .ks;
-          row = inter-row s n st nx (p .t) (p .table) at (w .Ξ) (w .n) (w .vs) (w .ks) (w .at-node);
-          many = within-count (p .t) (p .c) (p .table) w .0;
-        }
+    within-row p = inter-pre s n st nx (p .t) (p .table) at _ _ _ _ (p .means .at-node) m pm
 
     pub within-built : (o₀ : List ℕ) (i₀ : ℕ) (o₁ : List ℕ) (i₁ : ℕ) → Puts o₀ i₀ o₁ i₁ (encNumber 2 #SubsetEq) → (o₂ : List ℕ) (i₂ : ℕ) → Puts o₁ i₁ o₂ i₂ (joinedBytes #BInter m)
         → (o₃ : List ℕ) (i₃ : ℕ) → RowPost s n st nx (at + 1) m Minuend o₂ i₂ o₃ i₃ → (d : ℕ) → MinusRowPost s n st nx (at + 1) m d
         → (o₄ : List ℕ) (i₄ : ℕ) → Puts o₃ i₃ o₄ i₄ (joinedBytes #BUnion d)
         → (o₅ : List ℕ) (i₅ : ℕ) → RowPost s n st nx (at + 1) m Subtrahend o₄ i₄ o₅ i₅ → BuildPost (OfWithin at) s n st nx leaves o₀ i₀ o₅ i₅
+    unfolding lookup classOf formAt
     within-built o₀ i₀ o₁ i₁ h₁ o₂ i₂ h₂ o₃ i₃ h₃ d pd o₄ i₄ h₄ o₅ i₅ h₅ =
         record {
           puts = λ t c p new tb h w ans.
@@ -241,12 +220,12 @@ module _ (at : ℕ) (s : List ℕ) (n : ℕ) (st nx leaves : List ℕ) where
               let Γ = under #BInter (w .vs) (w .Ξ) in
               let y = ap enc (new-is (two #SubsetEq a b) new 38 p (sym (w .answer) ∙ ans)) in
               let r = inter-row s n st nx t tb at (w .Ξ) (w .n) (w .vs) ks (w .at-node) in
-              let e = within-count t c tb w .0 in
+              let e = inter-count s n st nx t tb at (w .Ξ) (w .n) (w .vs) ks (w .at-node) m pm in
               let x₂ = puts-as o₁ i₁ o₂ i₂ _ _ (ap (joinedBytes #BInter) (e ∙ sym (count-minuends ks))) h₂ in
               let x₃ = puts-as o₂ i₂ o₃ i₃ _ _ (row-minuends (at + 1) ks) (h₃ .puts t Γ ks tb r e) in
               let x₄ = puts-as o₃ i₃ o₄ i₄ _ _ (ap (joinedBytes #BUnion) (pd .counts t Γ ks tb r e)) h₄ in
               let x₅ = puts-as o₄ i₄ o₅ i₅ _ _ (row-subtrahends (at + 1) ks) (h₅ .puts t Γ ks tb r e) in
               let first = puts-as o₁ i₁ o₃ i₃ _ _ (sym (joined-bytes #BInter inter-bytes (minuends ks))) (puts-then o₁ i₁ o₂ i₂ o₃ i₃ _ _ x₂ x₃) in
               let second = puts-as o₃ i₃ o₅ i₅ _ _ (sym (joined-bytes #BUnion union-bytes (subtrahends ks))) (puts-then o₃ i₃ o₄ i₄ o₅ i₅ _ _ x₄ x₅) in
-              puts-as o₀ i₀ o₅ i₅ _ _ (sym (within-bytes a b) ∙ y) (puts-then o₀ i₀ o₁ i₁ o₅ i₅ _ _ h₁ (puts-then o₁ i₁ o₃ i₃ o₅ i₅ _ _ first second)));
+              puts-as o₀ i₀ o₅ i₅ _ _ (sym (two-bytes #SubsetEq _ refl a b) ∙ y) (puts-then o₀ i₀ o₁ i₁ o₅ i₅ _ _ h₁ (puts-then o₁ i₁ o₃ i₃ o₅ i₅ _ _ first second)));
         }

@@ -2,16 +2,13 @@
 -- Main results: copy-range, copy-done; the shares (besides-none .. subtrahend-none); row-none, row-first, row-rest, row-more; minus-none,
 -- minus-yes, minus-no; kept-none, kept-place, kept-rest, kept-more.
 use mathlib.Core.Path.{_≡_, refl, sym, ap, _∙_, subst}
-use mathlib.Core.Bool.{Bool, true, false}
 use mathlib.Core.List.{List, [], _∷_, _++_, append-nil}
 use Prim.Native.Nat.{ℕ, zero, suc, _+_, _-_, _≤_, _<_}
 use native.Mathlib.Omega.{arith}
 use lib.ListN.{length, getD, take, drop}
-use lib.Dec.{eqb}
 use borrow.Author.Tests.{eq-eqb, ne-eqb}
-use Rattle.frame.specs.Types.{Ty}
 use Rattle.frame.specs.Trees.{head, Tree, node, Forest, nil, cons, count, nodes, tagOf}
-use Rattle.frame.specs.Tags.{pick, expression, lookup, classOf, formAt}
+use Rattle.frame.specs.Tags.{expression, lookup, classOf, formAt}
 use Rattle.frame.specs.Encoding.{enc, encs}
 use Rattle.frame.specs.Places.{Ctx, under, found, find}
 use Rattle.frame.proofs.Splices.{find-some, find-lt}
@@ -24,7 +21,7 @@ use Rattle.emit.specs.Copied.{between}
 use Rattle.emit.proofs.Puts.{puts-nil, puts-then, puts-as, between-span}
 use Rattle.rewriter.specs.Decision.{At}
 use Rattle.rewriter.proofs.Shapes.{Double, double, place-few}
-use Rattle.build.specs.Rows.{CopyPost, shareOf, rowOf, ShareOfPost, RowAt, RowPre, RowPost, MinusRowPre, MinusRowPost, KeptPre, KeptPost}
+use Rattle.build.specs.Rows.{CopyPost, shareOf, rowOf, ShareOfPost, RowAt, RowPre, RowPost, MinusRowPost, KeptPre, KeptPost}
 use Rattle.build.specs.declared.rows.Share.{Share}
 use Rattle.build.specs.declared.rows.Share.the-variants.{Besides, Minuend, Subtrahend}
 use Rattle.build.proofs.Subtrees.{span-at}
@@ -183,38 +180,31 @@ module _ (s : List ℕ) (n : ℕ) (st nx : List ℕ) (c m : ℕ) where
       go (cons a ks) h = absurd (omega arith)
 
   module _ (some : m ≡ 0 → ⊥) (d : ℕ) (ed : d ≡ getD nx c 0) (r : ℕ) (pr : MinusRowPost s n st nx d (m - 1) r) (tag : ℕ) (pt : TagPost s st c tag) where
-    module _ (t : Tree) (Γ : Ctx) (ks : Forest) (tb : Table s t st nx n) (row : RowAt t c Γ ks) (em : m ≡ count ks) where
-      rest-count : (w : Tree) (ls : Forest) → ks ≡ cons w ls → RowAt t (getD nx c 0) Γ ls → m - 1 ≡ count ls → r ≡ count (subtrahends ls)
-      rest-count w ls e kids el = pr .counts t Γ ls tb (rw ed kids) el
+    -- b counts the first child with the others
+    counted : (b : ℕ) → b ≤ r + 1
+        → ((t : Tree) (Γ : Ctx) (w : Tree) → Table s t st nx n → find t [] c ≡ found Γ w → (ls : Forest) → r + count (withSubtrahend (minusOf w) ls) ≡ b + count ls)
+        → MinusRowPost s n st nx c m b
+    unfolding subtrahends
+    counted b l h =
+        record {
+          counts = λ t Γ ks tb row em.
+              (let y = split-row some t Γ ks tb row em in
+              let ls = subtrahends (y .1 .0) in
+              let e : r ≡ count ls = pr .counts t Γ (y .1 .0) tb (rw ed (y .1 .1 .1 .1 .0)) (y .1 .1 .1 .1 .1 .0) in
+              let z : count (subtrahends ks) ≡ count (withSubtrahend (minusOf (y .0)) ls) = ap (λ (l : Forest). count (subtrahends l)) (y .1 .1 .0) in
+              let k : r + count (withSubtrahend (minusOf (y .0)) ls) ≡ b + count ls = h t Γ (y .0) tb (y .1 .1 .1 .0) ls in
+              omega arith);
+          few = omega (arith, pr .few);
+        }
 
     pub minus-yes : tag ≡ 213 → MinusRowPost s n st nx c m (r + 1)
-    unfolding subtrahends
-    minus-yes key =
-        record {
-          counts = λ t Γ ks tb row em.
-              (let y = split-row some t Γ ks tb row em in
-              let w = y .0 in
-              let ls = y .1 .0 in
-              let e = rest-count t Γ ks tb row em w ls (y .1 .1 .0) (y .1 .1 .1 .1 .0) (y .1 .1 .1 .1 .1 .0) in
-              let dd = minus-double w (place-sorted s t st n (tb .framed) c Γ w (y .1 .1 .1 .0)) (sym (pt .tag t n Γ w (tb .framed) (y .1 .1 .1 .0)) ∙ key) in
-              let z : count (subtrahends ks) ≡ count (cons (dd .b) (subtrahends ls)) = ap (λ (l : Forest). count (subtrahends l)) (y .1 .1 .0) ∙ ap (λ (u : Tree). count (withSubtrahend (minusOf u) (subtrahends ls))) (dd .is) in
-              sym (z ∙ omega arith));
-          few = omega (arith, pr .few);
-        }
+    minus-yes key = counted (r + 1) (omega arith) (λ t Γ w tb f ls.
+        let d = minus-double w (place-sorted s t st n (tb .framed) c Γ w f) (sym (pt .tag t n Γ w (tb .framed) f) ∙ key) in
+        let z : count (withSubtrahend (minusOf w) ls) ≡ count (cons (d .b) ls) = ap (λ (u : Tree). count (withSubtrahend (minusOf u) ls)) (d .is) in
+        omega arith)
 
     pub minus-no : (tag ≡ 213 → ⊥) → MinusRowPost s n st nx c m r
-    unfolding subtrahends
-    minus-no h =
-        record {
-          counts = λ t Γ ks tb row em.
-              (let y = split-row some t Γ ks tb row em in
-              let w = y .0 in
-              let ls = y .1 .0 in
-              let e = rest-count t Γ ks tb row em w ls (y .1 .1 .0) (y .1 .1 .1 .1 .0) (y .1 .1 .1 .1 .1 .0) in
-              let z = not-minus w (λ i. h (pt .tag t n Γ w (tb .framed) (y .1 .1 .1 .0) ∙ i)) .1 (subtrahends ls) in
-              e ∙ sym (ap (λ (l : Forest). count (subtrahends l)) (y .1 .1 .0) ∙ ap count z));
-          few = omega (arith, pr .few);
-        }
+    minus-no h = counted r (omega arith) (λ t Γ w tb f ls. ap (λ (l : Forest). r + count l) (not-minus w (λ i. h (pt .tag t n Γ w (tb .framed) f ∙ i)) .1 ls))
 
 -- ---- kept children
 take-next : (kept : List ℕ) (i m : ℕ) → i < m → i < length kept → take (m - i) (drop i kept) ≡ getD kept i 0 ∷ take (m - (i + 1)) (drop (i + 1) kept)

@@ -1,10 +1,10 @@
 -- The ways out of the functions of src/subtree.rt.
 -- Main results: fill-row-none .. fill-row-more; many-byte, joined-one, joined-more; and for each kind of decision what the code asks on its way
 -- and what it has written at the end.
-use mathlib.Core.Path.{_≡_, refl, sym, ap, ap₂, _∙_, subst}
-use mathlib.Core.Bool.{Bool, true, false, _&&_}
-use mathlib.Core.List.{List, [], _∷_, _++_, append-assoc, append-nil}
-use Prim.Native.Nat.{ℕ, zero, suc, _+_, _-_, _%_, _≤_, _<_}
+use mathlib.Core.Path.{_≡_, refl, sym, ap, ap₂, _∙_}
+use mathlib.Core.Bool.{Bool, true, false}
+use mathlib.Core.List.{List, [], _∷_, _++_, append-assoc}
+use Prim.Native.Nat.{ℕ, zero, suc, _+_, _-_, _≤_, _<_}
 use native.Mathlib.Omega.{arith}
 use lib.ListN.{length, getD, take}
 use lib.Seq.{length-take-le}
@@ -15,7 +15,7 @@ use Rattle.frame.specs.Trees.{head, Tree, node, Forest, nil, cons, count, tagOf
 use Rattle.frame.specs.Tags.{pick, Sort, predicate, Layout, counted, formOf, numberOf, inRange}
 use Rattle.frame.specs.Encoding.{encNumber, enc, encs}
 use Rattle.frame.specs.WellFormed.{Wf}
-use Rattle.frame.specs.Places.{Ctx, under, found, find, findIn}
+use Rattle.frame.specs.Places.{Ctx, under, found, find}
 use Rattle.frame.proofs.SameTrees.{both-true}
 use Rattle.frame.proofs.Splices.{find-lt}
 use Rattle.frame.proofs.Within.{kids-of}
@@ -27,8 +27,8 @@ use Rattle.emit.proofs.Puts.{puts-nil, puts-then, puts-as}
 use Rattle.emit.proofs.Joins.{counted-bytes}
 use Rattle.rewriter.specs.Decision.{At, joint, eachFilled, EachMeans}
 use Rattle.rewriter.proofs.Shapes.{place-few}
-use Rattle.build.specs.Operands.{Held, FillAt, FillPre, FillPost}
-use Rattle.build.specs.Rows.{RowAt, KeptPre, KeptPost}
+use Rattle.build.specs.Operands.{FillAt, FillPre, FillPost}
+use Rattle.build.specs.Rows.{KeptPre, KeptPost}
 use Rattle.build.specs.Subtree.{manyBytes, joinedBytes, BinderAt, FillRowPre, FillRowPost, BuildPre, BuildPost, OfEach, OfKept}
 use Rattle.build.proofs.RowTurns.{split-row}
 

@@ -2,19 +2,19 @@
 -- Main results: leaves-found, held-typed (an accepted tree's subtree is typed, by a type of at most 64 bytes), span-at, binders-at.
 use mathlib.Core.Path.{_≡_, refl, sym, ap, _∙_, subst}
 use mathlib.Core.Bool.{Bool, true, false}
-use mathlib.Core.List.{List, [], _∷_, _++_, append-assoc}
-use Prim.Native.Nat.{ℕ, zero, suc, _+_, _-_, _*_, _/_, _≤_, _<_}
+use mathlib.Core.List.{List, [], _∷_, _++_}
+use Prim.Native.Nat.{ℕ, zero, suc, _+_, _-_, _/_, _≤_, _<_}
 use native.Mathlib.Omega.{arith}
 use lib.ListN.{length, getD, List·getD-append}
 use lib.Seq.{getD-append-add}
 use lib.Dec.{ltb}
-use borrow.Author.Tests.{ltb-true, ltb-false}
+use borrow.Author.Tests.{ltb-false}
 use Rattle.frame.specs.Types.{Ty}
-use Rattle.frame.specs.Trees.{Head, head, Tree, node, Forest, nil, cons, count, nodes, nodesIn}
-use Rattle.frame.specs.Tags.{pick, Sort, predicate, Layout, these, payload, counted, binding, formOf, width, numberOf}
+use Rattle.frame.specs.Trees.{Head, head, Tree, node, Forest, nil, cons, count, nodes}
+use Rattle.frame.specs.Tags.{pick, predicate, Layout, these, payload, counted, binding, formOf, width, numberOf}
 use Rattle.frame.specs.Encoding.{encNumber, encTy, encTys, encHead, enc, encs, starts, startsIn}
 use Rattle.frame.specs.Spans.{Spans}
-use Rattle.frame.specs.Places.{Ctx, under, Found, found, absent, find, findIn}
+use Rattle.frame.specs.Places.{Ctx, under, found, find, findIn}
 use Rattle.frame.proofs.AtPlace.{absent-not}
 use Rattle.frame.proofs.Extents.{starts-length}
 use Rattle.frame.proofs.Inversion.{true-not}

@@ -4,9 +4,9 @@ use mathlib.Core.Path.{_≡_, refl, sym, ap, _∙_}
 use mathlib.Core.Bool.{Bool, true, false, not, _||_, Bool·beq, So, false≢true}
 use Prim.Native.Nat.{ℕ}
 use Rattle.frame.specs.Types.{Ty, bool, int}
-use Rattle.frame.specs.Trees.{Tree, Forest, leaf, two}
+use Rattle.frame.specs.Trees.{Tree, Forest, leaf, two, pair}
 use Rattle.frame.specs.Tags.{predicate, classOf, lookup, formAt}
-use Rattle.frame.specs.Operators.{#Lt, #Le, #Gt, #Ge, #True, #False}
+use Rattle.frame.specs.Operators.{#BTrue, #BFalse, #Lt, #Le, #Gt, #Ge, #True, #False, #Equal, #Not}
 use Rattle.frame.specs.Places.{Ctx}
 use Rattle.typing.specs.Typing.{typeOf}
 use Rattle.typing.specs.Accepted.{Accepted}
@@ -17,6 +17,7 @@ use Rattle.meaning.specs.Meaning.{Interpretation, Vals, truth, val, leIn
 use Rattle.meaning.specs.Premises.{SingleIntegers, Alive}
 use Rattle.meaning.proofs.Lists.{so-imp, so-all, not-not, or-true, or-false, beq-true, beq-false}
 use Rattle.meaning.proofs.Sound.{Formula, Keeps, keeps-truth, accepted-formula}
+use Rattle.meaning.proofs.Kit.{NoInter}
 use Rattle.meaning.proofs.Kit as kit
 use Rattle.meaning.proofs.Many as many
 
@@ -75,22 +76,6 @@ module _ (I : Interpretation) (σ : ℕ → Ty) (Γ : Ctx) where
   abbrev Truth : Vals I Γ → Tree → Bool
   Truth ρ t = truth I (means I t Γ) ρ
 
-  pub top-single : SingleIntegers ⊤ Γ
-  unfolding SingleIntegers typeOf classOf lookup formAt
-  top-single = (tt, tt, tt, tt)
-
-  pub top-alive : Alive I ⊤ Γ
-  unfolding Alive opOf opAt classOf lookup
-  top-alive = (tt, tt, tt)
-
-  pub bottom-single : SingleIntegers ⊥ᵖ Γ
-  unfolding SingleIntegers typeOf classOf lookup formAt
-  bottom-single = (tt, tt, tt, tt)
-
-  pub bottom-alive : Alive I ⊥ᵖ Γ
-  unfolding Alive opOf opAt classOf lookup
-  bottom-alive = (tt, tt, tt)
-
   -- ---- n is the opposite of p
   opposite-truth : {p n : Tree} → Opposite p n → (ρ : Vals I Γ) → Truth ρ n ≡ not (Truth ρ p)
   unfolding means holds opOf opAt classOf lookup
@@ -114,25 +99,29 @@ module _ (I : Interpretation) (σ : ℕ → Ty) (Γ : Ctx) where
 
   -- ---- ¬ of an order
   module _ (a b : Tree) where
+    -- h is the order that g is not
+    order-keeps : (g h : ℕ) → Formula (leaf h) → NoInter h → ((ρ : Vals I Γ) → not (Truth ρ (two g a b)) ≡ Truth ρ (two h a b)) → SingleIntegers (¬ᵖ (two g a b)) Γ
+        → Keeps I Γ (¬ᵖ (two g a b)) (two h a b)
+    unfolding SingleIntegers Alive opOf opAt classOf lookup formAt
+    order-keeps g h f n t s =
+        keeps-truth I (¬ᵖ (two g a b)) (two h a b) Γ (refl, refl) f (kit.many-single I Γ h f (pair a b) (kit.kids-single I Γ g (pair a b) (s .3 .0)))
+        (λ l. kit.many-alive I Γ h n (pair a b) (kit.kids-alive I Γ g (pair a b) (l .2 .0))) (λ l ρ. kit.not-truth I Γ (two g a b) ρ ∙ t ρ)
+
     pub not-le-keeps : SingleIntegers (¬ᵖ (two #Le a b)) Γ → Keeps I Γ (¬ᵖ (two #Le a b)) (two #Gt a b)
-    unfolding SingleIntegers Alive typeOf means holds opOf opAt classOf lookup formAt
-    not-le-keeps s = keeps-truth I (¬ᵖ (two #Le a b)) (two #Gt a b) Γ (refl, refl) (refl, refl) (tt, tt, tt, s .3 .0 .3) (λ l. (tt, tt, l .2 .0 .2)) (λ l ρ. refl)
+    unfolding means holds opOf opAt classOf lookup formAt
+    not-le-keeps = order-keeps #Le #Gt (refl, refl) (refl, refl) (λ ρ. refl)
 
     pub not-ge-keeps : SingleIntegers (¬ᵖ (two #Ge a b)) Γ → Keeps I Γ (¬ᵖ (two #Ge a b)) (two #Lt a b)
-    unfolding SingleIntegers Alive typeOf means holds opOf opAt classOf lookup formAt
-    not-ge-keeps s = keeps-truth I (¬ᵖ (two #Ge a b)) (two #Lt a b) Γ (refl, refl) (refl, refl) (tt, tt, tt, s .3 .0 .3) (λ l. (tt, tt, l .2 .0 .2)) (λ l ρ. refl)
+    unfolding means holds opOf opAt classOf lookup formAt
+    not-ge-keeps = order-keeps #Ge #Lt (refl, refl) (refl, refl) (λ ρ. refl)
 
     pub not-gt-keeps : SingleIntegers (¬ᵖ (two #Gt a b)) Γ → Keeps I Γ (¬ᵖ (two #Gt a b)) (two #Le a b)
-    unfolding SingleIntegers Alive typeOf means holds opOf opAt classOf lookup formAt
-    not-gt-keeps s =
-        keeps-truth I (¬ᵖ (two #Gt a b)) (two #Le a b) Γ (refl, refl) (refl, refl) (tt, tt, tt, s .3 .0 .3) (λ l. (tt, tt, l .2 .0 .2))
-        (λ l ρ. not-not (leInt (val I (means I a Γ) ρ int) (val I (means I b Γ) ρ int)))
+    unfolding means holds opOf opAt classOf lookup formAt
+    not-gt-keeps = order-keeps #Gt #Le (refl, refl) (refl, refl) (λ ρ. not-not (leInt (val I (means I a Γ) ρ int) (val I (means I b Γ) ρ int)))
 
     pub not-lt-keeps : SingleIntegers (¬ᵖ (two #Lt a b)) Γ → Keeps I Γ (¬ᵖ (two #Lt a b)) (two #Ge a b)
-    unfolding SingleIntegers Alive typeOf means holds opOf opAt classOf lookup formAt
-    not-lt-keeps s =
-        keeps-truth I (¬ᵖ (two #Lt a b)) (two #Ge a b) Γ (refl, refl) (refl, refl) (tt, tt, tt, s .3 .0 .3) (λ l. (tt, tt, l .2 .0 .2))
-        (λ l ρ. not-not (leInt (val I (means I b Γ) ρ int) (val I (means I a Γ) ρ int)))
+    unfolding means holds opOf opAt classOf lookup formAt
+    not-lt-keeps = order-keeps #Lt #Ge (refl, refl) (refl, refl) (λ ρ. not-not (leInt (val I (means I b Γ) ρ int) (val I (means I a Γ) ρ int)))
 
   -- ---- ¬ of E = FALSE, E = TRUE
   -- x and y are the two truth values
@@ -168,13 +157,13 @@ module _ (I : Interpretation) (σ : ℕ → Ty) (Γ : Ctx) where
     right-keeps a s =
         let h = a .kids .0 .fits in
         let k = f .type in
-        keeps-truth I (¬ᵖ (e ≐ x)) (e ≐ y) Γ (refl, refl) (refl, refl) (kit.equal-single I Γ e y (s .3 .0 .3 .0) (f .single)) (λ l. kit.equal-alive I Γ e y (l .2 .0 .2 .0) (f .alive))
+        keeps-truth I (¬ᵖ (e ≐ x)) (e ≐ y) Γ (refl, refl) (refl, refl) (kit.two-single I Γ #Equal (refl, refl) e y (s .3 .0 .3 .0) (f .single)) (λ l. kit.two-alive I Γ #Equal (refl, refl) e y (l .2 .0 .2 .0) (f .alive))
         (λ l ρ. kit.not-truth I Γ (e ≐ x) ρ ∙ right-truth (cc) ρ)
 
     left-keeps : typeOf y Γ ≡ bool → SingleIntegers (¬ᵖ (x ≐ e)) Γ → Keeps I Γ (¬ᵖ (x ≐ e)) (y ≐ e)
     unfolding SingleIntegers Alive opOf opAt classOf lookup formAt
     left-keeps h s =
-        keeps-truth I (¬ᵖ (x ≐ e)) (y ≐ e) Γ (refl, refl) (refl, refl) (kit.equal-single I Γ y e (f .single) (s .3 .0 .3 .1 .0)) (λ l. kit.equal-alive I Γ y e (f .alive) (l .2 .0 .2 .1 .0))
+        keeps-truth I (¬ᵖ (x ≐ e)) (y ≐ e) Γ (refl, refl) (refl, refl) (kit.two-single I Γ #Equal (refl, refl) y e (f .single) (s .3 .0 .3 .1 .0)) (λ l. kit.two-alive I Γ #Equal (refl, refl) y e (f .alive) (l .2 .0 .2 .1 .0))
         (λ l ρ. kit.not-truth I Γ (x ≐ e) ρ ∙ left-truth h ρ)
 
   module _ (e : Tree) where
@@ -199,15 +188,15 @@ module _ (I : Interpretation) (σ : ℕ → Ty) (Γ : Ctx) where
 
     pub imp-bottom-left-keeps : Keeps I Γ (⊥ᵖ ⇒ p) ⊤
     unfolding means holds opOf opAt classOf lookup formAt
-    imp-bottom-left-keeps = keeps-truth I (⊥ᵖ ⇒ p) ⊤ Γ (refl, refl) (refl, refl) top-single (λ l. top-alive) (λ l ρ. refl)
+    imp-bottom-left-keeps = keeps-truth I (⊥ᵖ ⇒ p) ⊤ Γ (refl, refl) (refl, refl) (kit.leaf-single I Γ #BTrue (refl, refl)) (λ l. kit.leaf-alive I Γ #BTrue (refl, refl)) (λ l ρ. refl)
 
     pub imp-top-right-keeps : Keeps I Γ (p ⇒ ⊤) ⊤
     unfolding means holds opOf opAt classOf lookup formAt
-    imp-top-right-keeps = keeps-truth I (p ⇒ ⊤) ⊤ Γ (refl, refl) (refl, refl) top-single (λ l. top-alive) (λ l ρ. or-true (not (Truth ρ p)))
+    imp-top-right-keeps = keeps-truth I (p ⇒ ⊤) ⊤ Γ (refl, refl) (refl, refl) (kit.leaf-single I Γ #BTrue (refl, refl)) (λ l. kit.leaf-alive I Γ #BTrue (refl, refl)) (λ l ρ. or-true (not (Truth ρ p)))
 
     pub imp-self-keeps : Keeps I Γ (p ⇒ p) ⊤
     unfolding means holds opOf opAt classOf lookup formAt
-    imp-self-keeps = keeps-truth I (p ⇒ p) ⊤ Γ (refl, refl) (refl, refl) top-single (λ l. top-alive) (λ l ρ. imp-self (Truth ρ p))
+    imp-self-keeps = keeps-truth I (p ⇒ p) ⊤ Γ (refl, refl) (refl, refl) (kit.leaf-single I Γ #BTrue (refl, refl)) (λ l. kit.leaf-alive I Γ #BTrue (refl, refl)) (λ l ρ. imp-self (Truth ρ p))
 
     pub imp-not-left-keeps : Accepted σ (¬ᵖ p ⇒ p) Γ predicate → SingleIntegers (¬ᵖ p ⇒ p) Γ → Keeps I Γ (¬ᵖ p ⇒ p) p
     unfolding Accepted SingleIntegers Alive means holds opOf opAt classOf lookup formAt
@@ -233,7 +222,7 @@ module _ (I : Interpretation) (σ : ℕ → Ty) (Γ : Ctx) where
   pub imp-among-keeps : (ps : Forest) (q : Tree) → Among q ps → Keeps I Γ (⋀ ps ⇒ q) ⊤
   unfolding classOf lookup formAt
   imp-among-keeps ps q i =
-      keeps-truth I (⋀ ps ⇒ q) ⊤ Γ (refl, refl) (refl, refl) top-single (λ l. top-alive)
+      keeps-truth I (⋀ ps ⇒ q) ⊤ Γ (refl, refl) (refl, refl) (kit.leaf-single I Γ #BTrue (refl, refl)) (λ l. kit.leaf-alive I Γ #BTrue (refl, refl))
       (λ l ρ. kit.implies-truth I Γ (⋀ ps) q ρ ∙ so-imp (Truth ρ (⋀ ps)) (Truth ρ q) .1 (among-true ps q i ρ) ∙ sym (top-truth ρ))
     where
       top-truth : (ρ : Vals I Γ) → truth I (means I ⊤ Γ) ρ ≡ true
@@ -242,7 +231,7 @@ module _ (I : Interpretation) (σ : ℕ → Ty) (Γ : Ctx) where
   pub imp-opposite-keeps : (ps : Forest) (q m : Tree) → Opposite q m → Among m ps → SingleIntegers (⋀ ps ⇒ q) Γ → Keeps I Γ (⋀ ps ⇒ q) (¬ᵖ (⋀ ps))
   unfolding SingleIntegers Alive opOf opAt classOf lookup formAt
   imp-opposite-keeps ps q m o i s =
-      keeps-truth I (⋀ ps ⇒ q) (¬ᵖ (⋀ ps)) Γ (refl, refl) (refl, refl) (kit.not-single I Γ (⋀ ps) (s .3 .0)) (λ l. kit.not-alive I Γ (⋀ ps) (l .2 .0))
+      keeps-truth I (⋀ ps ⇒ q) (¬ᵖ (⋀ ps)) Γ (refl, refl) (refl, refl) (kit.one-single I Γ #Not (refl, refl) (⋀ ps) (s .3 .0)) (λ l. kit.one-alive I Γ #Not (refl, refl) (⋀ ps) (l .2 .0))
       (λ l ρ. kit.implies-truth I Γ (⋀ ps) q ρ ∙ imp-apart (Truth ρ (⋀ ps)) (Truth ρ q) (λ h. rw (opposite-truth o ρ) at (among-true ps m i ρ h)) ∙ sym (kit.not-truth I Γ (⋀ ps) ρ))
 
   -- ---- ⇔
@@ -257,15 +246,15 @@ module _ (I : Interpretation) (σ : ℕ → Ty) (Γ : Ctx) where
 
     pub eqv-self-keeps : Keeps I Γ (p ⇔ p) ⊤
     unfolding means holds opOf opAt classOf lookup formAt
-    eqv-self-keeps = keeps-truth I (p ⇔ p) ⊤ Γ (refl, refl) (refl, refl) top-single (λ l. top-alive) (λ l ρ. beq-self (Truth ρ p))
+    eqv-self-keeps = keeps-truth I (p ⇔ p) ⊤ Γ (refl, refl) (refl, refl) (kit.leaf-single I Γ #BTrue (refl, refl)) (λ l. kit.leaf-alive I Γ #BTrue (refl, refl)) (λ l ρ. beq-self (Truth ρ p))
 
     pub eqv-not-right-keeps : Keeps I Γ (p ⇔ ¬ᵖ p) ⊥ᵖ
     unfolding means holds opOf opAt classOf lookup formAt
-    eqv-not-right-keeps = keeps-truth I (p ⇔ ¬ᵖ p) ⊥ᵖ Γ (refl, refl) (refl, refl) bottom-single (λ l. bottom-alive) (λ l ρ. beq-not-right (Truth ρ p))
+    eqv-not-right-keeps = keeps-truth I (p ⇔ ¬ᵖ p) ⊥ᵖ Γ (refl, refl) (refl, refl) (kit.leaf-single I Γ #BFalse (refl, refl)) (λ l. kit.leaf-alive I Γ #BFalse (refl, refl)) (λ l ρ. beq-not-right (Truth ρ p))
 
     pub eqv-not-left-keeps : Keeps I Γ (¬ᵖ p ⇔ p) ⊥ᵖ
     unfolding means holds opOf opAt classOf lookup formAt
-    eqv-not-left-keeps = keeps-truth I (¬ᵖ p ⇔ p) ⊥ᵖ Γ (refl, refl) (refl, refl) bottom-single (λ l. bottom-alive) (λ l ρ. beq-not-left (Truth ρ p))
+    eqv-not-left-keeps = keeps-truth I (¬ᵖ p ⇔ p) ⊥ᵖ Γ (refl, refl) (refl, refl) (kit.leaf-single I Γ #BFalse (refl, refl)) (λ l. kit.leaf-alive I Γ #BFalse (refl, refl)) (λ l ρ. beq-not-left (Truth ρ p))
 
     -- ---- ¬
     pub not-not-keeps : Accepted σ (¬ᵖ (¬ᵖ p)) Γ predicate → SingleIntegers (¬ᵖ (¬ᵖ p)) Γ → Keeps I Γ (¬ᵖ (¬ᵖ p)) p
@@ -287,8 +276,8 @@ module _ (I : Interpretation) (σ : ℕ → Ty) (Γ : Ctx) where
 
   pub not-top-keeps : Keeps I Γ (¬ᵖ ⊤) ⊥ᵖ
   unfolding means holds opOf opAt classOf lookup formAt
-  not-top-keeps = keeps-truth I (¬ᵖ ⊤) ⊥ᵖ Γ (refl, refl) (refl, refl) bottom-single (λ l. bottom-alive) (λ l ρ. refl)
+  not-top-keeps = keeps-truth I (¬ᵖ ⊤) ⊥ᵖ Γ (refl, refl) (refl, refl) (kit.leaf-single I Γ #BFalse (refl, refl)) (λ l. kit.leaf-alive I Γ #BFalse (refl, refl)) (λ l ρ. refl)
 
   pub not-bottom-keeps : Keeps I Γ (¬ᵖ ⊥ᵖ) ⊤
   unfolding means holds opOf opAt classOf lookup formAt
-  not-bottom-keeps = keeps-truth I (¬ᵖ ⊥ᵖ) ⊤ Γ (refl, refl) (refl, refl) top-single (λ l. top-alive) (λ l ρ. refl)
+  not-bottom-keeps = keeps-truth I (¬ᵖ ⊥ᵖ) ⊤ Γ (refl, refl) (refl, refl) (kit.leaf-single I Γ #BTrue (refl, refl)) (λ l. kit.leaf-alive I Γ #BTrue (refl, refl)) (λ l ρ. refl)

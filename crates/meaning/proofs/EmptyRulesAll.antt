@@ -15,7 +15,7 @@ use Rattle.rules.proofs.Nodes.{Has, within, opened, top}
 use Rattle.rules.proofs.Nodes as nodes
 use Rattle.rules.proofs.NewNodes.{over-cap}
 use Rattle.rules.proofs.OldNodes.{Operands, of-pow, of-pow1, of-union, of-dom, of-ran, of-converse, of-single, of-minus, of-times, of-srel, of-strel, of-domres, of-domsub, of-ranres, of-ransub, of-image, of-dprod, of-pprod, of-fcomp, of-bcomp, of-cap, of-cup, of-ovr, of-qunion}
-use Rattle.rules.proofs.Operands.{subtracted-same, each-at, minuends}
+use Rattle.rules.proofs.Operands.{subtracted-same, every-mid, minuends}
 use Rattle.meaning.specs.Meaning.{Interpretation}
 use Rattle.meaning.specs.Premises.{SingleIntegers}
 use Rattle.meaning.proofs.Many.{Each, each-alike}
@@ -45,7 +45,7 @@ module _ (I : Interpretation) (σ : ℕ → Ty) (Γ : Ctx) where
   single-rule a left right h s =
       let ks = append left (cons (ext (sole a)) right) in
       let o = of-cap ks h in
-      cap-rule.single-emptied I σ Γ a left right (o .0) (cap-type ks (o .0) (o .1)) (of-single (each-at σ Γ expression (pow (o .0)) left (ext (sole a)) right (o .1 .each)) .type) s
+      cap-rule.single-emptied I σ Γ a left right (o .0) (cap-type ks (o .0) (o .1)) (of-single (every-mid (λ k. Has σ Γ k (pow (o .0))) left (ext (sole a)) right (o .1 .each) .0) .type) s
 
   subtracted-rule : (ks ls ms : Forest) → Subtracted ks ls ms → {t : Ty} → Has σ Γ (⋂ ks) t → SingleIntegers (⋂ ks) Γ → Emptied I σ Γ (⋂ ks) (over #BInter ls ⊆ over #BUnion ms)
   subtracted-rule ks ls ms d h s =

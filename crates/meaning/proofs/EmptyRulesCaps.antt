@@ -4,12 +4,13 @@ use mathlib.Core.Path.{_≡_, refl, sym, ap, ap₂, _∙_, fun-ext}
 use mathlib.Core.Bool.{Bool, true, false, not, _&&_, _||_}
 use Prim.Native.Nat.{ℕ}
 use Rattle.frame.specs.Types.{Ty, pow}
-use Rattle.frame.specs.Trees.{Tree, Forest, nil, cons, sole, append}
+use Rattle.frame.specs.Trees.{Tree, Forest, nil, cons, two, many, sole, append}
 use Rattle.frame.specs.Tags.{classOf, lookup, formAt}
-use Rattle.frame.specs.Operators.{#BUnion, #BInter}
+use Rattle.frame.specs.Operators.{#SetMinus, #BUnion, #BInter, #In, #Not}
 use Rattle.frame.specs.Places.{Ctx}
-use Rattle.typing.specs.Typing.{typeOf}
+use Rattle.typing.specs.Typing.{ty, typeOf, typesIn}
 use Rattle.rules.specs.Equations.{¬ᵖ, _∈ᵖ_, _⊆_, ext, ⋂, over, Subtracted, none, minus, other}
+use Rattle.rules.proofs.Operands.{every-mid, minuends-every, subtrahends-every}
 use Rattle.meaning.specs.Lists.{any, all}
 use Rattle.meaning.specs.Operations.{opAt, opOf}
 use Rattle.meaning.specs.Meaning.{Interpretation, Vals, Val, Den, val, setOf, some, equals, valueOf, means, meansAll}
@@ -17,37 +18,25 @@ use Rattle.meaning.specs.Premises.{NoInt, SingleIntegers, SingleIntegers
 use Rattle.meaning.proofs.Lists.{and-true, or-false, and-assoc}
 use Rattle.meaning.proofs.Sets.{within-is}
 use Rattle.meaning.proofs.EmptySetsMore as more
+use Rattle.meaning.proofs.Kit.{NoInter}
 use Rattle.meaning.proofs.Kit as kit
-use Rattle.meaning.proofs.Many.{append-means, append-single, append-alive, left-single, right-single, left-alive, right-alive}
+use Rattle.meaning.proofs.Many.{append-means, single-each, single-all, alive-each, alive-all}
 use Rattle.meaning.proofs.Emptied.{Emptied, emptied}
 use Rattle.meaning.proofs.EmptyRulesKit.{within-emptied}
 
 -- ---- ∩ and ∪ over the operands that are left
-module _ (Γ : Ctx) where
-  cap-over-single : (ks : Forest) → SingleIntegersIn ks Γ → SingleIntegers (over #BInter ks) Γ
-  unfolding SingleIntegers typeOf classOf lookup formAt
-  cap-over-single nil s = (tt, tt, tt, tt)
-  cap-over-single (cons a nil) s = s .0
-  cap-over-single (cons a (cons b ks)) s = (tt, kit.single-type a Γ (s .0), tt, s)
-
-  cup-over-single : (ks : Forest) → SingleIntegersIn ks Γ → SingleIntegers (over #BUnion ks) Γ
-  unfolding SingleIntegers typeOf classOf lookup formAt
-  cup-over-single nil s = (tt, tt, tt, tt)
-  cup-over-single (cons a nil) s = s .0
-  cup-over-single (cons a (cons b ks)) s = (tt, kit.single-type a Γ (s .0), tt, s)
+over-single : (Γ : Ctx) (g : ℕ) → ((ks : Forest) → typeOf (many g ks) Γ ≡ ty 0 (typesIn ks Γ)) → (ks : Forest) → SingleIntegersIn ks Γ → SingleIntegers (over g ks) Γ
+unfolding SingleIntegers typeOf
+over-single Γ g h nil s = kit.node-single Γ g nil (rw (h nil) tt) tt
+over-single Γ g h (cons a nil) s = s .0
+over-single Γ g h (cons a (cons b ks)) s = kit.node-single Γ g (cons a (cons b ks)) (rw (h (cons a (cons b ks))) (kit.single-type a Γ (s .0))) s
 
 module _ (I : Interpretation) (Γ : Ctx) where
-  cap-over-alive : (ks : Forest) → AliveAll I ks Γ → Alive I (over #BInter ks) Γ
-  unfolding Alive opOf opAt classOf lookup
-  cap-over-alive nil s = (tt, tt, tt)
-  cap-over-alive (cons a nil) s = s .0
-  cap-over-alive (cons a (cons b ks)) s = (tt, tt, s)
-
-  cup-over-alive : (ks : Forest) → AliveAll I ks Γ → Alive I (over #BUnion ks) Γ
-  unfolding Alive opOf opAt classOf lookup
-  cup-over-alive nil s = (tt, tt, tt)
-  cup-over-alive (cons a nil) s = s .0
-  cup-over-alive (cons a (cons b ks)) s = (tt, tt, s)
+  over-alive : (g : ℕ) → NoInter g → (ks : Forest) → AliveAll I ks Γ → Alive I (over g ks) Γ
+  unfolding Alive
+  over-alive g f nil a = kit.many-alive I Γ g f nil tt
+  over-alive g f (cons k nil) a = a .0
+  over-alive g f (cons k (cons l ks)) a = kit.many-alive I Γ g f (cons k (cons l ks)) a
 
   module _ (ρ : Vals I Γ) (u : Ty) (x : Val I u) where
     cap-is : (ks : Forest) → setOf I (means I (⋂ ks) Γ) ρ u x ≡ all (λ k. setOf I k ρ u x) (meansAll I ks Γ)
@@ -88,44 +77,19 @@ module _ (I : Interpretation) (σ : ℕ → Ty) (Γ : Ctx) (a : Tree) (left righ
 
   pub single-emptied : (u : Ty) → typeOf (⋂ (append left (cons (ext (sole a)) right))) Γ ≡ pow u → typeOf a Γ ≡ u → SingleIntegers (⋂ (append left (cons (ext (sole a)) right))) Γ
       → Emptied I σ Γ (⋂ (append left (cons (ext (sole a)) right))) (¬ᵖ (a ∈ᵖ over #BInter (append left right)))
-  unfolding with-a rest SingleIntegers Alive opOf opAt classOf lookup formAt
+  unfolding with-a rest SingleIntegers Alive typeOf opOf opAt classOf lookup formAt
   single-emptied u he ha s =
-      let r = right-single Γ left (cons (ext (sole a)) right) (s .3) in
+      let r = every-mid (λ k. SingleIntegers k Γ) left (ext (sole a)) right (single-each Γ with-a (s .3)) in
       emptied I σ Γ (⋂ with-a) (¬ᵖ (a ∈ᵖ rest)) u he (refl, refl)
-      (kit.not-single I Γ (a ∈ᵖ rest) (kit.member-single I Γ a rest (r .0 .3 .0)
-      (cap-over-single Γ (append left right) (append-single Γ left right (left-single Γ left (cons (ext (sole a)) right) (s .3)) (r .1)))))
-      (λ l. (let k = right-alive I Γ left (cons (ext (sole a)) right) (l .2) in
-      kit.not-alive I Γ (a ∈ᵖ rest) (kit.member-alive I Γ a rest (k .0 .2 .0)
-      (cap-over-alive I Γ (append left right) (append-alive I Γ left right (left-alive I Γ left (cons (ext (sole a)) right) (l .2)) (k .1))))))
+      (kit.one-single I Γ #Not (refl, refl) (a ∈ᵖ rest) (kit.two-single I Γ #In (refl, refl) a rest (r .0 .3 .0)
+      (over-single Γ #BInter (λ k. refl) (append left right) (single-all Γ (append left right) (r .1)))))
+      (λ l. (let k = every-mid (λ k. Alive I k Γ) left (ext (sole a)) right (alive-each I Γ with-a (l .2)) in
+      kit.one-alive I Γ #Not (refl, refl) (a ∈ᵖ rest) (kit.two-alive I Γ #In (refl, refl) a rest (k .0 .2 .0)
+      (over-alive I Γ #BInter (refl, refl) (append left right) (alive-all I Γ (append left right) (k .1))))))
       (λ l ρ. kit.not-truth I Γ (a ∈ᵖ rest) ρ ∙ ap not (kit.member-truth I Γ a rest u ha ρ ∙ sym (single-some u (kit.no-int (⋂ with-a) Γ u s he) ρ)))
 
 -- ---- (A ∖ B) ∩ C ∩ (D ∖ E) = ∅ is A ∩ C ∩ D ⊆ B ∪ E
-module _ (Γ : Ctx) where
-  minuends-single : {ks ls ms : Forest} → Subtracted ks ls ms → SingleIntegersIn ks Γ → SingleIntegersIn ls Γ
-  unfolding SingleIntegers classOf lookup formAt
-  minuends-single none s = tt
-  minuends-single (minus a b ks ls ms d) s = (s .0 .3 .0, minuends-single d (s .1))
-  minuends-single (other k ks ls ms d) s = (s .0, minuends-single d (s .1))
-
-  subtrahends-single : {ks ls ms : Forest} → Subtracted ks ls ms → SingleIntegersIn ks Γ → SingleIntegersIn ms Γ
-  unfolding SingleIntegers classOf lookup formAt
-  subtrahends-single none s = tt
-  subtrahends-single (minus a b ks ls ms d) s = (s .0 .3 .1 .0, subtrahends-single d (s .1))
-  subtrahends-single (other k ks ls ms d) s = subtrahends-single d (s .1)
-
 module _ (I : Interpretation) (Γ : Ctx) where
-  minuends-alive : {ks ls ms : Forest} → Subtracted ks ls ms → AliveAll I ks Γ → AliveAll I ls Γ
-  unfolding Alive opOf opAt classOf lookup
-  minuends-alive none s = tt
-  minuends-alive (minus a b ks ls ms d) s = (s .0 .2 .0, minuends-alive d (s .1))
-  minuends-alive (other k ks ls ms d) s = (s .0, minuends-alive d (s .1))
-
-  subtrahends-alive : {ks ls ms : Forest} → Subtracted ks ls ms → AliveAll I ks Γ → AliveAll I ms Γ
-  unfolding Alive opOf opAt classOf lookup
-  subtrahends-alive none s = tt
-  subtrahends-alive (minus a b ks ls ms d) s = (s .0 .2 .1 .0, subtrahends-alive d (s .1))
-  subtrahends-alive (other k ks ls ms d) s = subtrahends-alive d (s .1)
-
   apart : (a b l m : Bool) → ((a && not b) && (l && not m)) ≡ ((a && l) && not (b || m))
   apart true true true m = refl
   apart true true false m = refl
@@ -147,11 +111,13 @@ module _ (I : Interpretation) (Γ : Ctx) where
 
   pub subtracted-emptied : (σ : ℕ → Ty) (ks ls ms : Forest) (u : Ty) → Subtracted ks ls ms → typeOf (⋂ ks) Γ ≡ pow u → typeOf (over #BInter ls) Γ ≡ pow u → SingleIntegers (⋂ ks) Γ
       → Emptied I σ Γ (⋂ ks) (over #BInter ls ⊆ over #BUnion ms)
-  unfolding SingleIntegers Alive opOf opAt classOf lookup formAt
+  unfolding SingleIntegers Alive typeOf opOf opAt classOf lookup formAt
   subtracted-emptied σ ks ls ms u d he hl s =
       let a = over #BInter ls in
       let b = over #BUnion ms in
-      within-emptied I Γ σ (⋂ ks) u he a b u hl (cap-over-single Γ ls (minuends-single Γ d (s .3))) (cup-over-single Γ ms (subtrahends-single Γ d (s .3)))
-      (λ l. cap-over-alive I Γ ls (minuends-alive d (l .2))) (λ l. cup-over-alive I Γ ms (subtrahends-alive d (l .2)))
+      let parts : (x y : Tree) → SingleIntegers (two #SetMinus x y) Γ → SingleIntegers x Γ × SingleIntegers y Γ = λ x y t. (t .3 .0, t .3 .1 .0) in
+      let lives : (x y : Tree) → Alive I (two #SetMinus x y) Γ → Alive I x Γ × Alive I y Γ = λ x y t. (t .2 .0, t .2 .1 .0) in
+      within-emptied I Γ σ (⋂ ks) u he a b u hl (over-single Γ #BInter (λ k. refl) ls (single-all Γ ls (minuends-every (λ k. SingleIntegers k Γ) parts d (single-each Γ ks (s .3))))) (over-single Γ #BUnion (λ k. refl) ms (single-all Γ ms (subtrahends-every (λ k. SingleIntegers k Γ) parts d (single-each Γ ks (s .3)))))
+      (λ l. over-alive I Γ #BInter (refl, refl) ls (alive-all I Γ ls (minuends-every (λ k. Alive I k Γ) lives d (alive-each I Γ ks (l .2))))) (λ l. over-alive I Γ #BUnion (refl, refl) ms (alive-all I Γ ms (subtrahends-every (λ k. Alive I k Γ) lives d (alive-each I Γ ks (l .2)))))
       (λ ρ. within-is (I .size) u (setOf I (means I a Γ) ρ u) (setOf I (means I b Γ) ρ u)
       ∙ ap (λ f. not (some I u f)) (fun-ext (λ x. ap₂ (λ c e. c && not e) (cap-over-is I Γ ρ u x ls) (cup-over-is I Γ ρ u x ms) ∙ sym (subtracted-is ρ u x d) ∙ sym (cap-is I Γ ρ u x ks))))

@@ -1,20 +1,19 @@
 -- What the equations of E = ∅ are made of: dom, ran, ∩ of two, ∨ and ∧ of two; what operators mean at the types of their operands.
--- Main results: NAME-type, NAME-single, NAME-alive, NAME-is for NAME dom or ran; image-is, forward-is, backward-is; and-two-truth,
--- and-two-single, and-two-alive; false-emptied, meet-emptied, within-emptied, either-emptied (E = ∅ is ⊥, is A ∩ B = ∅, is
--- A ⊆ B, is A = ∅ ∨ B = ∅).
+-- Main results: NAME-type, NAME-single, NAME-is for NAME dom or ran; image-is, forward-is, backward-is; and-two-truth;
+-- false-emptied, meet-emptied, within-emptied, either-emptied (E = ∅ is ⊥, is A ∩ B = ∅, is A ⊆ B, is A = ∅ ∨ B = ∅).
 use mathlib.Core.Path.{_≡_, refl, sym, ap, ap₂, _∙_, fun-ext}
 use mathlib.Core.Bool.{true, not, _&&_, _||_}
 use mathlib.Core.List.{[], _∷_}
 use Prim.Native.Nat.{ℕ}
 use Rattle.frame.specs.Types.{Ty, pow, prod}
-use Rattle.frame.specs.Trees.{Tree, two, many, pair}
+use Rattle.frame.specs.Trees.{Tree, one, two, many, sole, pair}
 use Rattle.frame.specs.Tags.{classOf, lookup, formAt}
-use Rattle.frame.specs.Operators.{#RelImage, #FComp, #BComp}
+use Rattle.frame.specs.Operators.{#RelImage, #FComp, #BComp, #BInter, #SubsetEq, #LOr, #KDom, #KRan}
 use Rattle.frame.specs.Places.{Ctx}
 use Rattle.typing.specs.Typing.{relation, typeOf}
 use Rattle.rules.specs.Equations.{⊥ᵖ, ⋀, ⋁, _⊆_, dom, ran, ⋂, _≐∅}
 use Rattle.meaning.specs.Lists.{any, all}
-use Rattle.meaning.specs.Operations.{domain, range, image, forward, backward, opAt, opOf}
+use Rattle.meaning.specs.Operations.{Operator, operator, domain, range, image, forward, backward, opAt, opOf}
 use Rattle.meaning.specs.Meaning.{Interpretation, Vals, truth, val, setOf, relOf, some, every, onward, backwards, holds, valueOf, means}
 use Rattle.meaning.specs.Premises.{SingleIntegers, Alive}
 use Rattle.meaning.proofs.Lists.{and-true, or-false, not-and}
@@ -39,59 +38,38 @@ module _ (Γ : Ctx) (r : Tree) (u v : Ty) (h : typeOf r Γ ≡ relation u v) whe
   ran-single s = (tt, rw h (kit.no-int r Γ (prod u v) s h .1), tt, (s, tt))
 
 module _ (I : Interpretation) (Γ : Ctx) where
-  module _ (r : Tree) where
-    pub dom-alive : Alive I r Γ → Alive I (dom r) Γ
-    unfolding Alive opOf opAt classOf lookup
-    dom-alive a = (tt, tt, (a, tt))
-
-    pub ran-alive : Alive I r Γ → Alive I (ran r) Γ
-    unfolding Alive opOf opAt classOf lookup
-    ran-alive a = (tt, tt, (a, tt))
-
   -- ---- the operator shut, then opened
   module _ (r : Tree) (u v : Ty) (h : typeOf r Γ ≡ relation u v) (ρ : Vals I Γ) where
-    dom-at : val I (means I (dom r) Γ) ρ ≡ valueOf I domain 756 0 (relation u v ∷ []) (means I r Γ ∷ []) ρ
-    unfolding means typeOf opOf opAt classOf lookup
-    dom-at = rw h
+    one-at : (g : ℕ) (o : Operator) → opOf g ≡ operator o → val I (means I (one g r) Γ) ρ ≡ valueOf I o g 0 (relation u v ∷ []) (means I r Γ ∷ []) ρ
+    unfolding means typeOf
+    one-at g o e = ap (λ k. val I k ρ) (kit.means-at I Γ g (operator o) e (sole r)) ∙ ap (λ x. valueOf I o g 0 (x ∷ []) (means I r Γ ∷ []) ρ) h
 
     pub dom-is : setOf I (means I (dom r) Γ) ρ u ≡ (λ x. some I v (λ y. relOf I (means I r Γ) ρ u v x y))
-    unfolding valueOf
-    dom-is = ap (λ f. f (pow u)) dom-at
-
-    ran-at : val I (means I (ran r) Γ) ρ ≡ valueOf I range 757 0 (relation u v ∷ []) (means I r Γ ∷ []) ρ
-    unfolding means typeOf opOf opAt classOf lookup
-    ran-at = rw h
+    unfolding valueOf opOf opAt classOf lookup
+    dom-is = ap (λ f. f (pow u)) (one-at #KDom domain refl)
 
     pub ran-is : setOf I (means I (ran r) Γ) ρ v ≡ (λ y. some I u (λ x. relOf I (means I r Γ) ρ u v x y))
-    unfolding valueOf
-    ran-is = ap (λ f. f (pow v)) ran-at
+    unfolding valueOf opOf opAt classOf lookup
+    ran-is = ap (λ f. f (pow v)) (one-at #KRan range refl)
 
     module _ (q : Tree) where
-      image-at : val I (means I (two #RelImage r q) Γ) ρ ≡ valueOf I image 227 0 (relation u v ∷ typeOf q Γ ∷ []) (means I r Γ ∷ means I q Γ ∷ []) ρ
-      unfolding means typeOf opOf opAt classOf lookup
-      image-at = rw h
+      two-at : (g : ℕ) (o : Operator) → opOf g ≡ operator o → val I (means I (two g r q) Γ) ρ ≡ valueOf I o g 0 (relation u v ∷ typeOf q Γ ∷ []) (means I r Γ ∷ means I q Γ ∷ []) ρ
+      unfolding means typeOf
+      two-at g o e = ap (λ k. val I k ρ) (kit.means-at I Γ g (operator o) e (pair r q)) ∙ ap (λ x. valueOf I o g 0 (x ∷ typeOf q Γ ∷ []) (means I r Γ ∷ means I q Γ ∷ []) ρ) h
 
       pub image-is : setOf I (means I (two #RelImage r q) Γ) ρ v ≡ (λ y. some I u (λ x. setOf I (means I q Γ) ρ u x && relOf I (means I r Γ) ρ u v x y))
-      unfolding valueOf
-      image-is = ap (λ f. f (pow v)) image-at
-
-      forward-at : val I (means I (many #FComp (pair r q)) Γ) ρ ≡ valueOf I forward 304 0 (relation u v ∷ typeOf q Γ ∷ []) (means I r Γ ∷ means I q Γ ∷ []) ρ
-      unfolding means typeOf opOf opAt classOf lookup
-      forward-at = rw h
+      unfolding valueOf opOf opAt classOf lookup
+      image-is = ap (λ f. f (pow v)) (two-at #RelImage image refl)
 
       pub forward-is : (w : Ty) → setOf I (means I (many #FComp (pair r q)) Γ) ρ (prod u w)
           ≡ (λ a. some I v (λ z. relOf I (means I r Γ) ρ u v (a .0) z && relOf I (means I q Γ) ρ v w z (a .1)))
-      unfolding valueOf onward
-      forward-is w = ap (λ f. f (pow (prod u w))) forward-at
-
-      backward-at : val I (means I (many #BComp (pair r q)) Γ) ρ ≡ valueOf I backward 303 0 (relation u v ∷ typeOf q Γ ∷ []) (means I r Γ ∷ means I q Γ ∷ []) ρ
-      unfolding means typeOf opOf opAt classOf lookup
-      backward-at = rw h
+      unfolding valueOf onward opOf opAt classOf lookup
+      forward-is w = ap (λ f. f (pow (prod u w))) (two-at #FComp forward refl)
 
       pub backward-is : (w : Ty) → setOf I (means I (many #BComp (pair r q)) Γ) ρ (prod w v)
           ≡ (λ a. some I u (λ z. relOf I (means I q Γ) ρ w u (a .0) z && relOf I (means I r Γ) ρ u v z (a .1)))
-      unfolding valueOf backwards
-      backward-is w = ap (λ f. f (pow (prod w v))) backward-at
+      unfolding valueOf backwards opOf opAt classOf lookup
+      backward-is w = ap (λ f. f (pow (prod w v))) (two-at #BComp backward refl)
 
   -- ---- ∨ and ∧ of two
   module _ (p q : Tree) where
@@ -99,35 +77,15 @@ module _ (I : Interpretation) (Γ : Ctx) where
     unfolding means holds opOf opAt classOf lookup any
     or-two-truth ρ = ap (λ c. truth I (means I p Γ) ρ || c) (or-false (truth I (means I q Γ) ρ))
 
-    or-two-single : SingleIntegers p Γ → SingleIntegers q Γ → SingleIntegers (⋁ (pair p q)) Γ
-    unfolding SingleIntegers typeOf classOf lookup formAt
-    or-two-single s r = (tt, tt, tt, (s, (r, tt)))
-
-    or-two-alive : Alive I p Γ → Alive I q Γ → Alive I (⋁ (pair p q)) Γ
-    unfolding Alive opOf opAt classOf lookup
-    or-two-alive a b = (tt, tt, (a, (b, tt)))
-
     pub and-two-truth : (ρ : Vals I Γ) → truth I (means I (⋀ (pair p q)) Γ) ρ ≡ (truth I (means I p Γ) ρ && truth I (means I q Γ) ρ)
     unfolding means holds opOf opAt classOf lookup all
     and-two-truth ρ = ap (λ c. truth I (means I p Γ) ρ && c) (and-true (truth I (means I q Γ) ρ))
-
-    pub and-two-single : SingleIntegers p Γ → SingleIntegers q Γ → SingleIntegers (⋀ (pair p q)) Γ
-    unfolding SingleIntegers typeOf classOf lookup formAt
-    and-two-single s r = (tt, tt, tt, (s, (r, tt)))
-
-    pub and-two-alive : Alive I p Γ → Alive I q Γ → Alive I (⋀ (pair p q)) Γ
-    unfolding Alive opOf opAt classOf lookup
-    and-two-alive a b = (tt, tt, (a, (b, tt)))
 
   -- ---- A ∩ B
   module _ (a b : Tree) where
     meet-single : SingleIntegers a Γ → SingleIntegers b Γ → SingleIntegers (⋂ (pair a b)) Γ
     unfolding SingleIntegers typeOf classOf lookup formAt
     meet-single s r = (tt, kit.single-type a Γ s, tt, (s, (r, tt)))
-
-    meet-alive : Alive I a Γ → Alive I b Γ → Alive I (⋂ (pair a b)) Γ
-    unfolding Alive opOf opAt classOf lookup
-    meet-alive h k = (tt, tt, (h, (k, tt)))
 
     meet-type : (u : Ty) → typeOf a Γ ≡ pow u → typeOf (⋂ (pair a b)) Γ ≡ pow u
     unfolding typeOf classOf lookup formAt
@@ -149,7 +107,7 @@ module _ (I : Interpretation) (Γ : Ctx) where
       pub meet-emptied : ((ρ : Vals I Γ) → some I u (λ x. setOf I (means I a Γ) ρ u x && setOf I (means I b Γ) ρ u x) ≡ some I w (setOf I (means I e Γ) ρ w))
           → Emptied I σ Γ e (_≐∅ Γ (⋂ (pair a b)))
       meet-emptied m =
-          emptied-by I σ Γ e (⋂ (pair a b)) w u he (meet-type a b u ha) (meet-single a b s r) (λ x. meet-alive a b (k x) (l x))
+          emptied-by I σ Γ e (⋂ (pair a b)) w u he (meet-type a b u ha) (meet-single a b s r) (λ x. kit.two-alive I Γ #BInter (refl, refl) a b (k x) (l x))
           (λ x ρ. ap (some I u) (meet-is a b u ρ) ∙ m ρ)
 
       -- A ⊆ B
@@ -157,7 +115,7 @@ module _ (I : Interpretation) (Γ : Ctx) where
           → Emptied I σ Γ e (a ⊆ b)
       unfolding classOf lookup formAt
       within-emptied m =
-          emptied I σ Γ e (a ⊆ b) w he (refl, refl) (kit.subset-single I Γ a b s r) (λ x. kit.subset-alive I Γ a b (k x) (l x))
+          emptied I σ Γ e (a ⊆ b) w he (refl, refl) (kit.two-single I Γ #SubsetEq (refl, refl) a b s r) (λ x. kit.two-alive I Γ #SubsetEq (refl, refl) a b (k x) (l x))
           (λ x ρ. kit.subset-truth I Γ a b u ha ρ ∙ m ρ)
 
       -- A = ∅ ∨ B = ∅
@@ -166,7 +124,7 @@ module _ (I : Interpretation) (Γ : Ctx) where
           → Emptied I σ Γ e (⋁ (pair (_≐∅ Γ a) (_≐∅ Γ b)))
       unfolding classOf lookup formAt
       either-emptied v hb m =
-          emptied I σ Γ e (⋁ (pair (_≐∅ Γ a) (_≐∅ Γ b))) w he (refl, refl) (or-two-single (_≐∅ Γ a) (_≐∅ Γ b) (kit.empty-single I Γ a s) (kit.empty-single I Γ b r))
-          (λ x. or-two-alive (_≐∅ Γ a) (_≐∅ Γ b) (kit.empty-alive I Γ a (k x)) (kit.empty-alive I Γ b (l x)))
+          emptied I σ Γ e (⋁ (pair (_≐∅ Γ a) (_≐∅ Γ b))) w he (refl, refl) (kit.two-single I Γ #LOr (refl, refl) (_≐∅ Γ a) (_≐∅ Γ b) (kit.empty-single I Γ a s) (kit.empty-single I Γ b r))
+          (λ x. kit.two-alive I Γ #LOr (refl, refl) (_≐∅ Γ a) (_≐∅ Γ b) (kit.empty-alive I Γ a (k x)) (kit.empty-alive I Γ b (l x)))
           (λ x ρ. or-two-truth (_≐∅ Γ a) (_≐∅ Γ b) ρ ∙ ap₂ _||_ (kit.empty-truth I Γ a u ha ρ) (kit.empty-truth I Γ b v hb ρ)
           ∙ sym (not-and (some I u (setOf I (means I a Γ) ρ u)) (some I v (setOf I (means I b Γ) ρ v))) ∙ ap not (sym (m ρ)))

@@ -8,7 +8,7 @@ use native.Mathlib.Omega.{arith}
 use Rattle.frame.specs.Types.{Ty, pow, prod}
 use Rattle.frame.specs.Trees.{Tree, Forest, nil, cons, count, many, typed, bodied, mapF}
 use Rattle.frame.specs.Tags.{classOf, lookup, formAt}
-use Rattle.frame.specs.Operators.{#BUnion, #Ovr, #QUnion, #KIdGen, #KPrj1Gen, #KPrj2Gen}
+use Rattle.frame.specs.Operators.{#BUnion, #Ovr, #QUnion, #KIdGen, #KPrj1Gen, #KPrj2Gen, #Forall, #LAnd, #LImp}
 use Rattle.frame.specs.Places.{Ctx, push}
 use Rattle.typing.specs.Typing.{relation, ty, typeOf, typesIn}
 use Rattle.rules.specs.Equations.{⊥ᵖ, _⇒_, ⋀, ∀ᵖ, ext, _≐∅}
@@ -47,8 +47,8 @@ module _ (I : Interpretation) (σ : ℕ → Ty) (Γ : Ctx) where
         → Emptied I σ Γ e (⋀ (mapF (_≐∅ Γ) ks))
     unfolding classOf lookup formAt
     each-emptied s l m =
-        emptied I σ Γ e (⋀ (mapF (_≐∅ Γ) ks)) u he (refl, refl) (kit.and-single I Γ (mapF (_≐∅ Γ) ks) (map-single (_≐∅ Γ) Γ Γ (λ k. kit.empty-single I Γ k) ks s))
-        (λ a. kit.and-alive I Γ (mapF (_≐∅ Γ) ks) (map-alive I (_≐∅ Γ) Γ Γ (λ k. kit.empty-alive I Γ k) ks (l a)))
+        emptied I σ Γ e (⋀ (mapF (_≐∅ Γ) ks)) u he (refl, refl) (kit.many-single I Γ #LAnd (refl, refl) (mapF (_≐∅ Γ) ks) (map-single (_≐∅ Γ) Γ Γ (λ k. kit.empty-single I Γ k) ks s))
+        (λ a. kit.many-alive I Γ #LAnd (refl, refl) (mapF (_≐∅ Γ) ks) (map-alive I (_≐∅ Γ) Γ Γ (λ k. kit.empty-alive I Γ k) ks (l a)))
         (λ a ρ. kit.and-truth I Γ (mapF (_≐∅ Γ) ks) ρ ∙ empties-all I Γ u ρ ks h ∙ ap not (sym (m ρ)))
 
   module _ (ks : Forest) (few : 1 ≤ count ks) where
@@ -81,8 +81,8 @@ module _ (I : Interpretation) (σ : ℕ → Ty) (Γ : Ctx) where
   qunion-emptied xs p e u h s =
       let Δ = push xs Γ in
       emptied I σ Γ (bodied #QUnion xs p e) (∀ᵖ xs (p ⇒ _≐∅ Δ e)) u h (refl, refl)
-      (kit.forall-single I Γ xs (p ⇒ _≐∅ Δ e) (s .0) (s .2) (kit.implies-single I Δ p (_≐∅ Δ e) (s .3 .0) (kit.empty-single I Δ e (s .3 .1 .0))))
-      (λ a. kit.forall-alive I Γ xs (p ⇒ _≐∅ Δ e) (kit.implies-alive I Δ p (_≐∅ Δ e) (a .2 .0) (kit.empty-alive I Δ e (a .2 .1 .0))))
+      (kit.bound-single I Γ #Forall (refl, refl) (λ us. refl) xs (p ⇒ _≐∅ Δ e) (s .0) (s .2) (kit.two-single I Δ #LImp (refl, refl) p (_≐∅ Δ e) (s .3 .0) (kit.empty-single I Δ e (s .3 .1 .0))))
+      (λ a. kit.bound-alive I Γ #Forall (refl, refl) (λ us. refl) xs (p ⇒ _≐∅ Δ e) (refl, refl) (kit.two-alive I Δ #LImp (refl, refl) p (_≐∅ Δ e) (a .2 .0) (kit.empty-alive I Δ e (a .2 .1 .0))))
       (λ a ρ. kit.forall-truth I Γ xs (p ⇒ _≐∅ Δ e) ρ
       ∙ ap (λ g. all g (choices I xs Γ ρ)) (fun-ext (λ τ. kit.implies-truth I Δ p (_≐∅ Δ e) τ ∙ ap (λ b. not (truth I (means I p Δ) τ) || b) (kit.empty-truth I Δ e u h τ)))
       ∙ set.qunion-none (I .size) u (kit.no-int e Δ u (s .3 .1 .0) h) (truth I (means I p Δ)) (λ τ. setOf I (means I e Δ) τ u) (choices I xs Γ ρ))

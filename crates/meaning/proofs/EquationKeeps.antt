@@ -2,16 +2,16 @@
 -- Main result: equation-keeps.
 use Prim.Native.Nat.{ℕ}
 use Rattle.frame.specs.Types.{Ty, prod}
-use Rattle.frame.specs.Trees.{Tree, cons, leaf, two, typed}
-use Rattle.frame.specs.Tags.{predicate, expression}
-use Rattle.frame.specs.Operators.{#Bool, #UpTo, #KIdGen, #KPrj1Gen, #KPrj2Gen}
+use Rattle.frame.specs.Trees.{Tree, nil, cons, leaf, two, typed, sole}
+use Rattle.frame.specs.Tags.{predicate}
+use Rattle.frame.specs.Operators.{#Bool, #Pow, #Converse, #DomRes, #UpTo, #KIdGen, #KPrj1Gen, #KPrj2Gen}
 use Rattle.frame.specs.Places.{Ctx}
 use Rattle.typing.specs.Accepted.{TysOk, Accepted}
-use Rattle.rules.specs.Equations.{∅, ext, Empties, Fills, Equation, «SIMP_SPECIAL_FINITE», «SIMP_FINITE_NATURAL», «SIMP_FINITE_NATURAL1», «SIMP_FINITE_INTEGER», «SIMP_FINITE_BOOL», «SIMP_FINITE_ID», «SIMP_FINITE_SETENUM», «SIMP_FINITE_BUNION», «SIMP_FINITE_POW», «DERIV_FINITE_CPROD», «SIMP_FINITE_CONVERSE», «SIMP_FINITE_UPTO», «SIMP_FINITE_LAMBDA», «SIMP_FINITE_ID_DOMRES», «SIMP_FINITE_PRJ1_DOMRES», «SIMP_FINITE_PRJ2_DOMRES», «SIMP_FINITE_PRJ1», «SIMP_FINITE_PRJ2», «SIMP_EMPTY_PARTITION», «SIMP_SINGLE_PARTITION», «SIMP_NOT_LE», «SIMP_NOT_GE», «SIMP_NOT_GT», «SIMP_NOT_LT», «SIMP_SPECIAL_NOT_EQUAL_FALSE_R», «SIMP_SPECIAL_NOT_EQUAL_TRUE_R», «SIMP_SPECIAL_NOT_EQUAL_FALSE_L», «SIMP_SPECIAL_NOT_EQUAL_TRUE_L», equal-type, equal-empty, «SIMP_SPECIAL_AND_BFALSE/OR_BTRUE», «SIMP_MULTI_AND_NOT/OR_NOT», «SIMP_SPECIAL_AND_BTRUE/OR_BFALSE/none», «SIMP_SPECIAL_AND_BTRUE/MULTI_AND/one», «SIMP_SPECIAL_AND_BTRUE/MULTI_AND», «SIMP_SPECIAL_IMP_BTRUE_L», «SIMP_SPECIAL_IMP_BFALSE_L», «SIMP_SPECIAL_IMP_BTRUE_R», «SIMP_SPECIAL_IMP_BFALSE_R», «SIMP_MULTI_IMP», «SIMP_MULTI_IMP_AND», «SIMP_MULTI_IMP_AND_NOT_R/L», «SIMP_MULTI_IMP_NOT_L», «SIMP_MULTI_IMP_NOT_R», «SIMP_SPECIAL_EQV_BTRUE/right», «SIMP_SPECIAL_EQV_BTRUE/left», «SIMP_MULTI_EQV», «SIMP_SPECIAL_EQV_BFALSE/right», «SIMP_SPECIAL_EQV_BFALSE/left», «SIMP_MULTI_EQV_NOT/right», «SIMP_MULTI_EQV_NOT/left», «SIMP_SPECIAL_NOT_BTRUE», «SIMP_SPECIAL_NOT_BFALSE», «SIMP_NOT_NOT», «SIMP_FORALL_AND», «SIMP_EXISTS_OR», «SIMP_EXISTS_IMP»}
+use Rattle.rules.specs.Equations.{∅, ext, Equation, «SIMP_SPECIAL_FINITE», «SIMP_FINITE_NATURAL», «SIMP_FINITE_NATURAL1», «SIMP_FINITE_INTEGER», «SIMP_FINITE_BOOL», «SIMP_FINITE_ID», «SIMP_FINITE_SETENUM», «SIMP_FINITE_BUNION», «SIMP_FINITE_POW», «DERIV_FINITE_CPROD», «SIMP_FINITE_CONVERSE», «SIMP_FINITE_UPTO», «SIMP_FINITE_LAMBDA», «SIMP_FINITE_ID_DOMRES», «SIMP_FINITE_PRJ1_DOMRES», «SIMP_FINITE_PRJ2_DOMRES», «SIMP_FINITE_PRJ1», «SIMP_FINITE_PRJ2», «SIMP_EMPTY_PARTITION», «SIMP_SINGLE_PARTITION», «SIMP_NOT_LE», «SIMP_NOT_GE», «SIMP_NOT_GT», «SIMP_NOT_LT», «SIMP_SPECIAL_NOT_EQUAL_FALSE_R», «SIMP_SPECIAL_NOT_EQUAL_TRUE_R», «SIMP_SPECIAL_NOT_EQUAL_FALSE_L», «SIMP_SPECIAL_NOT_EQUAL_TRUE_L», equal-type, equal-empty, «SIMP_SPECIAL_AND_BFALSE/OR_BTRUE», «SIMP_MULTI_AND_NOT/OR_NOT», «SIMP_SPECIAL_AND_BTRUE/OR_BFALSE/none», «SIMP_SPECIAL_AND_BTRUE/MULTI_AND/one», «SIMP_SPECIAL_AND_BTRUE/MULTI_AND», «SIMP_SPECIAL_IMP_BTRUE_L», «SIMP_SPECIAL_IMP_BFALSE_L», «SIMP_SPECIAL_IMP_BTRUE_R», «SIMP_SPECIAL_IMP_BFALSE_R», «SIMP_MULTI_IMP», «SIMP_MULTI_IMP_AND», «SIMP_MULTI_IMP_AND_NOT_R/L», «SIMP_MULTI_IMP_NOT_L», «SIMP_MULTI_IMP_NOT_R», «SIMP_SPECIAL_EQV_BTRUE/right», «SIMP_SPECIAL_EQV_BTRUE/left», «SIMP_MULTI_EQV», «SIMP_SPECIAL_EQV_BFALSE/right», «SIMP_SPECIAL_EQV_BFALSE/left», «SIMP_MULTI_EQV_NOT/right», «SIMP_MULTI_EQV_NOT/left», «SIMP_SPECIAL_NOT_BTRUE», «SIMP_SPECIAL_NOT_BFALSE», «SIMP_NOT_NOT», «SIMP_FORALL_AND», «SIMP_EXISTS_OR», «SIMP_EXISTS_IMP»}
 use Rattle.meaning.specs.Meaning.{Interpretation}
 use Rattle.meaning.specs.Premises.{SingleIntegers}
 use Rattle.meaning.proofs.Sound.{Keeps}
-use Rattle.meaning.proofs.Emptied.{Emptied, Filled, emptiness-keeps, emptiness-accepted, emptiness-single, fullness-keeps, fullness-accepted, fullness-single}
+use Rattle.meaning.proofs.Emptied.{emptiness-keeps, emptiness-accepted, emptiness-single, fullness-keeps, fullness-accepted, fullness-single}
 use Rattle.meaning.proofs.FiniteRules as fin
 use Rattle.meaning.proofs.Connectives as con
 use Rattle.meaning.proofs.Junctions as jun
@@ -29,14 +29,14 @@ equation-keeps I σ Γ z l r k «SIMP_FINITE_BOOL» a s = fin.finite-top-keeps I
 equation-keeps I σ Γ z l r k («SIMP_FINITE_ID» t) a s = fin.finite-carried-keeps I σ Γ #KIdGen t t s
 equation-keeps I σ Γ z l r k («SIMP_FINITE_SETENUM» ks) a s = fin.finite-top-keeps I σ Γ (ext ks)
 equation-keeps I σ Γ z l r k («SIMP_FINITE_BUNION» ks) a s = fin.finite-union-keeps I σ Γ ks s
-equation-keeps I σ Γ z l r k («SIMP_FINITE_POW» e) a s = fin.finite-power-keeps I σ Γ e s
+equation-keeps I σ Γ z l r k («SIMP_FINITE_POW» e) a s = fin.finite-first-keeps I σ Γ #Pow e nil s
 equation-keeps I σ Γ z l r k («DERIV_FINITE_CPROD» e f) a s = fin.finite-product-keeps I σ Γ e f s
-equation-keeps I σ Γ z l r k («SIMP_FINITE_CONVERSE» e) a s = fin.finite-converse-keeps I σ Γ e s
+equation-keeps I σ Γ z l r k («SIMP_FINITE_CONVERSE» e) a s = fin.finite-first-keeps I σ Γ #Converse e nil s
 equation-keeps I σ Γ z l r k («SIMP_FINITE_UPTO» i j) a s = fin.finite-top-keeps I σ Γ (two #UpTo i j)
 equation-keeps I σ Γ z l r k («SIMP_FINITE_LAMBDA» xs p e f _) a s = fin.finite-lambda-keeps I σ Γ xs p e f s
-equation-keeps I σ Γ z l r k («SIMP_FINITE_ID_DOMRES» e t) a s = fin.finite-restriction-keeps I σ Γ e (typed #KIdGen t) s
-equation-keeps I σ Γ z l r k («SIMP_FINITE_PRJ1_DOMRES» e t) a s = fin.finite-restriction-keeps I σ Γ e (typed #KPrj1Gen t) s
-equation-keeps I σ Γ z l r k («SIMP_FINITE_PRJ2_DOMRES» e t) a s = fin.finite-restriction-keeps I σ Γ e (typed #KPrj2Gen t) s
+equation-keeps I σ Γ z l r k («SIMP_FINITE_ID_DOMRES» e t) a s = fin.finite-first-keeps I σ Γ #DomRes e (sole (typed #KIdGen t)) s
+equation-keeps I σ Γ z l r k («SIMP_FINITE_PRJ1_DOMRES» e t) a s = fin.finite-first-keeps I σ Γ #DomRes e (sole (typed #KPrj1Gen t)) s
+equation-keeps I σ Γ z l r k («SIMP_FINITE_PRJ2_DOMRES» e t) a s = fin.finite-first-keeps I σ Γ #DomRes e (sole (typed #KPrj2Gen t)) s
 equation-keeps I σ Γ z l r k («SIMP_FINITE_PRJ1» t u) a s = fin.finite-carried-keeps I σ Γ #KPrj1Gen (prod t u) t s
 equation-keeps I σ Γ z l r k («SIMP_FINITE_PRJ2» t u) a s = fin.finite-carried-keeps I σ Γ #KPrj2Gen (prod t u) u s
 equation-keeps I σ Γ z l r k («SIMP_EMPTY_PARTITION» e) a s = fin.partition-none-keeps I σ Γ e a s

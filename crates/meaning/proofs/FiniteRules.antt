@@ -6,9 +6,9 @@ use mathlib.Core.Bool.{Bool, true, false, _||_}
 use mathlib.Core.List.{List, _∷_}
 use Prim.Native.Nat.{ℕ}
 use Rattle.frame.specs.Types.{Ty, int, pow}
-use Rattle.frame.specs.Trees.{Tree, Forest, nil, cons, leaf, one, two, many, typed, sole, pair, bodied, mapF}
+use Rattle.frame.specs.Trees.{Tree, Forest, nil, cons, leaf, two, many, typed, sole, pair, bodied, mapF}
 use Rattle.frame.specs.Tags.{predicate, classOf, lookup, formAt}
-use Rattle.frame.specs.Operators.{#Natural, #Natural1, #Integer, #BUnion, #Pow, #CProd, #Converse, #CSet, #Mapsto, #DomRes, #Partition}
+use Rattle.frame.specs.Operators.{#BTrue, #Finite, #Natural, #Natural1, #Integer, #BUnion, #CProd, #CSet, #Mapsto, #Partition, #Equal, #LAnd, #LOr}
 use Rattle.frame.specs.Places.{Ctx}
 use Rattle.typing.specs.Typing.{element, relation, typeOf, typesIn}
 use Rattle.typing.specs.TypeExpression.{toExpression}
@@ -23,7 +23,6 @@ use Rattle.meaning.proofs.Sets.{is-empty}
 use Rattle.meaning.proofs.Sound.{Formula, Keeps, keeps-truth}
 use Rattle.meaning.proofs.Kit as kit
 use Rattle.meaning.proofs.Many as many
-use Rattle.meaning.proofs.Connectives.{top-single, top-alive}
 
 or-last : (a b : Bool) → (a || (b || (true || false))) ≡ true
 or-last true b = refl
@@ -36,14 +35,6 @@ module _ (I : Interpretation) (σ : ℕ → Ty) (Γ : Ctx) where
   unfolding means holds opOf opAt classOf lookup
   fin-truth s ρ = refl
 
-  pub fin-single : (s : Tree) → SingleIntegers s Γ → SingleIntegers (fin s) Γ
-  unfolding SingleIntegers typeOf classOf lookup formAt
-  fin-single s h = (tt, tt, tt, (h, tt))
-
-  pub fin-alive : (s : Tree) → Alive I s Γ → Alive I (fin s) Γ
-  unfolding Alive opOf opAt classOf lookup
-  fin-alive s h = (tt, tt, (h, tt))
-
   -- finite(S) and a predicate that is true
   pub finite-keeps : (s r : Tree) → Formula r → SingleIntegers r Γ → (Alive I s Γ → Alive I r Γ) → ((ρ : Vals I Γ) → truth I (means I r Γ) ρ ≡ true) → Keeps I Γ (fin s) r
   unfolding Alive opOf opAt classOf lookup formAt
@@ -52,11 +43,11 @@ module _ (I : Interpretation) (σ : ℕ → Ty) (Γ : Ctx) where
   -- ∅, BOOL, {a, …, b}
   pub finite-top-keeps : (s : Tree) → Keeps I Γ (fin s) ⊤
   unfolding means holds opOf opAt classOf lookup formAt
-  finite-top-keeps s = finite-keeps s ⊤ (refl, refl) (top-single I σ Γ) (λ a. top-alive I σ Γ) (λ ρ. refl)
+  finite-top-keeps s = finite-keeps s ⊤ (refl, refl) (kit.leaf-single I Γ #BTrue (refl, refl)) (λ a. kit.leaf-alive I Γ #BTrue (refl, refl)) (λ ρ. refl)
 
   finite-finite : (s r : Tree) → SingleIntegers r Γ → (Alive I s Γ → Alive I r Γ) → Keeps I Γ (fin s) (fin r)
   unfolding classOf lookup formAt
-  finite-finite s r h l = finite-keeps s (fin r) (refl, refl) (fin-single r h) (λ a. fin-alive r (l a)) (fin-truth r)
+  finite-finite s r h l = finite-keeps s (fin r) (refl, refl) (kit.one-single I Γ #Finite (refl, refl) r h) (λ a. kit.one-alive I Γ #Finite (refl, refl) r (l a)) (fin-truth r)
 
   -- no set of integers passes the premise
   no-integers : (e : Tree) → typeOf e Γ ≡ pow int → SingleIntegers (fin e) Γ → ⊥
@@ -94,20 +85,13 @@ module _ (I : Interpretation) (σ : ℕ → Ty) (Γ : Ctx) where
   pub finite-union-keeps : (ks : Forest) → SingleIntegers (fin (many #BUnion ks)) Γ → Keeps I Γ (fin (many #BUnion ks)) (⋀ (mapF fin ks))
   unfolding SingleIntegers Alive opOf opAt classOf lookup formAt
   finite-union-keeps ks s =
-      finite-keeps (many #BUnion ks) (⋀ (mapF fin ks)) (refl, refl) (kit.and-single I Γ (mapF fin ks) (many.map-single fin Γ Γ fin-single ks (s .3 .0 .3)))
-      (λ a. kit.and-alive I Γ (mapF fin ks) (many.map-alive I fin Γ Γ fin-alive ks (a .2))) (λ ρ. kit.and-truth I Γ (mapF fin ks) ρ ∙ fins-truth ρ ks)
+      finite-keeps (many #BUnion ks) (⋀ (mapF fin ks)) (refl, refl) (kit.many-single I Γ #LAnd (refl, refl) (mapF fin ks) (many.map-single fin Γ Γ (kit.one-single I Γ #Finite (refl, refl)) ks (s .3 .0 .3)))
+      (λ a. kit.many-alive I Γ #LAnd (refl, refl) (mapF fin ks) (many.map-alive I fin Γ Γ (kit.one-alive I Γ #Finite (refl, refl)) ks (a .2))) (λ ρ. kit.and-truth I Γ (mapF fin ks) ρ ∙ fins-truth ρ ks)
 
-  pub finite-power-keeps : (s : Tree) → SingleIntegers (fin (one #Pow s)) Γ → Keeps I Γ (fin (one #Pow s)) (fin s)
-  unfolding SingleIntegers Alive opOf opAt classOf lookup formAt
-  finite-power-keeps s h = finite-finite (one #Pow s) s (h .3 .0 .3 .0) (λ a. a .2 .0)
-
-  pub finite-converse-keeps : (s : Tree) → SingleIntegers (fin (one #Converse s)) Γ → Keeps I Γ (fin (one #Converse s)) (fin s)
-  unfolding SingleIntegers Alive opOf opAt classOf lookup formAt
-  finite-converse-keeps s h = finite-finite (one #Converse s) s (h .3 .0 .3 .0) (λ a. a .2 .0)
-
-  pub finite-restriction-keeps : (e r : Tree) → SingleIntegers (fin (two #DomRes e r)) Γ → Keeps I Γ (fin (two #DomRes e r)) (fin e)
-  unfolding SingleIntegers Alive opOf opAt classOf lookup formAt
-  finite-restriction-keeps e r h = finite-finite (two #DomRes e r) e (h .3 .0 .3 .0) (λ a. a .2 .0)
+  -- ℙ S, r⁻¹, S ◁ r: the first operand
+  pub finite-first-keeps : (g : ℕ) (s : Tree) (ks : Forest) → SingleIntegers (fin (many g (cons s ks))) Γ → Keeps I Γ (fin (many g (cons s ks))) (fin s)
+  unfolding SingleIntegers Alive classOf lookup formAt
+  finite-first-keeps g s ks h = finite-finite (many g (cons s ks)) s (kit.kids-single I Γ g (cons s ks) (h .3 .0) .0) (λ a. kit.kids-alive I Γ g (cons s ks) a .0)
 
   -- S × T: S = ∅, or T = ∅, or both are finite
   module _ (s t : Tree) where
@@ -125,8 +109,8 @@ module _ (I : Interpretation) (σ : ℕ → Ty) (Γ : Ctx) where
         let ht = h .3 .0 .3 .1 .0 in
         let ds = cons (_≐∅ Γ s) (pair (_≐∅ Γ t) (⋀ (pair (fin s) (fin t)))) in
         finite-keeps (two #CProd s t) product-new (refl, refl)
-        (kit.or-single I Γ ds (kit.empty-single I Γ s hs, (kit.empty-single I Γ t ht, (kit.and-single I Γ (pair (fin s) (fin t)) (fin-single s hs, (fin-single t ht, tt)), tt))))
-        (λ a. kit.or-alive I Γ ds (kit.empty-alive I Γ s (a .2 .0), (kit.empty-alive I Γ t (a .2 .1 .0), (kit.and-alive I Γ (pair (fin s) (fin t)) (fin-alive s (a .2 .0), (fin-alive t (a .2 .1 .0), tt)), tt))))
+        (kit.many-single I Γ #LOr (refl, refl) ds (kit.empty-single I Γ s hs, (kit.empty-single I Γ t ht, (kit.many-single I Γ #LAnd (refl, refl) (pair (fin s) (fin t)) (kit.one-single I Γ #Finite (refl, refl) s hs, (kit.one-single I Γ #Finite (refl, refl) t ht, tt)), tt))))
+        (λ a. kit.many-alive I Γ #LOr (refl, refl) ds (kit.empty-alive I Γ s (a .2 .0), (kit.empty-alive I Γ t (a .2 .1 .0), (kit.many-alive I Γ #LAnd (refl, refl) (pair (fin s) (fin t)) (kit.one-alive I Γ #Finite (refl, refl) s (a .2 .0), (kit.one-alive I Γ #Finite (refl, refl) t (a .2 .1 .0), tt)), tt))))
         product-truth
 
   -- λx·P∣F, a set of maplets E ↦ F
@@ -168,5 +152,5 @@ module _ (I : Interpretation) (σ : ℕ → Ty) (Γ : Ctx) where
   unfolding Accepted SingleIntegers Alive typeOf opOf opAt classOf lookup formAt
   partition-one-keeps s t a h =
       let e = a .fits in
-      keeps-truth I (many #Partition (pair s t)) (s ≐ t) Γ (refl, refl) (refl, refl) (kit.equal-single I Γ s t (h .3 .0) (h .3 .1 .0)) (λ l. kit.equal-alive I Γ s t (l .2 .0) (l .2 .1 .0))
+      keeps-truth I (many #Partition (pair s t)) (s ≐ t) Γ (refl, refl) (refl, refl) (kit.two-single I Γ #Equal (refl, refl) s t (h .3 .0) (h .3 .1 .0)) (λ l. kit.two-alive I Γ #Equal (refl, refl) s t (l .2 .0) (l .2 .1 .0))
       (λ l ρ. partition-one s (element (typeOf s Γ)) (cc) ρ t)

@@ -10,16 +10,19 @@ use Rattle.frame.specs.Trees.{Tree, Forest, nil, cons, leaf, many, sole, append
 use Rattle.frame.specs.Tags.{predicate, repeat, classOf, lookup, formAt}
 use Rattle.frame.specs.Operators.{#LAnd, #LOr, #BTrue, #BFalse}
 use Rattle.frame.specs.Places.{Ctx}
-use Rattle.typing.specs.Typing.{typeOf}
 use Rattle.typing.specs.Accepted.{Accepted, AcceptedAll}
 use Rattle.rules.specs.Equations.{¬ᵖ, Among, Junction, conjunction, disjunction, Dropped, done, literal, repeated}
+use Rattle.rules.proofs.Nodes.{Every}
+use Rattle.rules.proofs.Operands.{dropped-every}
 use Rattle.meaning.specs.Lists.{any, all, In}
 use Rattle.meaning.specs.Operations.{opAt, opOf}
 use Rattle.meaning.specs.Meaning.{Interpretation, Vals, Den, truth, holds, means, meansAll}
-use Rattle.meaning.specs.Premises.{SingleIntegers, SingleIntegersIn, Alive, AliveAll}
+use Rattle.meaning.specs.Premises.{SingleIntegers, Alive}
 use Rattle.meaning.proofs.Lists.{so-any, so-all, clash, not-so, In-left, all-mid, any-mid, and-true, or-false}
 use Rattle.meaning.proofs.Sound.{Formula, Keeps, keeps-truth, accepted-formula}
+use Rattle.meaning.proofs.Kit.{NoInter}
 use Rattle.meaning.proofs.Kit as kit
+use Rattle.meaning.proofs.Many.{single-each, single-all, alive-each, alive-all}
 use Rattle.meaning.proofs.Many as many
 
 -- ---- truth values: d decides a junction (false ∧, true ∨)
@@ -67,47 +70,12 @@ module _ {A : Type 0} where
         go false true h = refl
         go false false h = sym (joined-decided false (l ++ m) k (In-left k l m i) h)
 
--- ---- operands: what holds of each, of those that are left
-module _ (P : Tree → Type 0) where
-  abbrev Every : Forest → Type 0
-  Every nil = Unit {0}
-  Every (cons k ks) = P k × Every ks
-
-  every-mid : (ks : Forest) (q : Tree) (ls : Forest) → Every (append ks (cons q ls)) → Every (append ks ls)
-  every-mid nil q ls h = h .1
-  every-mid (cons k ks) q ls h = (h .0, every-mid ks q ls (h .1))
-
-  dropped-every : {n : ℕ} {ks ls : Forest} → Dropped n ks ls → Every ks → Every ls
-  dropped-every (done ks) h = h
-  dropped-every {n} (literal ks ls left right e r) h = dropped-every r (every-mid left (leaf n) right (rw e at h))
-  dropped-every (repeated ks ls left right q e i r) h = dropped-every r (every-mid left q right (rw e at h))
-
+-- ---- operands: what holds of each
 module _ (Γ : Ctx) where
-  single-each : (ks : Forest) → SingleIntegersIn ks Γ → Every (λ k. SingleIntegers k Γ) ks
-  unfolding SingleIntegers
-  single-each nil s = tt
-  single-each (cons k ks) s = (s .0, single-each ks (s .1))
-
-  single-all : (ks : Forest) → Every (λ k. SingleIntegers k Γ) ks → SingleIntegersIn ks Γ
-  unfolding SingleIntegers
-  single-all nil s = tt
-  single-all (cons k ks) s = (s .0, single-all ks (s .1))
-
   formula-each : (σ : ℕ → Ty) (ks : Forest) → AcceptedAll σ ks Γ (repeat predicate (count ks)) → Every Formula ks
   unfolding Accepted
   formula-each σ nil a = tt
   formula-each σ (cons k ks) a = (accepted-formula σ k Γ (a .0), formula-each σ ks (a .1))
-
-module _ (I : Interpretation) (Γ : Ctx) where
-  alive-each : (ks : Forest) → AliveAll I ks Γ → Every (λ k. Alive I k Γ) ks
-  unfolding Alive
-  alive-each nil s = tt
-  alive-each (cons k ks) s = (s .0, alive-each ks (s .1))
-
-  alive-all : (ks : Forest) → Every (λ k. Alive I k Γ) ks → AliveAll I ks Γ
-  unfolding Alive
-  alive-all nil s = tt
-  alive-all (cons k ks) s = (s .0, alive-all ks (s .1))
 
 -- ---- the two junctions
 module _ (I : Interpretation) (σ : ℕ → Ty) (Γ : Ctx) where
@@ -119,50 +87,30 @@ module _ (I : Interpretation) (σ : ℕ → Ty) (Γ : Ctx) where
   record Literal (b : Bool) (g : ℕ) : Type 0 where
     formula : Formula (leaf g)
     truly : (ρ : Vals I Γ) → truth I (means I (leaf g) Γ) ρ ≡ b
-    single : SingleIntegers (leaf g) Γ
-    alive : Alive I (leaf g) Γ
+    other : NoInter g
 
   -- the operator g is decided by b
   record Joins (b : Bool) (g : ℕ) : Type 0 where
-    formula : (ks : Forest) → Formula (many g ks)
+    formula : Formula (leaf g)
     truly : (ks : Forest) (ρ : Vals I Γ) → truth I (means I (many g ks) Γ) ρ ≡ says b ρ ks
-    single : (ks : Forest) → SingleIntegersIn ks Γ → SingleIntegers (many g ks) Γ
-    alive : (ks : Forest) → AliveAll I ks Γ → Alive I (many g ks) Γ
+    other : NoInter g
     kids-formula : (ks : Forest) → Accepted σ (many g ks) Γ predicate → Every Formula ks
-    kids-single : (ks : Forest) → SingleIntegers (many g ks) Γ → SingleIntegersIn ks Γ
-    kids-alive : (ks : Forest) → Alive I (many g ks) Γ → AliveAll I ks Γ
 
   literal-true : Literal true #BTrue
-  unfolding SingleIntegers Alive typeOf means holds opOf opAt classOf lookup formAt
-  literal-true = record { formula = (refl, refl); truly = λ ρ. refl; single = (tt, tt, tt, tt); alive = (tt, tt, tt) }
+  unfolding means holds opOf opAt classOf lookup formAt
+  literal-true = record { formula = (refl, refl); truly = λ ρ. refl; other = (refl, refl) }
 
   literal-false : Literal false #BFalse
-  unfolding SingleIntegers Alive typeOf means holds opOf opAt classOf lookup formAt
-  literal-false = record { formula = (refl, refl); truly = λ ρ. refl; single = (tt, tt, tt, tt); alive = (tt, tt, tt) }
+  unfolding means holds opOf opAt classOf lookup formAt
+  literal-false = record { formula = (refl, refl); truly = λ ρ. refl; other = (refl, refl) }
 
   joins-and : Joins false #LAnd
-  unfolding Accepted SingleIntegers Alive typeOf means holds opOf opAt classOf lookup formAt
-  joins-and = record {
-    formula = λ ks. (refl, refl);
-    truly = λ ks ρ. refl;
-    single = λ ks s. (tt, tt, tt, s);
-    alive = λ ks a. (tt, tt, a);
-    kids-formula = λ ks a. formula-each Γ σ ks (a .kids);
-    kids-single = λ ks s. s .3;
-    kids-alive = λ ks a. a .2;
-  }
+  unfolding Accepted means holds opOf opAt classOf lookup formAt
+  joins-and = record { formula = (refl, refl); truly = λ ks ρ. refl; other = (refl, refl); kids-formula = λ ks a. formula-each Γ σ ks (a .kids) }
 
   joins-or : Joins true #LOr
-  unfolding Accepted SingleIntegers Alive typeOf means holds opOf opAt classOf lookup formAt
-  joins-or = record {
-    formula = λ ks. (refl, refl);
-    truly = λ ks ρ. refl;
-    single = λ ks s. (tt, tt, tt, s);
-    alive = λ ks a. (tt, tt, a);
-    kids-formula = λ ks a. formula-each Γ σ ks (a .kids);
-    kids-single = λ ks s. s .3;
-    kids-alive = λ ks a. a .2;
-  }
+  unfolding Accepted means holds opOf opAt classOf lookup formAt
+  joins-or = record { formula = (refl, refl); truly = λ ks ρ. refl; other = (refl, refl); kids-formula = λ ks a. formula-each Γ σ ks (a .kids) }
 
   -- of a junction, by what decides it
   record Facts (g n d : ℕ) : Type 0 where
@@ -216,7 +164,7 @@ module _ (I : Interpretation) (σ : ℕ → Ty) (Γ : Ctx) where
 
     decided-by : ((ρ : Vals I Γ) → says (f .by) ρ ps ≡ f .by) → Keeps I Γ (many g ps) (leaf d)
     decided-by h =
-        keeps-truth I (many g ps) (leaf d) Γ (f .joins .formula ps) (f .decides .formula) (f .decides .single) (λ a. f .decides .alive)
+        keeps-truth I (many g ps) (leaf d) Γ (f .joins .formula) (f .decides .formula) (kit.leaf-single I Γ d (f .decides .formula)) (λ a. kit.leaf-alive I Γ d (f .decides .other))
         (λ a ρ. f .joins .truly ps ρ ∙ h ρ ∙ sym (f .decides .truly ρ))
 
     pub junction-decided-keeps : Among (leaf d) ps → Keeps I Γ (many g ps) (leaf d)
@@ -230,22 +178,22 @@ module _ (I : Interpretation) (σ : ℕ → Ty) (Γ : Ctx) where
 
     pub junction-none-keeps : Dropped n ps nil → Keeps I Γ (many g ps) (leaf n)
     junction-none-keeps r =
-        keeps-truth I (many g ps) (leaf n) Γ (f .joins .formula ps) (f .neutral .formula) (f .neutral .single) (λ a. f .neutral .alive)
+        keeps-truth I (many g ps) (leaf n) Γ (f .joins .formula) (f .neutral .formula) (kit.leaf-single I Γ n (f .neutral .formula)) (λ a. kit.leaf-alive I Γ n (f .neutral .other))
         (λ a ρ. f .joins .truly ps ρ ∙ dropped-says n (f .by) ρ (f .neutral .truly ρ) r ∙ none-says (f .by) ρ ∙ sym (f .neutral .truly ρ))
 
     left-single : (ls : Forest) → Dropped n ps ls → SingleIntegers (many g ps) Γ → Every (λ k. SingleIntegers k Γ) ls
-    left-single ls r s = dropped-every (λ k. SingleIntegers k Γ) r (single-each Γ ps (f .joins .kids-single ps s))
+    left-single ls r s = dropped-every (λ k. SingleIntegers k Γ) r (single-each Γ ps (kit.kids-single I Γ g ps s))
 
     left-alive : (ls : Forest) → Dropped n ps ls → Alive I (many g ps) Γ → Every (λ k. Alive I k Γ) ls
-    left-alive ls r a = dropped-every (λ k. Alive I k Γ) r (alive-each I Γ ps (f .joins .kids-alive ps a))
+    left-alive ls r a = dropped-every (λ k. Alive I k Γ) r (alive-each I Γ ps (kit.kids-alive I Γ g ps a))
 
     pub junction-one-keeps : (q : Tree) → Dropped n ps (sole q) → Accepted σ (many g ps) Γ predicate → SingleIntegers (many g ps) Γ → Keeps I Γ (many g ps) q
     junction-one-keeps q r a s =
-        keeps-truth I (many g ps) q Γ (f .joins .formula ps) (dropped-every Formula r (f .joins .kids-formula ps a) .0) (left-single (sole q) r s .0) (λ l. left-alive (sole q) r l .0)
+        keeps-truth I (many g ps) q Γ (f .joins .formula) (dropped-every Formula r (f .joins .kids-formula ps a) .0) (left-single (sole q) r s .0) (λ l. left-alive (sole q) r l .0)
         (λ l ρ. f .joins .truly ps ρ ∙ dropped-says n (f .by) ρ (f .neutral .truly ρ) r ∙ one-says (f .by) ρ q)
 
     pub junction-fewer-keeps : (ls : Forest) → Dropped n ps ls → SingleIntegers (many g ps) Γ → Keeps I Γ (many g ps) (many g ls)
     junction-fewer-keeps ls r s =
-        keeps-truth I (many g ps) (many g ls) Γ (f .joins .formula ps) (f .joins .formula ls) (f .joins .single ls (single-all Γ ls (left-single ls r s)))
-        (λ a. f .joins .alive ls (alive-all I Γ ls (left-alive ls r a)))
+        keeps-truth I (many g ps) (many g ls) Γ (f .joins .formula) (f .joins .formula) (kit.many-single I Γ g (f .joins .formula) ls (single-all Γ ls (left-single ls r s)))
+        (λ a. kit.many-alive I Γ g (f .joins .other) ls (alive-all I Γ ls (left-alive ls r a)))
         (λ a ρ. f .joins .truly ps ρ ∙ dropped-says n (f .by) ρ (f .neutral .truly ρ) r ∙ sym (f .joins .truly ls ρ))

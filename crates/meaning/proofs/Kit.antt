@@ -1,23 +1,28 @@
 -- What the trees that the equations build mean: truth, single integers, no intersection over nothing.
--- Main results: NAME-truth, NAME-single, NAME-alive for NAME one of not, and, or, implies, equiv, forall, exists, equal,
--- member, subset, empty (E = ∅), full (E = Ty); type-full (a type's expression is everything), type-type, type-single,
--- type-alive; single-type, no-int (the integers premise at a tree's type).
-use mathlib.Core.Path.{_≡_, refl, ap, ap₂, _∙_, fun-ext}
+-- Main results: many-single, leaf-single, one-single, two-single (any predicate without binders), bound-single (a quantifier),
+-- many-alive, leaf-alive, one-alive, two-alive, bound-alive (any node that is no intersection), kids-single, kids-alive (the
+-- operands); NAME-truth for NAME one of not, and, or, implies, equiv, forall, exists, equal, member, subset; NAME-truth,
+-- NAME-single, NAME-alive for empty (E = ∅) and full (E = Ty); type-full (a type's expression is everything), type-type,
+-- type-single, type-alive; single-type, no-int (the integers premise at a tree's type).
+use mathlib.Core.Path.{_≡_, refl, sym, ap, ap₂, _∙_, fun-ext}
 use mathlib.Core.Bool.{Bool, true, false, not, _&&_, _||_, Bool·beq}
 use mathlib.Core.List.{List, [], _∷_}
 use lib.Dec.{eqb, eqb-refl, T}
 use Rattle.frame.specs.Types.{Ty, bool, int, given, pow, prod}
-use Rattle.frame.specs.Trees.{head, Tree, node, Forest}
-use Rattle.frame.specs.Tags.{classOf, lookup, formAt}
+use Rattle.frame.specs.Trees.{head, Tree, node, Forest, nil, leaf, one, two, many, sole, pair}
+use Rattle.frame.specs.Tags.{Layout, these, payload, counted, binding, bindersOf, classOf, lookup, formAt, formOf}
+use Rattle.frame.specs.Operators.{#Equal, #In, #SubsetEq, #KInter, #QInter}
 use Rattle.frame.specs.Places.{Ctx, push}
-use Rattle.typing.specs.Typing.{element, typeOf}
+use Prim.Native.Nat.{ℕ}
+use Rattle.typing.specs.Typing.{element, typeOf, typesIn}
 use Rattle.typing.specs.TypeExpression.{toExpression}
 use Rattle.rules.specs.Equations.{¬ᵖ, _⇒_, _⇔_, ⋀, ⋁, ∀ᵖ, ∃ᵖ, _≐_, _∈ᵖ_, _⊆_, ∅, _≐∅, Ty-of, _≐Ty}
 use Rattle.meaning.specs.Lists.{any, all}
-use Rattle.meaning.specs.Operations.{equal, subset, member, opAt, opOf}
-use Rattle.meaning.specs.Meaning.{Interpretation, Vals, truth, val, setOf, some, every, equals, choices, identifierValue, holds, valueOf, quantified, means, meansAll}
+use Rattle.meaning.specs.Operations.{Logic, Op, logic, equal, subset, member, opAt, opOf}
+use Rattle.meaning.specs.Meaning.{Interpretation, Vals, truth, val, setOf, some, every, equals, choices, bindersIn, nodeMeans, identifierValue, holds, valueOf, quantified, means, meansAll}
 use Rattle.meaning.specs.Premises.{NoInt, Single, AllNoInt, AllSingle, SingleIntegers, SingleIntegersIn, Alive, AliveAll}
 use Rattle.meaning.proofs.Lists.{or-true}
+use Rattle.meaning.proofs.Sound.{Formula, formula-type, binders-agree}
 use Rattle.meaning.proofs.Sets.{is-empty, is-full, every-true}
 
 -- ---- the integers premise at types
@@ -74,70 +79,104 @@ module _ (I : Interpretation) where
   type-full (pow t) Γ ρ = fun-ext (λ s. ap (λ f. every I t (λ x. not (s x) || f x)) (type-full t Γ ρ) ∙ simp (or-true, every-true))
   type-full (prod t u) Γ ρ = fun-ext (λ p. ap₂ (λ f g. f (p .0) && g (p .1)) (type-full t Γ ρ) (type-full u Γ ρ))
 
+-- ---- a node without types of its own, a predicate, by its tag and its operands
+no-binders : (l : Layout) → bindersOf l [] ≡ []
+no-binders (these es) = refl
+no-binders (payload w) = refl
+no-binders (counted lo hi e) = refl
+no-binders (binding lo hi es) = refl
+
+pub node-single : (Γ : Ctx) (g : ℕ) (ks : Forest) → Single (typeOf (many g ks) Γ) → SingleIntegersIn ks Γ → SingleIntegers (many g ks) Γ
+unfolding SingleIntegers
+node-single Γ g ks h s = rw (no-binders (formOf g .layout)) (tt, h, tt, s)
+
+module _ (I : Interpretation) (Γ : Ctx) (g : ℕ) (f : Formula (leaf g)) where
+  pub many-single : (ks : Forest) → SingleIntegersIn ks Γ → SingleIntegers (many g ks) Γ
+  many-single ks s = node-single Γ g ks (rw (formula-type I (many g ks) Γ f) tt) s
+
+  pub leaf-single : SingleIntegers (leaf g) Γ
+  unfolding SingleIntegers
+  leaf-single = many-single nil tt
+
+  pub one-single : (p : Tree) → SingleIntegers p Γ → SingleIntegers (one g p) Γ
+  unfolding SingleIntegers
+  one-single p s = many-single (sole p) (s, tt)
+
+  pub two-single : (p q : Tree) → SingleIntegers p Γ → SingleIntegers q Γ → SingleIntegers (two g p q) Γ
+  unfolding SingleIntegers
+  two-single p q s r = many-single (pair p q) (s, (r, tt))
+
+-- ---- a node that is no intersection, by its tag and its operands
+abbrev pub NoInter : ℕ → Type 0
+NoInter g = (eqb g #KInter ≡ false) × (eqb g #QInter ≡ false)
+
+module _ (I : Interpretation) (Γ : Ctx) (g : ℕ) (f : NoInter g) where
+  pub many-alive : (ks : Forest) → AliveAll I ks Γ → Alive I (many g ks) Γ
+  unfolding Alive
+  many-alive ks a = rw (f .0, f .1, sym (binders-agree I g []), no-binders (formOf g .layout)) (tt, tt, a)
+
+  pub leaf-alive : Alive I (leaf g) Γ
+  unfolding Alive
+  leaf-alive = many-alive nil tt
+
+  pub one-alive : (p : Tree) → Alive I p Γ → Alive I (one g p) Γ
+  unfolding Alive
+  one-alive p a = many-alive (sole p) (a, tt)
+
+  pub two-alive : (p q : Tree) → Alive I p Γ → Alive I q Γ → Alive I (two g p q) Γ
+  unfolding Alive
+  two-alive p q a b = many-alive (pair p q) (a, (b, tt))
+
+-- ---- a quantifier
+module _ (I : Interpretation) (Γ : Ctx) (g : ℕ) (f : Formula (leaf g)) (b : (us : List Ty) → bindersOf (formOf g .layout) us ≡ us) (xs : List Ty) (p : Tree) where
+  pub bound-single : AllSingle xs → AllNoInt xs → SingleIntegers p (push xs Γ) → SingleIntegers (node (head g 0 xs) (sole p)) Γ
+  unfolding SingleIntegers
+  bound-single s n r = rw (formula-type I (node (head g 0 xs) (sole p)) Γ f, b xs) (s, tt, n, (r, tt))
+
+  pub bound-alive : NoInter g → Alive I p (push xs Γ) → Alive I (node (head g 0 xs) (sole p)) Γ
+  unfolding Alive
+  bound-alive h a = rw (h .0, h .1, sym (binders-agree I g xs), b xs) (tt, tt, (a, tt))
+
+-- ---- the operands of a node without types
+module _ (I : Interpretation) (Γ : Ctx) (g : ℕ) (ks : Forest) where
+  pub kids-single : SingleIntegers (many g ks) Γ → SingleIntegersIn ks Γ
+  unfolding SingleIntegers
+  kids-single s = rw (no-binders (formOf g .layout)) at (s .3)
+
+  pub kids-alive : Alive I (many g ks) Γ → AliveAll I ks Γ
+  unfolding Alive
+  kids-alive a = rw (sym (binders-agree I g []), no-binders (formOf g .layout)) at (a .2)
+
+-- ---- what a node without types means, by its operator
 module _ (I : Interpretation) (Γ : Ctx) where
+  pub means-at : (g : ℕ) (o : Op) → opOf g ≡ o → (ks : Forest)
+      → means I (many g ks) Γ ≡ nodeMeans I o g 0 [] Γ (typesIn ks (push (bindersIn I o []) Γ)) (meansAll I ks (push (bindersIn I o []) Γ))
+  unfolding means
+  means-at g o e ks = ap (λ x. nodeMeans I x g 0 [] Γ (typesIn ks (push (bindersIn I x []) Γ)) (meansAll I ks (push (bindersIn I x []) Γ))) e
+
   -- ---- connectives
   module _ (p : Tree) where
     pub not-truth : (ρ : Vals I Γ) → truth I (means I (¬ᵖ p) Γ) ρ ≡ not (truth I (means I p Γ) ρ)
     unfolding means holds opOf opAt classOf lookup
     not-truth ρ = refl
 
-    pub not-single : SingleIntegers p Γ → SingleIntegers (¬ᵖ p) Γ
-    unfolding SingleIntegers typeOf classOf lookup formAt
-    not-single s = (tt, tt, tt, (s, tt))
-
-    pub not-alive : Alive I p Γ → Alive I (¬ᵖ p) Γ
-    unfolding Alive opOf opAt classOf lookup
-    not-alive a = (tt, tt, (a, tt))
-
   module _ (ks : Forest) where
     pub and-truth : (ρ : Vals I Γ) → truth I (means I (⋀ ks) Γ) ρ ≡ all (λ k. truth I k ρ) (meansAll I ks Γ)
     unfolding means holds opOf opAt classOf lookup
     and-truth ρ = refl
 
-    pub and-single : SingleIntegersIn ks Γ → SingleIntegers (⋀ ks) Γ
-    unfolding SingleIntegers typeOf classOf lookup formAt
-    and-single s = (tt, tt, tt, s)
-
-    pub and-alive : AliveAll I ks Γ → Alive I (⋀ ks) Γ
-    unfolding Alive opOf opAt classOf lookup
-    and-alive a = (tt, tt, a)
-
     pub or-truth : (ρ : Vals I Γ) → truth I (means I (⋁ ks) Γ) ρ ≡ any (λ k. truth I k ρ) (meansAll I ks Γ)
     unfolding means holds opOf opAt classOf lookup
     or-truth ρ = refl
-
-    pub or-single : SingleIntegersIn ks Γ → SingleIntegers (⋁ ks) Γ
-    unfolding SingleIntegers typeOf classOf lookup formAt
-    or-single s = (tt, tt, tt, s)
-
-    pub or-alive : AliveAll I ks Γ → Alive I (⋁ ks) Γ
-    unfolding Alive opOf opAt classOf lookup
-    or-alive a = (tt, tt, a)
 
   module _ (p q : Tree) where
     pub implies-truth : (ρ : Vals I Γ) → truth I (means I (p ⇒ q) Γ) ρ ≡ (not (truth I (means I p Γ) ρ) || truth I (means I q Γ) ρ)
     unfolding means holds opOf opAt classOf lookup
     implies-truth ρ = refl
 
-    pub implies-single : SingleIntegers p Γ → SingleIntegers q Γ → SingleIntegers (p ⇒ q) Γ
-    unfolding SingleIntegers typeOf classOf lookup formAt
-    implies-single s r = (tt, tt, tt, (s, (r, tt)))
-
-    pub implies-alive : Alive I p Γ → Alive I q Γ → Alive I (p ⇒ q) Γ
-    unfolding Alive opOf opAt classOf lookup
-    implies-alive a b = (tt, tt, (a, (b, tt)))
-
     pub equiv-truth : (ρ : Vals I Γ) → truth I (means I (p ⇔ q) Γ) ρ ≡ Bool·beq (truth I (means I p Γ) ρ) (truth I (means I q Γ) ρ)
     unfolding means holds opOf opAt classOf lookup
     equiv-truth ρ = refl
-
-    pub equiv-single : SingleIntegers p Γ → SingleIntegers q Γ → SingleIntegers (p ⇔ q) Γ
-    unfolding SingleIntegers typeOf classOf lookup formAt
-    equiv-single s r = (tt, tt, tt, (s, (r, tt)))
-
-    pub equiv-alive : Alive I p Γ → Alive I q Γ → Alive I (p ⇔ q) Γ
-    unfolding Alive opOf opAt classOf lookup
-    equiv-alive a b = (tt, tt, (a, (b, tt)))
 
   -- ---- quantifiers
   module _ (xs : List Ty) (p : Tree) where
@@ -145,79 +184,29 @@ module _ (I : Interpretation) (Γ : Ctx) where
     unfolding means quantified opOf opAt classOf lookup
     forall-truth ρ = refl
 
-    pub forall-single : AllSingle xs → AllNoInt xs → SingleIntegers p (push xs Γ) → SingleIntegers (∀ᵖ xs p) Γ
-    unfolding SingleIntegers typeOf classOf lookup formAt
-    forall-single s n r = (s, tt, n, (r, tt))
-
-    pub forall-alive : Alive I p (push xs Γ) → Alive I (∀ᵖ xs p) Γ
-    unfolding Alive opOf opAt classOf lookup
-    forall-alive a = (tt, tt, (a, tt))
-
     pub exists-truth : (ρ : Vals I Γ) → truth I (means I (∃ᵖ xs p) Γ) ρ ≡ any (truth I (means I p (push xs Γ))) (choices I xs Γ ρ)
     unfolding means quantified opOf opAt classOf lookup
     exists-truth ρ = refl
 
-    pub exists-single : AllSingle xs → AllNoInt xs → SingleIntegers p (push xs Γ) → SingleIntegers (∃ᵖ xs p) Γ
-    unfolding SingleIntegers typeOf classOf lookup formAt
-    exists-single s n r = (s, tt, n, (r, tt))
-
-    pub exists-alive : Alive I p (push xs Γ) → Alive I (∃ᵖ xs p) Γ
-    unfolding Alive opOf opAt classOf lookup
-    exists-alive a = (tt, tt, (a, tt))
-
   -- ---- = ∈ ⊆. The operands' types show in what these mean: first the operator shut, then opened.
   module _ (a b : Tree) where
-    pub equal-single : SingleIntegers a Γ → SingleIntegers b Γ → SingleIntegers (a ≐ b) Γ
-    unfolding SingleIntegers typeOf classOf lookup formAt
-    equal-single s r = (tt, tt, tt, (s, (r, tt)))
-
-    pub equal-alive : Alive I a Γ → Alive I b Γ → Alive I (a ≐ b) Γ
-    unfolding Alive opOf opAt classOf lookup
-    equal-alive h k = (tt, tt, (h, (k, tt)))
-
-    pub member-single : SingleIntegers a Γ → SingleIntegers b Γ → SingleIntegers (a ∈ᵖ b) Γ
-    unfolding SingleIntegers typeOf classOf lookup formAt
-    member-single s r = (tt, tt, tt, (s, (r, tt)))
-
-    pub member-alive : Alive I a Γ → Alive I b Γ → Alive I (a ∈ᵖ b) Γ
-    unfolding Alive opOf opAt classOf lookup
-    member-alive h k = (tt, tt, (h, (k, tt)))
-
-    pub subset-single : SingleIntegers a Γ → SingleIntegers b Γ → SingleIntegers (a ⊆ b) Γ
-    unfolding SingleIntegers typeOf classOf lookup formAt
-    subset-single s r = (tt, tt, tt, (s, (r, tt)))
-
-    pub subset-alive : Alive I a Γ → Alive I b Γ → Alive I (a ⊆ b) Γ
-    unfolding Alive opOf opAt classOf lookup
-    subset-alive h k = (tt, tt, (h, (k, tt)))
-
-    equal-at : (t : Ty) → typeOf a Γ ≡ t → (ρ : Vals I Γ)
-        → truth I (means I (a ≐ b) Γ) ρ ≡ holds I equal 101 (t ∷ typeOf b Γ ∷ []) (means I a Γ ∷ means I b Γ ∷ []) ρ
-    unfolding means typeOf opOf opAt classOf lookup
-    equal-at t h ρ = rw h
+    shut : (g : ℕ) (o : Logic) → opOf g ≡ logic o → (t : Ty) → typeOf a Γ ≡ t → (ρ : Vals I Γ)
+        → truth I (means I (two g a b) Γ) ρ ≡ holds I o g (t ∷ typeOf b Γ ∷ []) (means I a Γ ∷ means I b Γ ∷ []) ρ
+    unfolding means typeOf
+    shut g o e t h ρ = ap (λ k. truth I k ρ) (means-at g (logic o) e (pair a b)) ∙ ap (λ x. holds I o g (x ∷ typeOf b Γ ∷ []) (means I a Γ ∷ means I b Γ ∷ []) ρ) h
 
     pub equal-truth : (t : Ty) → typeOf a Γ ≡ t → (ρ : Vals I Γ) → truth I (means I (a ≐ b) Γ) ρ ≡ equals I t (val I (means I a Γ) ρ t) (val I (means I b Γ) ρ t)
-    unfolding holds
-    equal-truth t h ρ = equal-at t h ρ
-
-    member-at : (t : Ty) → typeOf a Γ ≡ t → (ρ : Vals I Γ)
-        → truth I (means I (a ∈ᵖ b) Γ) ρ ≡ holds I member 107 (t ∷ typeOf b Γ ∷ []) (means I a Γ ∷ means I b Γ ∷ []) ρ
-    unfolding means typeOf opOf opAt classOf lookup
-    member-at t h ρ = rw h
+    unfolding holds opOf opAt classOf lookup
+    equal-truth t h ρ = shut #Equal equal refl t h ρ
 
     pub member-truth : (t : Ty) → typeOf a Γ ≡ t → (ρ : Vals I Γ) → truth I (means I (a ∈ᵖ b) Γ) ρ ≡ setOf I (means I b Γ) ρ t (val I (means I a Γ) ρ t)
-    unfolding holds
-    member-truth t h ρ = member-at t h ρ
-
-    subset-at : (u : Ty) → typeOf a Γ ≡ pow u → (ρ : Vals I Γ)
-        → truth I (means I (a ⊆ b) Γ) ρ ≡ holds I subset 111 (pow u ∷ typeOf b Γ ∷ []) (means I a Γ ∷ means I b Γ ∷ []) ρ
-    unfolding means typeOf opOf opAt classOf lookup
-    subset-at u h ρ = rw h
+    unfolding holds opOf opAt classOf lookup
+    member-truth t h ρ = shut #In member refl t h ρ
 
     pub subset-truth : (u : Ty) → typeOf a Γ ≡ pow u → (ρ : Vals I Γ)
         → truth I (means I (a ⊆ b) Γ) ρ ≡ every I u (λ x. not (setOf I (means I a Γ) ρ u x) || setOf I (means I b Γ) ρ u x)
-    unfolding holds
-    subset-truth u h ρ = subset-at u h ρ
+    unfolding holds opOf opAt classOf lookup
+    subset-truth u h ρ = shut #SubsetEq subset refl (pow u) h ρ
 
   -- ---- E = ∅, E = Ty
   pub none-of : (t : Ty) (ρ : Vals I Γ) (u : Ty) → setOf I (means I (∅ t) Γ) ρ u ≡ (λ x. false)
@@ -239,10 +228,11 @@ module _ (I : Interpretation) (Γ : Ctx) where
         ∙ is-empty (I .size) u (setOf I (means I e Γ) ρ u)
 
     pub full-single : SingleIntegers e Γ → SingleIntegers (_≐Ty Γ e) Γ
-    full-single s = equal-single e (Ty-of Γ e) s (type-single (element (typeOf e Γ)) Γ (single-element (typeOf e Γ) (single-type e Γ s)))
+    unfolding classOf lookup formAt
+    full-single s = two-single I Γ #Equal (refl, refl) e (Ty-of Γ e) s (type-single (element (typeOf e Γ)) Γ (single-element (typeOf e Γ) (single-type e Γ s)))
 
     pub full-alive : Alive I e Γ → Alive I (_≐Ty Γ e) Γ
-    full-alive a = equal-alive e (Ty-of Γ e) a (type-alive I (element (typeOf e Γ)) Γ)
+    full-alive a = two-alive I Γ #Equal (refl, refl) e (Ty-of Γ e) a (type-alive I (element (typeOf e Γ)) Γ)
 
     full-at : (u : Ty) → typeOf e Γ ≡ pow u → (ρ : Vals I Γ) → setOf I (means I (Ty-of Γ e) Γ) ρ u ≡ (λ x. true)
     full-at u h ρ = rw h (type-full I u Γ ρ)

@@ -1,7 +1,7 @@
 -- Lists of operands: one predicate made of each, lists joined, an operand among others.
 -- Main results: map-single, map-alive, map-all, map-any (operands changed one by one), empties-all, fulls-all (each operand
--- is ∅, is full), append-means, append-types, append-single, append-alive, left-single, right-single, left-alive,
--- right-alive (two lists joined), among-means, among-single, among-alive, each-alike (operands of one type).
+-- is ∅, is full), append-means (two lists joined), among-means, each-alike (operands of one type); single-each,
+-- single-all, alive-each, alive-all (what holds of each operand).
 use mathlib.Core.Path.{_≡_, refl, sym, ap, ap₂, _∙_}
 use mathlib.Core.Logic.{inl, inr}
 use mathlib.Core.Bool.{Bool, not, _&&_, _||_}
@@ -11,6 +11,7 @@ use Rattle.frame.specs.Trees.{Tree, Forest, nil, cons, append, mapF}
 use Rattle.frame.specs.Places.{Ctx}
 use Rattle.typing.specs.Typing.{alike, typeOf, typesIn}
 use Rattle.rules.specs.Equations.{Among, _≐∅, _≐Ty}
+use Rattle.rules.proofs.Nodes.{Every}
 use Rattle.meaning.specs.Lists.{any, all, In}
 use Rattle.meaning.specs.Meaning.{Interpretation, Vals, Den, truth, setOf, some, every, means, meansAll}
 use Rattle.meaning.specs.Premises.{SingleIntegers, SingleIntegersIn, Alive, AliveAll}
@@ -25,6 +26,29 @@ Each t (u ∷ us) = (u ≡ t) × Each t us
 pub each-alike : (t : Ty) (us : List Ty) → us ≡ alike t us → Each t us
 each-alike t [] e = tt
 each-alike t (u ∷ us) e = ((cc), each-alike t us (cc))
+
+-- ---- what holds of each operand
+module _ (Γ : Ctx) where
+  pub single-each : (ks : Forest) → SingleIntegersIn ks Γ → Every (λ k. SingleIntegers k Γ) ks
+  unfolding SingleIntegers
+  single-each nil s = tt
+  single-each (cons k ks) s = (s .0, single-each ks (s .1))
+
+  pub single-all : (ks : Forest) → Every (λ k. SingleIntegers k Γ) ks → SingleIntegersIn ks Γ
+  unfolding SingleIntegers
+  single-all nil s = tt
+  single-all (cons k ks) s = (s .0, single-all ks (s .1))
+
+module _ (I : Interpretation) (Γ : Ctx) where
+  pub alive-each : (ks : Forest) → AliveAll I ks Γ → Every (λ k. Alive I k Γ) ks
+  unfolding Alive
+  alive-each nil s = tt
+  alive-each (cons k ks) s = (s .0, alive-each ks (s .1))
+
+  pub alive-all : (ks : Forest) → Every (λ k. Alive I k Γ) ks → AliveAll I ks Γ
+  unfolding Alive
+  alive-all nil s = tt
+  alive-all (cons k ks) s = (s .0, alive-all ks (s .1))
 
 -- ---- operands changed one by one
 module _ (f : Tree → Tree) (Γ Δ : Ctx) where
@@ -51,7 +75,7 @@ module _ (I : Interpretation) (f : Tree → Tree) (Γ Δ : Ctx) where
     map-any nil e = refl
     map-any (cons k ks) e = ap₂ _||_ (h k (e .0)) (map-any ks (e .1))
 
-pub all-not : {A : Type 0} (p : A → Bool) (l : List A) → all (λ a. not (p a)) l ≡ not (any p l)
+all-not : {A : Type 0} (p : A → Bool) (l : List A) → all (λ a. not (p a)) l ≡ not (any p l)
 unfolding any all
 all-not p [] = refl
 all-not p (a ∷ l) = ap (λ b. not (p a) && b) (all-not p l) ∙ sym (not-or (p a) (any p l))
@@ -67,57 +91,11 @@ module _ (I : Interpretation) (Γ : Ctx) (u : Ty) (ρ : Vals I Γ) (ks : Forest)
   fulls-all = map-all I (_≐Ty Γ) Γ Γ (pow u) ρ (λ d. every I u (setOf I d ρ u)) (λ k h. kit.full-truth I Γ k u h ρ) ks e
 
 -- ---- lists joined
-module _ (Γ : Ctx) where
-  pub append-types : (ks ls : Forest) → typesIn (append ks ls) Γ ≡ typesIn ks Γ ++ typesIn ls Γ
-  unfolding typeOf
-  append-types nil ls = refl
-  append-types (cons k ks) ls = ap (λ ts. typeOf k Γ ∷ ts) (append-types ks ls)
-
-  pub append-single : (ks ls : Forest) → SingleIntegersIn ks Γ → SingleIntegersIn ls Γ → SingleIntegersIn (append ks ls) Γ
-  unfolding SingleIntegers
-  append-single nil ls s r = r
-  append-single (cons k ks) ls s r = (s .0, append-single ks ls (s .1) r)
-
-  pub left-single : (ks ls : Forest) → SingleIntegersIn (append ks ls) Γ → SingleIntegersIn ks Γ
-  unfolding SingleIntegers
-  left-single nil ls s = tt
-  left-single (cons k ks) ls s = (s .0, left-single ks ls (s .1))
-
-  pub right-single : (ks ls : Forest) → SingleIntegersIn (append ks ls) Γ → SingleIntegersIn ls Γ
-  unfolding SingleIntegers
-  right-single nil ls s = s
-  right-single (cons k ks) ls s = right-single ks ls (s .1)
-
-  pub among-single : (k : Tree) (ks : Forest) → Among k ks → SingleIntegersIn ks Γ → SingleIntegers k Γ
-  unfolding SingleIntegers
-  among-single k (cons j ks) (inl e) s = rw e (s .0)
-  among-single k (cons j ks) (inr i) s = among-single k ks i (s .1)
-
 module _ (I : Interpretation) (Γ : Ctx) where
   pub append-means : (ks ls : Forest) → meansAll I (append ks ls) Γ ≡ meansAll I ks Γ ++ meansAll I ls Γ
   unfolding means
   append-means nil ls = refl
   append-means (cons k ks) ls = ap (λ ds. means I k Γ ∷ ds) (append-means ks ls)
-
-  pub append-alive : (ks ls : Forest) → AliveAll I ks Γ → AliveAll I ls Γ → AliveAll I (append ks ls) Γ
-  unfolding Alive
-  append-alive nil ls s r = r
-  append-alive (cons k ks) ls s r = (s .0, append-alive ks ls (s .1) r)
-
-  pub left-alive : (ks ls : Forest) → AliveAll I (append ks ls) Γ → AliveAll I ks Γ
-  unfolding Alive
-  left-alive nil ls s = tt
-  left-alive (cons k ks) ls s = (s .0, left-alive ks ls (s .1))
-
-  pub right-alive : (ks ls : Forest) → AliveAll I (append ks ls) Γ → AliveAll I ls Γ
-  unfolding Alive
-  right-alive nil ls s = s
-  right-alive (cons k ks) ls s = right-alive ks ls (s .1)
-
-  pub among-alive : (k : Tree) (ks : Forest) → Among k ks → AliveAll I ks Γ → Alive I k Γ
-  unfolding Alive
-  among-alive k (cons j ks) (inl e) s = rw e (s .0)
-  among-alive k (cons j ks) (inr i) s = among-alive k ks i (s .1)
 
   pub among-means : (k : Tree) (ks : Forest) → Among k ks → In (means I k Γ) (meansAll I ks Γ)
   unfolding means

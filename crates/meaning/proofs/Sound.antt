@@ -128,13 +128,17 @@ module _ (I : Interpretation) where
   suits-expr true expression (operator o) t g n us Γ ts ks p q s = refl
   suits-expr true expression (binding o) t g n us Γ ts ks p q s = refl
 
+  -- ts are the types of the operands
+  pred-node : (g n : ℕ) (us : List Ty) (ks : Forest) (Γ : Ctx) (ts : List Ty) → Formula (node (head g n us) ks)
+      → let k = nodeMeans I (opOf g) g n us Γ ts (meansAll I ks (push (bindersIn I (opOf g) us) Γ)) in (pred (truth I k) ≡ k) × (result (classOf g) n us Γ ts ≡ bool)
+  unfolding opOf
+  pred-node g n us ks Γ ts f =
+      suits-pred (formOf g .listed) (formOf g .sort) (opOf g) (result (classOf g) n us Γ ts) g n us Γ ts (meansAll I ks (push (bindersIn I (opOf g) us) Γ)) (f .0) (f .1)
+      (class-op (classOf g) g n us Γ ts .1)
+
   pub is-pred : (t : Tree) (Γ : Ctx) → Formula t → pred (truth I (means I t Γ)) ≡ means I t Γ
-  unfolding means opOf
-  is-pred (node (head g n us) ks) Γ f =
-      let Δ = push (bindersIn I (opOf g) us) Γ in
-      let ts = typesIn ks Δ in
-      suits-pred (formOf g .listed) (formOf g .sort) (opOf g) (result (classOf g) n us Γ ts) g n us Γ ts (meansAll I ks Δ) (f .0) (f .1)
-      (class-op (classOf g) g n us Γ ts .1) .0
+  unfolding means
+  is-pred (node (head g n us) ks) Γ f = pred-node g n us ks Γ (typesIn ks (push (bindersIn I (opOf g) us) Γ)) f .0
 
   pub is-expr : (t : Tree) (Γ : Ctx) → Expression t → expr (val I (means I t Γ)) ≡ means I t Γ
   unfolding means opOf
@@ -145,12 +149,8 @@ module _ (I : Interpretation) where
       (class-op (classOf g) g n us Γ ts .1)
 
   pub formula-type : (t : Tree) (Γ : Ctx) → Formula t → typeOf t Γ ≡ bool
-  unfolding typeOf opOf
-  formula-type (node (head g n us) ks) Γ f =
-      let Δ = push (bindersIn I (opOf g) us) Γ in
-      let ts = typesIn ks (under g us Γ) in
-      suits-pred (formOf g .listed) (formOf g .sort) (opOf g) (result (classOf g) n us Γ ts) g n us Γ ts (meansAll I ks Δ) (f .0) (f .1)
-      (class-op (classOf g) g n us Γ ts .1) .1
+  unfolding typeOf
+  formula-type (node (head g n us) ks) Γ f = pred-node g n us ks Γ (typesIn ks (under g us Γ)) f .1
 
   -- two predicates that are true alike mean the same
   pub by-truth : (s t : Tree) (Γ : Ctx) → Formula s → Formula t → ((ρ : Vals I Γ) → truth I (means I s Γ) ρ ≡ truth I (means I t Γ) ρ) → means I s Γ ≡ means I t Γ

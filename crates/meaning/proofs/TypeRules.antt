@@ -1,13 +1,13 @@
 -- The equations of E = Ty: the new predicate says that E has every element of its type.
 -- Main result: fills-filled.
 use mathlib.Core.Path.{_≡_, refl, ap, ap₂, _∙_, fun-ext}
-use mathlib.Core.Bool.{true, false, not, _&&_, _||_, So}
+use mathlib.Core.Bool.{Bool, true, false, not, _&&_, _||_, So}
 use mathlib.Core.List.{List}
 use Prim.Native.Nat.{ℕ}
 use Rattle.frame.specs.Types.{Ty, pow, prod}
 use Rattle.frame.specs.Trees.{Tree, Forest, one, two, sole, pair, bodied, mapF}
 use Rattle.frame.specs.Tags.{expression, classOf, lookup, formAt}
-use Rattle.frame.specs.Operators.{#SetMinus, #CProd, #DProd, #PProd, #DomRes, #DomSub, #RanRes, #RanSub, #UpTo, #KInter, #Converse, #QInter}
+use Rattle.frame.specs.Operators.{#SetMinus, #CProd, #DProd, #PProd, #DomRes, #DomSub, #RanRes, #RanSub, #UpTo, #KInter, #Converse, #QInter, #Equal, #Forall, #LAnd, #LImp}
 use Rattle.frame.specs.Places.{Ctx, push}
 use Rattle.typing.specs.Typing.{element, relation, typeOf, typesIn}
 use Rattle.typing.specs.TypeExpression.{toExpression}
@@ -31,31 +31,41 @@ module _ (I : Interpretation) (σ : ℕ → Ty) (Γ : Ctx) where
       → Filled I σ Γ e (⋀ (pair p q))
   unfolding SingleIntegers Alive means classOf lookup formAt all
   both e p q u he sp sq l k =
-      filled I σ Γ e (⋀ (pair p q)) u he (refl, refl) (kit.and-single I Γ (pair p q) (sp, (sq, tt)))
-      (λ a. kit.and-alive I Γ (pair p q) (l a .0, (l a .1, tt))) (λ a ρ. kit.and-truth I Γ (pair p q) ρ ∙ k ρ)
+      filled I σ Γ e (⋀ (pair p q)) u he (refl, refl) (kit.many-single I Γ #LAnd (refl, refl) (pair p q) (sp, (sq, tt)))
+      (λ a. kit.many-alive I Γ #LAnd (refl, refl) (pair p q) (l a .0, (l a .1, tt))) (λ a ρ. kit.and-truth I Γ (pair p q) ρ ∙ k ρ)
+
+  -- p says of a set a what f tells: that it is full, that it is empty
+  record Says (a p : Tree) (f : Vals I Γ → Bool) : Type 0 where
+    single : SingleIntegers a Γ → SingleIntegers p Γ
+    alive : Alive I a Γ → Alive I p Γ
+    truly : (ρ : Vals I Γ) → truth I (means I p Γ) ρ ≡ f ρ
+
+  full-says : (a : Tree) (u : Ty) → typeOf a Γ ≡ pow u → Says a (_≐Ty Γ a) (λ ρ. every I u (setOf I (means I a Γ) ρ u))
+  full-says a u h = record { single = kit.full-single I Γ a; alive = kit.full-alive I Γ a; truly = kit.full-truth I Γ a u h }
+
+  none-says : (a : Tree) (u : Ty) → typeOf a Γ ≡ pow u → Says a (_≐∅ Γ a) (λ ρ. not (some I u (setOf I (means I a Γ) ρ u)))
+  none-says a u h = record { single = kit.empty-single I Γ a; alive = kit.empty-alive I Γ a; truly = kit.empty-truth I Γ a u h }
+
+  module _ (e a b : Tree) (t : Ty) (he : typeOf e Γ ≡ pow t) (s : SingleIntegers a Γ × SingleIntegers b Γ) (l : Alive I e Γ → Alive I a Γ × Alive I b Γ) where
+    both-say : {p q : Tree} {f g : Vals I Γ → Bool} → Says a p f → Says b q g → ((ρ : Vals I Γ) → (f ρ && (g ρ && true)) ≡ every I t (setOf I (means I e Γ) ρ t))
+        → Filled I σ Γ e (⋀ (pair p q))
+    both-say {p} {q} x y k =
+        both e p q t he (x .single (s .0)) (y .single (s .1)) (λ z. (x .alive (l z .0), y .alive (l z .1)))
+        (λ ρ. ap₂ (λ c d. c && (d && true)) (x .truly ρ) (y .truly ρ) ∙ k ρ)
 
   module _ (e a b : Tree) (t u v : Ty) (he : typeOf e Γ ≡ pow t) (ha : typeOf a Γ ≡ pow u) (hb : typeOf b Γ ≡ pow v)
       (s : SingleIntegers a Γ × SingleIntegers b Γ) (l : Alive I e Γ → Alive I a Γ × Alive I b Γ) where
     full-full : ((ρ : Vals I Γ) → (every I u (setOf I (means I a Γ) ρ u) && (every I v (setOf I (means I b Γ) ρ v) && true)) ≡ every I t (setOf I (means I e Γ) ρ t))
         → Filled I σ Γ e (⋀ (pair (_≐Ty Γ a) (_≐Ty Γ b)))
-    full-full k =
-        both e (_≐Ty Γ a) (_≐Ty Γ b) t he (kit.full-single I Γ a (s .0)) (kit.full-single I Γ b (s .1))
-        (λ x. (kit.full-alive I Γ a (l x .0), kit.full-alive I Γ b (l x .1)))
-        (λ ρ. ap₂ (λ x y. x && (y && true)) (kit.full-truth I Γ a u ha ρ) (kit.full-truth I Γ b v hb ρ) ∙ k ρ)
+    full-full = both-say e a b t he s l (full-says a u ha) (full-says b v hb)
 
     full-none : ((ρ : Vals I Γ) → (every I u (setOf I (means I a Γ) ρ u) && (not (some I v (setOf I (means I b Γ) ρ v)) && true)) ≡ every I t (setOf I (means I e Γ) ρ t))
         → Filled I σ Γ e (⋀ (pair (_≐Ty Γ a) (_≐∅ Γ b)))
-    full-none k =
-        both e (_≐Ty Γ a) (_≐∅ Γ b) t he (kit.full-single I Γ a (s .0)) (kit.empty-single I Γ b (s .1))
-        (λ x. (kit.full-alive I Γ a (l x .0), kit.empty-alive I Γ b (l x .1)))
-        (λ ρ. ap₂ (λ x y. x && (y && true)) (kit.full-truth I Γ a u ha ρ) (kit.empty-truth I Γ b v hb ρ) ∙ k ρ)
+    full-none = both-say e a b t he s l (full-says a u ha) (none-says b v hb)
 
     none-full : ((ρ : Vals I Γ) → (not (some I u (setOf I (means I a Γ) ρ u)) && (every I v (setOf I (means I b Γ) ρ v) && true)) ≡ every I t (setOf I (means I e Γ) ρ t))
         → Filled I σ Γ e (⋀ (pair (_≐∅ Γ a) (_≐Ty Γ b)))
-    none-full k =
-        both e (_≐∅ Γ a) (_≐Ty Γ b) t he (kit.empty-single I Γ a (s .0)) (kit.full-single I Γ b (s .1))
-        (λ x. (kit.empty-alive I Γ a (l x .0), kit.full-alive I Γ b (l x .1)))
-        (λ ρ. ap₂ (λ x y. x && (y && true)) (kit.empty-truth I Γ a u ha ρ) (kit.full-truth I Γ b v hb ρ) ∙ k ρ)
+    none-full = both-say e a b t he s l (none-says a u ha) (full-says b v hb)
 
   -- ---- A ∖ B, S × T
   minus-filled : (a b : Tree) (u : Ty) → typeOf a Γ ≡ pow u → typeOf b Γ ≡ pow u → SingleIntegers (two #SetMinus a b) Γ
@@ -143,8 +153,8 @@ module _ (I : Interpretation) (σ : ℕ → Ty) (Γ : Ctx) where
       let u = element (typeOf (⋂ ks) Γ) in
       record {
         formula = (refl, refl);
-        single = kit.and-single I Γ (mapF (_≐Ty Γ) ks) (map-single (_≐Ty Γ) Γ Γ (λ k. kit.full-single I Γ k) ks (s .3));
-        alive = λ a. kit.and-alive I Γ (mapF (_≐Ty Γ) ks) (map-alive I (_≐Ty Γ) Γ Γ (λ k. kit.full-alive I Γ k) ks (a .2));
+        single = kit.many-single I Γ #LAnd (refl, refl) (mapF (_≐Ty Γ) ks) (map-single (_≐Ty Γ) Γ Γ (λ k. kit.full-single I Γ k) ks (s .3));
+        alive = λ a. kit.many-alive I Γ #LAnd (refl, refl) (mapF (_≐Ty Γ) ks) (map-alive I (_≐Ty Γ) Γ Γ (λ k. kit.full-alive I Γ k) ks (a .2));
         says = λ a ρ.
             kit.and-truth I Γ (mapF (_≐Ty Γ) ks) ρ ∙ fulls-all I Γ u ρ ks h ∙ set.cap-full (I .size) u (λ d. setOf I d ρ u) (meansAll I ks Γ);
       }
@@ -175,8 +185,8 @@ module _ (I : Interpretation) (σ : ℕ → Ty) (Γ : Ctx) where
     unfolding SingleIntegers Alive typeOf means valueOf opOf opAt classOf lookup formAt
     kinter-at i =
         let n = kit.no-int s Γ (pow u) (i .3 .0) hs in
-        filled I σ Γ (one #KInter s) (s ≐ only) u (rw hs) (refl, refl) (kit.equal-single I Γ s only (i .3 .0) (only-single n))
-        (λ a. kit.equal-alive I Γ s only (a .2 .0) only-alive)
+        filled I σ Γ (one #KInter s) (s ≐ only) u (rw hs) (refl, refl) (kit.two-single I Γ #Equal (refl, refl) s only (i .3 .0) (only-single n))
+        (λ a. kit.two-alive I Γ #Equal (refl, refl) s only (a .2 .0) only-alive)
         (λ a ρ. kit.equal-truth I Γ s only (pow (pow u)) hs ρ
         ∙ ap (λ x. equals I (pow (pow u)) (setOf I (means I s Γ) ρ (pow u)) x) (only-set ρ)
         ∙ set.kinter-full (I .size) u n (setOf I (means I s Γ) ρ (pow u)) (member-of a ρ))
@@ -192,8 +202,8 @@ module _ (I : Interpretation) (σ : ℕ → Ty) (Γ : Ctx) where
   qinter-filled xs p e u he s =
       let Δ = push xs Γ in
       filled I σ Γ (bodied #QInter xs p e) (∀ᵖ xs (p ⇒ _≐Ty Δ e)) u he (refl, refl)
-      (kit.forall-single I Γ xs (p ⇒ _≐Ty Δ e) (s .0) (s .2) (kit.implies-single I Δ p (_≐Ty Δ e) (s .3 .0) (kit.full-single I Δ e (s .3 .1 .0))))
-      (λ a. kit.forall-alive I Γ xs (p ⇒ _≐Ty Δ e) (kit.implies-alive I Δ p (_≐Ty Δ e) (a .2 .0) (kit.full-alive I Δ e (a .2 .1 .0))))
+      (kit.bound-single I Γ #Forall (refl, refl) (λ us. refl) xs (p ⇒ _≐Ty Δ e) (s .0) (s .2) (kit.two-single I Δ #LImp (refl, refl) p (_≐Ty Δ e) (s .3 .0) (kit.full-single I Δ e (s .3 .1 .0))))
+      (λ a. kit.bound-alive I Γ #Forall (refl, refl) (λ us. refl) xs (p ⇒ _≐Ty Δ e) (refl, refl) (kit.two-alive I Δ #LImp (refl, refl) p (_≐Ty Δ e) (a .2 .0) (kit.full-alive I Δ e (a .2 .1 .0))))
       (λ a ρ. kit.forall-truth I Γ xs (p ⇒ _≐Ty Δ e) ρ
       ∙ ap (λ f. all f (choices I xs Γ ρ)) (fun-ext (λ τ. kit.implies-truth I Δ p (_≐Ty Δ e) τ ∙ ap (λ b. not (truth I (means I p Δ) τ) || b) (kit.full-truth I Δ e u he τ)))
       ∙ set.qinter-full (I .size) u (kit.no-int e Δ u (s .3 .1 .0) he) (truth I (means I p Δ)) (λ τ. setOf I (means I e Δ) τ u) (choices I xs Γ ρ))

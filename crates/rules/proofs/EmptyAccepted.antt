@@ -14,7 +14,7 @@ use Rattle.rules.specs.Equations.{¬ᵖ, _∈ᵖ_, _⊆_, ext, over, ∅
 use Rattle.rules.proofs.Nodes.{Holds, Has, short, ok-of}
 use Rattle.rules.proofs.NewNodes.{short-member, false-holds, not-holds, gt-holds, in-holds, subset-holds, imp-holds, eqv-holds, and-two, or-two, forall-holds, empty-has, single-has, dom-has, ran-has, restrict-has, cap-two, over-cap, over-cup, is-empty}
 use Rattle.rules.proofs.OldNodes.{Operands, of-pow1, of-union, of-dom, of-ran, of-converse, of-single, of-minus, of-times, of-upto, of-srel, of-strel, of-domres, of-domsub, of-ranres, of-ransub, of-image, of-dprod, of-pprod, of-fcomp, of-bcomp, of-cap, of-cup, of-ovr, of-qunion}
-use Rattle.rules.proofs.Operands.{count-without, subtracted-same, subtracted-fewer, each-at, each-without, minuends, subtrahends, all-hold}
+use Rattle.rules.proofs.Operands.{count-without, subtracted-same, subtracted-fewer, every-mid, minuends, subtrahends, all-hold}
 
 module _ {σ : ℕ → Ty} {Γ : Ctx} where
   -- A ∩ {a} ∩ B = ∅
@@ -23,8 +23,8 @@ module _ {σ : ℕ → Ty} {Γ : Ctx} where
   apart-holds a left right u o =
       let c = count-without left (ext (sole a)) right in
       not-holds
-      (in-holds (of-single (each-at σ Γ expression (pow u) left (ext (sole a)) right (o .each)))
-      (over-cap (append left right) u (omega arith) (omega arith) (each-without σ Γ expression (pow u) left (ext (sole a)) right (o .each))))
+      (in-holds (of-single (every-mid (λ k. Has σ Γ k (pow u)) left (ext (sole a)) right (o .each) .0))
+      (over-cap (append left right) u (omega arith) (omega arith) (every-mid (λ k. Has σ Γ k (pow u)) left (ext (sole a)) right (o .each) .1)))
 
   -- (A ∖ B) ∩ C ∩ (D ∖ E) = ∅
   pub within-holds : (ks ls : Forest) (b : Tree) (ms : Forest) (u : Ty) → Subtracted ks ls (cons b ms) → Operands σ Γ expression (pow u) ks

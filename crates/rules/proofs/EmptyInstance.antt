@@ -6,15 +6,15 @@ use Prim.Native.Nat.{ℕ, _≤_}
 use native.Mathlib.Omega.{arith}
 use lib.Dec.{eqb}
 use Rattle.frame.specs.Types.{Ty}
-use Rattle.frame.specs.Trees.{head, Tree, node, Forest, nil, cons, count, leaf, one, two, many, sole, append, mapF}
+use Rattle.frame.specs.Trees.{head, Tree, node, Forest, nil, cons, count, leaf, two, many, sole, pair, append, mapF}
 use Rattle.frame.specs.Tags.{pick, classOf, lookup, formAt}
 use Rattle.frame.specs.Operators.{#SetExt, #SRel, #STRel, #SetMinus, #CProd, #DProd, #PProd, #DomRes, #DomSub, #RanRes, #RanSub, #UpTo, #RelImage, #BUnion, #BInter, #BComp, #FComp, #Ovr, #LAnd, #Natural, #Natural1, #KPrj1Gen, #KPrj2Gen, #KIdGen, #BFalse, #Pow, #Pow1, #KUnion, #KDom, #KRan, #Converse, #QUnion}
 use Rattle.frame.specs.Places.{Ctx}
 use Rattle.frame.proofs.Inversion.{true-not}
 use Rattle.typing.specs.Typing.{typeOf}
-use Rattle.rules.specs.Change.{to, isTag, with2, joined}
+use Rattle.rules.specs.Change.{Change, isTag, with2, joined}
 use Rattle.rules.specs.Negation.{isEmpty}
-use Rattle.rules.specs.EqualsEmptySet.{Single, single, none, soleOf, singleOf, anySingle, Singled, singled, noneSingled, besides, orNext, firstSingle, interSingle, Minus, minus, whole, partsOf, minusOf, isMinus, minuend, withSubtrahend, anyMinus, minuends, subtrahends, interEmpty, inter, rewriteEqualsEmptySet}
+use Rattle.rules.specs.EqualsEmptySet.{Single, single, none, soleOf, singleOf, anySingle, Singled, singled, noneSingled, besides, orNext, firstSingle, interSingle, Minus, minus, whole, partsOf, minusOf, isMinus, minuend, withSubtrahend, anyMinus, minuends, subtrahends, interEmpty, rewriteEqualsEmptySet}
 use Rattle.rules.specs.Equations
 use Rattle.rules.specs.Equations.{Empties, Subtracted, over, ext, ⋂}
 use Rattle.rules.proofs.Shapes.{Is, gives, nothing, or-else, by-test, either, Ok, OkAll, on-many, on-two, on-one, on-bodied, is-leaf, is-many, is-two, is-typed}
@@ -124,19 +124,11 @@ inter-empties σ Γ ks a =
     or-else (single-empties Γ ks (firstSingle ks) (first-in σ Γ ks a)) (by-test (anyMinus ks) (λ h. gives (minus-empties σ Γ ks a h)))
 
 -- ---- the others
-fcomp-empties : (Γ : Ctx) (e : Tree) (ks : Forest) → e ≡ many #FComp ks
-    → Is (λ p u. Empties Γ p e u) (with2 ks (λ x y. to 56 (isEmpty Γ (inter (one #KRan x) (one #KDom y)))))
-fcomp-empties Γ e nil q = nothing
-fcomp-empties Γ e (cons x nil) q = nothing
-fcomp-empties Γ e (cons x (cons y nil)) q = rw q (gives (Equations.«SIMP_FCOMP_EQUAL_EMPTY» x y))
-fcomp-empties Γ e (cons x (cons y (cons z ks))) q = nothing
-
-bcomp-empties : (Γ : Ctx) (e : Tree) (ks : Forest) → e ≡ many #BComp ks
-    → Is (λ p u. Empties Γ p e u) (with2 ks (λ x y. to 57 (isEmpty Γ (inter (one #KRan y) (one #KDom x)))))
-bcomp-empties Γ e nil q = nothing
-bcomp-empties Γ e (cons x nil) q = nothing
-bcomp-empties Γ e (cons x (cons y nil)) q = rw q (gives (Equations.«SIMP_BCOMP_EQUAL_EMPTY» x y))
-bcomp-empties Γ e (cons x (cons y (cons z ks))) q = nothing
+of-two : {R : ℕ → Tree → Type 0} (k : Tree → Tree → Change) (ks : Forest) → ((x y : Tree) → ks ≡ pair x y → Is R (k x y)) → Is R (with2 ks k)
+of-two k nil f = nothing
+of-two k (cons x nil) f = nothing
+of-two k (cons x (cons y nil)) f = f x y refl
+of-two k (cons x (cons y (cons z ks))) f = nothing
 
 natural-empties : {σ : ℕ → Ty} {Γ : Ctx} {e : Tree} → Ok σ Γ e → (isTag #Natural e || isTag #Natural1 e) ≡ true → Empties Γ 60 e (leaf #BFalse)
 unfolding classOf lookup formAt
@@ -179,8 +171,8 @@ empties {σ} {Γ} {e} a =
     (or-else (on-one _ #KDom a refl (λ x q w. rw q (gives (Equations.«SIMP_DOM_EQUAL_EMPTY» x))))
     (or-else (on-one _ #KRan a refl (λ x q w. rw q (gives (Equations.«SIMP_RAN_EQUAL_EMPTY» x))))
     (or-else (on-one _ #Converse a refl (λ x q w. rw q (gives (Equations.«SIMP_CONVERSE_EQUAL_EMPTY» x))))
-    (or-else (on-many _ #FComp a 2 refl (λ ks q m w. fcomp-empties Γ e ks q))
-    (or-else (on-many _ #BComp a 2 refl (λ ks q m w. bcomp-empties Γ e ks q))
+    (or-else (on-many _ #FComp a 2 refl (λ ks q m w. of-two _ ks (λ x y p. rw (q ∙ ap (many #FComp) p) (gives (Equations.«SIMP_FCOMP_EQUAL_EMPTY» x y)))))
+    (or-else (on-many _ #BComp a 2 refl (λ ks q m w. of-two _ ks (λ x y p. rw (q ∙ ap (many #BComp) p) (gives (Equations.«SIMP_BCOMP_EQUAL_EMPTY» x y)))))
     (or-else (on-many _ #Ovr a 2 refl (λ ks q m w. rw (joined-many #LAnd (isEmpty Γ) ks m, q) (gives (Equations.«SIMP_OVERL_EQUAL_EMPTY» ks))))
     (or-else (on-bodied _ #QUnion a refl (λ us x y q v w. rw q (gives (Equations.«SIMP_QUNION_EQUAL_EMPTY» us x y))))
     (or-else (by-test (isTag #Natural e || isTag #Natural1 e) (λ h. gives (natural-empties a h)))

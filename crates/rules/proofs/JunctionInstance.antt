@@ -19,6 +19,7 @@ use Rattle.rules.specs.Change.{isTag, contains}
 use Rattle.rules.specs.Simplify.{soleOr, makeNeg, Verdict, drops, keeps, decides, verdict, Kept, kept, decided, afterVerdict, scan, finish, simplifyAssocPred}
 use Rattle.rules.specs.Equations
 use Rattle.rules.specs.Equations.{Equation, Among, Junction, conjunction, disjunction, Dropped, Opposite, ¬ᵖ}
+use Rattle.rules.proofs.Operands.{append-nil, append-assoc}
 use Rattle.rules.proofs.Shapes.{Is, gives, by-test, Ok, OkAll, fixed, is-leaf, is-one}
 
 -- ---- the opposite
@@ -56,14 +57,6 @@ among-more : (q : Tree) (xs : Forest) (y : Tree) (ys : Forest) → Among q (appe
 among-more q nil y ys h = inr h
 among-more q (cons x xs) y ys (inl e) = inl e
 among-more q (cons x xs) y ys (inr h) = inr (among-more q xs y ys h)
-
-append-nil : (xs : Forest) → append xs nil ≡ xs
-append-nil nil = refl
-append-nil (cons x xs) = ap (cons x) (append-nil xs)
-
-append-assoc : (xs ys zs : Forest) → append (append xs ys) zs ≡ append xs (append ys zs)
-append-assoc nil ys zs = refl
-append-assoc (cons x xs) ys zs = ap (cons x) (append-assoc xs ys zs)
 
 -- ---- the scan, over all the operands ps, with neutral n and determinant d
 abbrev Both : Forest → Type 0

@@ -11,7 +11,7 @@ use Rattle.rules.specs.Equations.{Junction, conjunction, disjunction, Dr
 use Rattle.rules.proofs.Nodes.{Is, Holds, Has, Each}
 use Rattle.rules.proofs.NewNodes.{true-holds, false-holds, not-holds, and-holds, or-holds}
 use Rattle.rules.proofs.OldNodes.{Operands, of-not, of-equal, of-subset, of-and, of-or}
-use Rattle.rules.proofs.Operands.{dropped-count, dropped-each}
+use Rattle.rules.proofs.Operands.{dropped-count, dropped-every}
 
 module _ {σ : ℕ → Ty} {Γ : Ctx} where
   pub opposite-holds : {p n : Tree} → Opposite p n → Holds σ Γ p → Holds σ Γ n
@@ -36,7 +36,7 @@ module _ {σ : ℕ → Ty} {Γ : Ctx} where
   junction-holds ps disjunction o = or-holds ps (o .some) (o .few) (o .each)
 
   pub kept-holds : {n : ℕ} {ps qs : Forest} → Dropped n ps qs → Operands σ Γ predicate bool ps → Each σ Γ predicate bool qs
-  kept-holds d o = dropped-each σ Γ predicate bool d (o .each)
+  kept-holds d o = dropped-every (λ k. Is σ Γ predicate k bool) d (o .each)
 
   -- two operands or more are left
   pub kept-operands : {n : ℕ} (ps : Forest) (p q : Tree) (qs : Forest) → Dropped n ps (cons p (cons q qs)) → Operands σ Γ predicate bool ps

@@ -191,15 +191,17 @@ module _ {σ : ℕ → Ty} {Γ : Ctx} where
   pub cap-two : {a b : Tree} {u : Ty} → Has σ Γ a (pow u) → Has σ Γ b (pow u) → Has σ Γ (⋂ (pair a b)) (pow u)
   cap-two {a} {b} {u} h k = cap-has a (sole b) u (lit≤ tt) (lit≤ tt) (h, (k, tt))
 
+  over-has : (g : ℕ) (u : Ty) → ((k : Tree) (ks : Forest) → 1 ≤ count ks → count ks ≤ 254 → Each σ Γ expression (pow u) (cons k ks) → Has σ Γ (many g (cons k ks)) (pow u))
+      → (ks : Forest) → 1 ≤ count ks → count ks ≤ 255 → Each σ Γ expression (pow u) ks → Has σ Γ (over g ks) (pow u)
+  over-has g u f nil l m h = absurd (omega arith)
+  over-has g u f (cons a nil) l m h = h .0
+  over-has g u f (cons a (cons b ks)) l m h = f a (cons b ks) (omega arith) (omega arith) h
+
   pub over-cap : (ks : Forest) (u : Ty) → 1 ≤ count ks → count ks ≤ 255 → Each σ Γ expression (pow u) ks → Has σ Γ (over #BInter ks) (pow u)
-  over-cap nil u l m h = absurd (omega arith)
-  over-cap (cons a nil) u l m h = h .0
-  over-cap (cons a (cons b ks)) u l m h = cap-has a (cons b ks) u (omega arith) (omega arith) h
+  over-cap ks u = over-has #BInter u (λ k ls. cap-has k ls u) ks
 
   pub over-cup : (ks : Forest) (u : Ty) → 1 ≤ count ks → count ks ≤ 255 → Each σ Γ expression (pow u) ks → Has σ Γ (over #BUnion ks) (pow u)
-  over-cup nil u l m h = absurd (omega arith)
-  over-cup (cons a nil) u l m h = h .0
-  over-cup (cons a (cons b ks)) u l m h = cup-has a (cons b ks) u (omega arith) (omega arith) h
+  over-cup ks u = over-has #BUnion u (λ k ls. cup-has k ls u) ks
 
   -- a type's expression
   pub type-has : (u : Ty) → TyOk σ u → length (encTy (pow u)) ≤ 64 → Has σ Γ (toExpression u) (pow u)

@@ -96,10 +96,13 @@ Holds σ Γ p = Is σ Γ predicate p bool
 abbrev pub Has : (ℕ → Ty) → Ctx → Tree → Ty → Type 0
 Has σ Γ a t = Is σ Γ expression a t
 
--- children that all have one sort and one type
+-- what holds of each child; children that all have one sort and one type
+abbrev pub Every : (Tree → Type 0) → Forest → Type 0
+Every P nil = Unit {0}
+Every P (cons k ks) = P k × Every P ks
+
 abbrev pub Each : (ℕ → Ty) → Ctx → Sort → Ty → Forest → Type 0
-Each σ Γ e t nil = Unit {0}
-Each σ Γ e t (cons k ks) = Is σ Γ e k t × Each σ Γ e t ks
+Each σ Γ e t ks = Every (λ k. Is σ Γ e k t) ks
 
 pub holds : (σ : ℕ → Ty) (p : Tree) (Γ : Ctx) → Accepted σ p Γ predicate → Holds σ Γ p
 holds σ p Γ a = record { accepted = a; type = predicate-type σ p Γ a }

@@ -2,19 +2,21 @@
 -- Main results: a lemma for each operator, named after it (`of-not`, `of-minus`, ..). The type of an operand that is a set
 -- or a relation comes with it: (u : Ty) × ..
 use mathlib.Core.Path.{_≡_, sym}
+use mathlib.Core.Bool.{true, _&&_}
 use mathlib.Core.List.{List}
 use Prim.Native.Nat.{ℕ, _≤_}
 use lib.ListN.{length}
+use lib.Dec.{leb}
 use Rattle.frame.specs.Types.{Ty, bool, int, pow, prod}
 use Rattle.frame.specs.Trees.{Tree, Forest, count, leaf, one, two, many, typed, sole, pair, bodied}
-use Rattle.frame.specs.Tags.{Sort, predicate, expression, classOf, lookup, formAt}
+use Rattle.frame.specs.Tags.{Sort, predicate, expression, repeat, classOf, lookup, formAt}
 use Rattle.frame.specs.Operators.{#Lt, #Le, #Gt, #Ge, #Mapsto, #SRel, #STRel, #SetMinus, #CProd, #DProd, #PProd, #DomRes, #DomSub, #RanRes, #RanSub, #UpTo, #RelImage, #BUnion, #BComp, #FComp, #Ovr, #True, #False, #Pow, #Pow1, #KUnion, #KInter, #Converse, #QUnion, #QInter, #CSet, #Partition}
 use Rattle.frame.specs.Encoding.{encTy}
 use Rattle.frame.specs.Places.{Ctx, push}
-use Rattle.typing.specs.Typing.{element, source, target, relation, ty, typeOf, typesIn}
-use Rattle.typing.specs.Accepted.{TyOk}
+use Rattle.typing.specs.Typing.{alike, element, source, target, relation, ty, typeOf, typesIn}
+use Rattle.typing.specs.Accepted.{TyOk, HeadOk}
 use Rattle.rules.specs.Equations.{¬ᵖ, _⇒_, _⇔_, ⋀, ⋁, ∀ᵖ, ∃ᵖ, _≐_, _⊆_, fin, ext, dom, ran, ⋂}
-use Rattle.rules.proofs.Nodes.{Is, Holds, Has, Each, Binders, within, kid₀, kid₁, each-of, opened, top}
+use Rattle.rules.proofs.Nodes.{Is, Are, Holds, Has, Each, Binders, within, kid₀, kid₁, each-of, opened, top}
 
 -- operands of an associative operator
 pub record Operands (σ : ℕ → Ty) (Γ : Ctx) (e : Sort) (t : Ty) (ks : Forest) : Type 0 where
@@ -27,6 +29,14 @@ pub record Body (σ : ℕ → Ty) (Γ : Ctx) (xs : List Ty) (p e : Tree) (t : Ty
   pub binders : Binders σ xs
   pub pred : Holds σ (push xs Γ) p
   pub expr : Has σ (push xs Γ) e t
+
+-- ---- out of the range of a node's number
+operands : {σ : ℕ → Ty} {Γ : Ctx} (e : Sort) (t : Ty) (ks : Forest) → leb 2 (count ks) && leb (count ks) 255 ≡ true → Are σ Γ ks (repeat e (count ks)) (alike t (typesIn ks Γ))
+    → Operands σ Γ e t ks
+operands e t ks h a = let r = within 2 255 (count ks) h in record { some = r .0; few = r .1; each = each-of e t ks a }
+
+bound : {σ : ℕ → Ty} {Γ : Ctx} {e : Sort} {g k : ℕ} {xs : List Ty} → HeadOk σ Γ e g 0 xs k → leb 1 (length xs) && leb (length xs) 32 ≡ true → Binders σ xs
+bound {xs} a h = let r = within 1 32 (length xs) h in record { some = r .0; few = r .1; formed = a .formed .types; types = a .types }
 
 module _ {σ : ℕ → Ty} {Γ : Ctx} where
   -- ---- predicates
@@ -72,27 +82,19 @@ module _ {σ : ℕ → Ty} {Γ : Ctx} where
 
   pub of-and : (ps : Forest) {t : Ty} → Is σ Γ predicate (⋀ ps) t → Operands σ Γ predicate bool ps
   unfolding classOf lookup formAt
-  of-and ps h =
-      let r = within 2 255 (count ps) (top h .formed .range) in
-      record { some = r .0; few = r .1; each = each-of predicate bool ps (opened h) }
+  of-and ps h = operands predicate bool ps (top h .formed .range) (opened h)
 
   pub of-or : (ps : Forest) {t : Ty} → Is σ Γ predicate (⋁ ps) t → Operands σ Γ predicate bool ps
   unfolding classOf lookup formAt
-  of-or ps h =
-      let r = within 2 255 (count ps) (top h .formed .range) in
-      record { some = r .0; few = r .1; each = each-of predicate bool ps (opened h) }
+  of-or ps h = operands predicate bool ps (top h .formed .range) (opened h)
 
   pub of-forall : {xs : List Ty} {p : Tree} {t : Ty} → Is σ Γ predicate (∀ᵖ xs p) t → Binders σ xs × Holds σ (push xs Γ) p
   unfolding classOf lookup formAt
-  of-forall {xs} h =
-      let r = within 1 32 (length xs) (top h .formed .range) in
-      (record { some = r .0; few = r .1; formed = top h .formed .types; types = top h .types }, kid₀ (opened h))
+  of-forall h = (bound (top h) (top h .formed .range), kid₀ (opened h))
 
   pub of-exists : {xs : List Ty} {p : Tree} {t : Ty} → Is σ Γ predicate (∃ᵖ xs p) t → Binders σ xs × Holds σ (push xs Γ) p
   unfolding classOf lookup formAt
-  of-exists {xs} h =
-      let r = within 1 32 (length xs) (top h .formed .range) in
-      (record { some = r .0; few = r .1; formed = top h .formed .types; types = top h .types }, kid₀ (opened h))
+  of-exists h = (bound (top h) (top h .formed .range), kid₀ (opened h))
 
   pub of-part : {s : Tree} {t : Ty} → Is σ Γ predicate (many #Partition (sole s)) t → (u : Ty) × Has σ Γ s (pow u)
   unfolding classOf lookup formAt typeOf
@@ -228,46 +230,31 @@ module _ {σ : ℕ → Ty} {Γ : Ctx} where
   -- ---- any number of operands
   pub of-cap : (ks : Forest) {t : Ty} → Has σ Γ (⋂ ks) t → (u : Ty) × Operands σ Γ expression (pow u) ks
   unfolding classOf lookup formAt
-  of-cap ks h =
-      let r = within 2 255 (count ks) (top h .formed .range) in
-      let u = element (ty 0 (typesIn ks Γ)) in
-      (u, record { some = r .0; few = r .1; each = each-of expression (pow u) ks (opened h) })
+  of-cap ks h = let u = element (ty 0 (typesIn ks Γ)) in (u, operands expression (pow u) ks (top h .formed .range) (opened h))
 
   pub of-cup : (ks : Forest) {t : Ty} → Has σ Γ (many #BUnion ks) t → (u : Ty) × Operands σ Γ expression (pow u) ks
   unfolding classOf lookup formAt
-  of-cup ks h =
-      let r = within 2 255 (count ks) (top h .formed .range) in
-      let u = element (ty 0 (typesIn ks Γ)) in
-      (u, record { some = r .0; few = r .1; each = each-of expression (pow u) ks (opened h) })
+  of-cup ks h = let u = element (ty 0 (typesIn ks Γ)) in (u, operands expression (pow u) ks (top h .formed .range) (opened h))
 
   pub of-ovr : (ks : Forest) {t : Ty} → Has σ Γ (many #Ovr ks) t → (u : Ty) × Operands σ Γ expression (pow u) ks
   unfolding classOf lookup formAt
   of-ovr ks h =
-      let r = within 2 255 (count ks) (top h .formed .range) in
       let u = ty 0 (typesIn ks Γ) in
-      (prod (source u) (target u), record { some = r .0; few = r .1; each = each-of expression (relation (source u) (target u)) ks (opened h) })
+      (prod (source u) (target u), operands expression (relation (source u) (target u)) ks (top h .formed .range) (opened h))
 
   -- ---- binders
   pub of-qunion : {xs : List Ty} {p e : Tree} {t : Ty} → Has σ Γ (bodied #QUnion xs p e) t → (u : Ty) × Body σ Γ xs p e (pow u)
   unfolding classOf lookup formAt typeOf
-  of-qunion {xs} {p} {e} h =
-      let r = within 1 32 (length xs) (top h .formed .range) in
-      let b : Binders σ xs = record { some = r .0; few = r .1; formed = top h .formed .types; types = top h .types } in
-      (element (typeOf e (push xs Γ)), record { binders = b; pred = kid₀ (opened h); expr = kid₁ (opened h) })
+  of-qunion {xs} {p} {e} h = (element (typeOf e (push xs Γ)), record { binders = bound (top h) (top h .formed .range); pred = kid₀ (opened h); expr = kid₁ (opened h) })
 
   pub of-qinter : {xs : List Ty} {p e : Tree} {t : Ty} → Has σ Γ (bodied #QInter xs p e) t → (u : Ty) × Body σ Γ xs p e (pow u)
   unfolding classOf lookup formAt typeOf
-  of-qinter {xs} {p} {e} h =
-      let r = within 1 32 (length xs) (top h .formed .range) in
-      let b : Binders σ xs = record { some = r .0; few = r .1; formed = top h .formed .types; types = top h .types } in
-      (element (typeOf e (push xs Γ)), record { binders = b; pred = kid₀ (opened h); expr = kid₁ (opened h) })
+  of-qinter {xs} {p} {e} h = (element (typeOf e (push xs Γ)), record { binders = bound (top h) (top h .formed .range); pred = kid₀ (opened h); expr = kid₁ (opened h) })
 
   pub of-set : {xs : List Ty} {p e : Tree} {t : Ty} → Has σ Γ (bodied #CSet xs p e) t → (u : Ty) × (t ≡ pow u) × Body σ Γ xs p e u
   unfolding classOf lookup formAt typeOf
   of-set {xs} {p} {e} h =
-      let r = within 1 32 (length xs) (top h .formed .range) in
-      let b : Binders σ xs = record { some = r .0; few = r .1; formed = top h .formed .types; types = top h .types } in
-      (typeOf e (push xs Γ), sym (h .type), record { binders = b; pred = kid₀ (opened h); expr = kid₁ (opened h) })
+      (typeOf e (push xs Γ), sym (h .type), record { binders = bound (top h) (top h .formed .range); pred = kid₀ (opened h); expr = kid₁ (opened h) })
 
   -- ---- nodes that carry their type
   pub of-carried : {g : ℕ} {t u : Ty} → Has σ Γ (typed g t) u → TyOk σ t × (length (encTy t) ≤ 64)

@@ -1,17 +1,28 @@
 -- Lists of operands: what each of them is, and how many they are.
--- Main results: each-map (one by one), each-without (an operand taken out), dropped-each, dropped-count (the operands that
--- ∧ and ∨ keep), minuends, subtrahends (the operands of (A ∖ B) ∩ C ∩ (D ∖ E)), all-hold, some-hold (∧ and ∨ over a list).
+-- Main results: append-nil, append-assoc; each-map (one by one), every-mid (an operand taken out), dropped-every, dropped-count
+-- (the operands that ∧ and ∨ keep), minuends-every, subtrahends-every, minuends, subtrahends (the operands of
+-- (A ∖ B) ∩ C ∩ (D ∖ E)), all-hold, some-hold (∧ and ∨ over a list).
 use mathlib.Core.Path.{_≡_, refl, ap}
 use Prim.Native.Nat.{ℕ, suc, _≤_}
 use native.Mathlib.Omega.{arith}
 use Rattle.frame.specs.Types.{Ty, pow}
-use Rattle.frame.specs.Trees.{Tree, Forest, nil, cons, count, leaf, append, mapF}
+use Rattle.frame.specs.Trees.{Tree, Forest, nil, cons, count, leaf, two, append, mapF}
 use Rattle.frame.specs.Tags.{Sort, expression}
+use Rattle.frame.specs.Operators.{#SetMinus}
 use Rattle.frame.specs.Places.{Ctx}
 use Rattle.rules.specs.Equations.{⋀, ⋁, Dropped, done, literal, repeated, Subtracted, none, minus, other}
-use Rattle.rules.proofs.Nodes.{Is, Holds, Each}
+use Rattle.rules.proofs.Nodes.{Is, Holds, Every, Each}
 use Rattle.rules.proofs.NewNodes.{and-holds, or-holds}
 use Rattle.rules.proofs.OldNodes.{Operands, of-minus-at}
+
+-- ---- lists joined
+pub append-nil : (xs : Forest) → append xs nil ≡ xs
+append-nil nil = refl
+append-nil (cons x xs) = ap (cons x) (append-nil xs)
+
+pub append-assoc : (xs ys zs : Forest) → append (append xs ys) zs ≡ append xs (append ys zs)
+append-assoc nil ys zs = refl
+append-assoc (cons x xs) ys zs = ap (cons x) (append-assoc xs ys zs)
 
 -- ---- how many
 pub count-map : (f : Tree → Tree) (ks : Forest) → count (mapF f ks) ≡ count ks
@@ -46,30 +57,34 @@ module _ {σ : ℕ → Ty} {Γ : Ctx} where
   each-map f nil g h = tt
   each-map f (cons k ks) g h = (g k (h .0), each-map f ks g (h .1))
 
-module _ (σ : ℕ → Ty) (Γ : Ctx) (e : Sort) (t : Ty) where
-  pub each-at : (left : Forest) (q : Tree) (right : Forest) → Each σ Γ e t (append left (cons q right)) → Is σ Γ e q t
-  each-at nil q right h = h .0
-  each-at (cons k left) q right h = each-at left q right (h .1)
+module _ (P : Tree → Type 0) where
+  -- of the operand q, and of those beside it
+  pub every-mid : (left : Forest) (q : Tree) (right : Forest) → Every P (append left (cons q right)) → P q × Every P (append left right)
+  every-mid nil q right h = h
+  every-mid (cons k left) q right h = let r = every-mid left q right (h .1) in (r .0, (h .0, r .1))
 
-  pub each-without : (left : Forest) (q : Tree) (right : Forest) → Each σ Γ e t (append left (cons q right)) → Each σ Γ e t (append left right)
-  each-without nil q right h = h .1
-  each-without (cons k left) q right h = (h .0, each-without left q right (h .1))
+  pub dropped-every : {n : ℕ} {ks ls : Forest} → Dropped n ks ls → Every P ks → Every P ls
+  dropped-every (done ks) h = h
+  dropped-every {n} (literal ks ls left right p d) h = dropped-every d (every-mid left (leaf n) right (rw p at h) .1)
+  dropped-every (repeated ks ls left right q p a d) h = dropped-every d (every-mid left q right (rw p at h) .1)
 
-  pub dropped-each : {n : ℕ} {ks ls : Forest} → Dropped n ks ls → Each σ Γ e t ks → Each σ Γ e t ls
-  dropped-each (done ks) h = h
-  dropped-each {n} (literal ks ls left right p d) h = dropped-each d (each-without left (leaf n) right (rw p at h))
-  dropped-each (repeated ks ls left right q p a d) h = dropped-each d (each-without left q right (rw p at h))
+  module _ (parts : (a b : Tree) → P (two #SetMinus a b) → P a × P b) where
+    pub minuends-every : {ks ls ms : Forest} → Subtracted ks ls ms → Every P ks → Every P ls
+    minuends-every none h = tt
+    minuends-every (minus a b ks ls ms d) h = (parts a b (h .0) .0, minuends-every d (h .1))
+    minuends-every (other k ks ls ms d) h = (h .0, minuends-every d (h .1))
+
+    pub subtrahends-every : {ks ls ms : Forest} → Subtracted ks ls ms → Every P ks → Every P ms
+    subtrahends-every none h = tt
+    subtrahends-every (minus a b ks ls ms d) h = (parts a b (h .0) .1, subtrahends-every d (h .1))
+    subtrahends-every (other k ks ls ms d) h = subtrahends-every d (h .1)
 
 module _ (σ : ℕ → Ty) (Γ : Ctx) (u : Ty) where
   pub minuends : {ks ls ms : Forest} → Subtracted ks ls ms → Each σ Γ expression (pow u) ks → Each σ Γ expression (pow u) ls
-  minuends none h = tt
-  minuends (minus a b ks ls ms d) h = (of-minus-at (h .0) .0, minuends d (h .1))
-  minuends (other k ks ls ms d) h = (h .0, minuends d (h .1))
+  minuends d h = minuends-every (λ k. Is σ Γ expression k (pow u)) (λ a b. of-minus-at) d h
 
   pub subtrahends : {ks ls ms : Forest} → Subtracted ks ls ms → Each σ Γ expression (pow u) ks → Each σ Γ expression (pow u) ms
-  subtrahends none h = tt
-  subtrahends (minus a b ks ls ms d) h = (of-minus-at (h .0) .1, subtrahends d (h .1))
-  subtrahends (other k ks ls ms d) h = subtrahends d (h .1)
+  subtrahends d h = subtrahends-every (λ k. Is σ Γ expression k (pow u)) (λ a b. of-minus-at) d h
 
 -- ---- ∧ and ∨ of a predicate for each operand
 module _ {σ : ℕ → Ty} {Γ Δ : Ctx} {e : Sort} {t : Ty} (f : Tree → Tree) (g : (k : Tree) → Is σ Γ e k t → Holds σ Δ (f k)) where

@@ -2,7 +2,7 @@
 -- Main results: or-else, by-test, by-pick, is-map (an answer of the parts is one of the whole); on-one, on-two, on-many, on-typed,
 -- on-binder, on-bodied (at a tag: the exact head, and the children are accepted); is-leaf, is-many, is-one, is-two, is-typed (the
 -- same where only the tag was tested).
-use mathlib.Core.Path.{_≡_, refl, sym, ap, _∙_}
+use mathlib.Core.Path.{_≡_, refl, sym, ap, _∙_, subst, ap₂}
 use mathlib.Core.Bool.{Bool, true, false, _&&_, _||_}
 use mathlib.Core.List.{List, [], _∷_}
 use Prim.Native.Nat.{ℕ, suc, _≤_}
@@ -171,6 +171,17 @@ no-kids : (ks : Forest) → count ks ≡ 0 → ks ≡ nil
 no-kids nil e = refl
 no-kids (cons a ks) e = absurd (omega arith)
 
+one-kid : (ks : Forest) → count ks ≡ 1 → (x : Tree) × (ks ≡ sole x)
+one-kid nil e = absurd (omega arith)
+one-kid (cons x nil) e = (x, refl)
+one-kid (cons x (cons y ks)) e = absurd (omega arith)
+
+two-kids : (ks : Forest) → count ks ≡ 2 → (x y : Tree) × (ks ≡ pair x y)
+two-kids nil e = absurd (omega arith)
+two-kids (cons x nil) e = absurd (omega arith)
+two-kids (cons x (cons y nil)) e = (x, y, refl)
+two-kids (cons x (cons y (cons z ks))) e = absurd (omega arith)
+
 -- ---- at a tag
 pub tagged : (g : ℕ) (t : Tree) → isTag g t ≡ true → (n : ℕ) × (us : List Ty) × (ks : Forest) × (t ≡ node (head g n us) ks)
 tagged g (node (head h n us) ks) e = (n, us, ks, ap (λ (x : ℕ). node (head x n us) ks) (eqb-true h g e))
@@ -198,24 +209,17 @@ module _ {σ : ℕ → Ty} {Γ : Ctx} {t : Tree} {R : ℕ → Tree → Type 0} (
       → ((x y : Tree) → t ≡ two g x y → Ok σ Γ x → Ok σ Γ y → Is R (K [] (pair x y))) → Is R (onTag g t K)
   on-two h f = on-tag g t K (λ n us ks e.
       let w = fixed-node σ Γ g n us ks (rw e at a) 0 2 h in
-      rw (no-types us (w .types)) (go ks (e ∙ bare (w .number) (w .types)) (w .kids) (w .each)))
-    where
-      go : (ks : Forest) → t ≡ many g ks → count ks ≡ 2 → OkAll σ Γ ks → Is R (K [] ks)
-      go nil e c w = absurd (omega arith)
-      go (cons x nil) e c w = absurd (omega arith)
-      go (cons x (cons y nil)) e c w = f x y e (w .0) (w .1 .0)
-      go (cons x (cons y (cons z ks))) e c w = absurd (omega arith)
+      let k = two-kids ks (w .kids) in
+      let o : OkAll σ Γ (pair (k .0) (k .1)) = subst (OkAll σ Γ) (k .2) (w .each) in
+      rw (no-types us (w .types), k .2) (f (k .0) (k .1) (e ∙ bare (w .number) (w .types) ∙ ap (many g) (k .2)) (o .0) (o .1 .0)))
 
   pub on-one : fixed 0 1 (formOf g .layout) (formOf g .carried) ≡ true
       → ((x : Tree) → t ≡ one g x → Ok σ Γ x → Is R (K [] (sole x))) → Is R (onTag g t K)
   on-one h f = on-tag g t K (λ n us ks e.
       let w = fixed-node σ Γ g n us ks (rw e at a) 0 1 h in
-      rw (no-types us (w .types)) (go ks (e ∙ bare (w .number) (w .types)) (w .kids) (w .each)))
-    where
-      go : (ks : Forest) → t ≡ many g ks → count ks ≡ 1 → OkAll σ Γ ks → Is R (K [] ks)
-      go nil e c w = absurd (omega arith)
-      go (cons x nil) e c w = f x e (w .0)
-      go (cons x (cons y ks)) e c w = absurd (omega arith)
+      let k = one-kid ks (w .kids) in
+      let o : OkAll σ Γ (sole (k .0)) = subst (OkAll σ Γ) (k .1) (w .each) in
+      rw (no-types us (w .types), k .1) (f (k .0) (e ∙ bare (w .number) (w .types) ∙ ap (many g) (k .1)) (o .0)))
 
   pub on-typed : fixed 1 0 (formOf g .layout) (formOf g .carried) ≡ true
       → ((u : Ty) → t ≡ typed g u → u ≡ shape g u → Is R (K (u ∷ []) nil)) → Is R (onTag g t K)
@@ -232,24 +236,17 @@ module _ {σ : ℕ → Ty} {Γ : Ctx} {t : Tree} {R : ℕ → Tree → Type 0} (
       → ((us : List Ty) (x : Tree) → t ≡ quantified g us x → Ok σ (push us Γ) x → Is R (K us (sole x))) → Is R (onTag g t K)
   on-binder h f = on-tag g t K (λ n us ks e.
       let w = binds-node σ Γ g n us ks (rw e at a) 1 h in
-      go us ks (rw (w .number) at e) (w .kids) (w .each))
-    where
-      go : (us : List Ty) (ks : Forest) → t ≡ node (head g 0 us) ks → count ks ≡ 1 → OkAll σ (push us Γ) ks → Is R (K us ks)
-      go us nil e c w = absurd (omega arith)
-      go us (cons x nil) e c w = f us x e (w .0)
-      go us (cons x (cons y ks)) e c w = absurd (omega arith)
+      let k = one-kid ks (w .kids) in
+      let o : OkAll σ (push us Γ) (sole (k .0)) = subst (OkAll σ (push us Γ)) (k .1) (w .each) in
+      rw (k .1) (f us (k .0) (e ∙ ap₂ (λ (i : ℕ) (l : Forest). node (head g i us) l) (w .number) (k .1)) (o .0)))
 
   pub on-bodied : binds 2 (formOf g .layout) ≡ true
       → ((us : List Ty) (x y : Tree) → t ≡ bodied g us x y → Ok σ (push us Γ) x → Ok σ (push us Γ) y → Is R (K us (pair x y))) → Is R (onTag g t K)
   on-bodied h f = on-tag g t K (λ n us ks e.
       let w = binds-node σ Γ g n us ks (rw e at a) 2 h in
-      go us ks (rw (w .number) at e) (w .kids) (w .each))
-    where
-      go : (us : List Ty) (ks : Forest) → t ≡ node (head g 0 us) ks → count ks ≡ 2 → OkAll σ (push us Γ) ks → Is R (K us ks)
-      go us nil e c w = absurd (omega arith)
-      go us (cons x nil) e c w = absurd (omega arith)
-      go us (cons x (cons y nil)) e c w = f us x y e (w .0) (w .1 .0)
-      go us (cons x (cons y (cons z ks))) e c w = absurd (omega arith)
+      let k = two-kids ks (w .kids) in
+      let o : OkAll σ (push us Γ) (pair (k .0) (k .1)) = subst (OkAll σ (push us Γ)) (k .2) (w .each) in
+      rw (k .2) (f us (k .0) (k .1) (e ∙ ap₂ (λ (i : ℕ) (l : Forest). node (head g i us) l) (w .number) (k .2)) (o .0) (o .1 .0)))
 
 -- ---- where only the tag was tested
 module _ {σ : ℕ → Ty} {Γ : Ctx} {t : Tree} (g : ℕ) (a : Ok σ Γ t) (h : isTag g t ≡ true) where
@@ -269,24 +266,15 @@ module _ {σ : ℕ → Ty} {Γ : Ctx} {t : Tree} (g : ℕ) (a : Ok σ Γ t) (h :
   is-one i =
       let v = tagged g t h in
       let w = fixed-node σ Γ g (v .0) (v .1) (v .2) (rw (v .3) at a) 0 1 i in
-      go (v .2) (v .3 ∙ bare (w .number) (w .types)) (w .kids)
-    where
-      go : (ks : Forest) → t ≡ many g ks → count ks ≡ 1 → (x : Tree) × (t ≡ one g x)
-      go nil e c = absurd (omega arith)
-      go (cons x nil) e c = (x, e)
-      go (cons x (cons y ks)) e c = absurd (omega arith)
+      let k = one-kid (v .2) (w .kids) in
+      (k .0, v .3 ∙ bare (w .number) (w .types) ∙ ap (many g) (k .1))
 
   pub is-two : fixed 0 2 (formOf g .layout) (formOf g .carried) ≡ true → (x : Tree) × (y : Tree) × (t ≡ two g x y)
   is-two i =
       let v = tagged g t h in
       let w = fixed-node σ Γ g (v .0) (v .1) (v .2) (rw (v .3) at a) 0 2 i in
-      go (v .2) (v .3 ∙ bare (w .number) (w .types)) (w .kids)
-    where
-      go : (ks : Forest) → t ≡ many g ks → count ks ≡ 2 → (x : Tree) × (y : Tree) × (t ≡ two g x y)
-      go nil e c = absurd (omega arith)
-      go (cons x nil) e c = absurd (omega arith)
-      go (cons x (cons y nil)) e c = (x, y, e)
-      go (cons x (cons y (cons z ks))) e c = absurd (omega arith)
+      let k = two-kids (v .2) (w .kids) in
+      (k .0, k .1, v .3 ∙ bare (w .number) (w .types) ∙ ap (many g) (k .2))
 
   pub is-typed : fixed 1 0 (formOf g .layout) (formOf g .carried) ≡ true → (u : Ty) × (t ≡ typed g u)
   is-typed i =

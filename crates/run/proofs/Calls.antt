@@ -1,10 +1,10 @@
 -- A series of calls is a row of steps from the first frame's tree.
 -- Main results: call-holds (after a call, whatever it is and whatever it is lent, the held frame is an accepted frame, as many
 -- steps on as the call counts), series-holds (the same of the whole list).
-use mathlib.Core.Path.{_≡_, refl, sym, ap, _∙_}
+use mathlib.Core.Path.{_≡_, refl}
 use mathlib.Core.Bool.{Bool, true, false}
 use mathlib.Core.List.{List, [], _∷_, _++_}
-use Prim.Native.Nat.{ℕ, zero, suc, _+_, _≤_}
+use Prim.Native.Nat.{ℕ, _≤_}
 use native.Mathlib.Omega.{arith}
 use lib.ListN.{length, take, drop}
 use lib.Seq.{take-at}
@@ -14,16 +14,15 @@ use Rattle.frame.specs.Trees.{Tree}
 use Rattle.frame.specs.Tags.{pick, predicate}
 use Rattle.frame.specs.Encoding.{enc}
 use Rattle.frame.specs.Reading.{frameLimit}
-use Rattle.frame.specs.Spans.{Bytes}
 use Rattle.typing.specs.Accepted.{Accepted}
-use Rattle.typing.specs.Check.{Checked, accepted, refused, check}
-use Rattle.typing.proofs.Checked.{refused-not, check-back}
-use Rattle.step.specs.Step.{Stepped, changed, unchanged, noPlace, stepTree, Outcome, wrote, kept, turnedDown, fit, outcomeOf, outcomeOn, step}
+use Rattle.typing.specs.Check.{accepted, check}
+use Rattle.typing.proofs.Checked.{check-back}
+use Rattle.step.specs.Step.{Stepped, changed, unchanged, noPlace, stepTree, Outcome, wrote, kept, turnedDown, outcomeOf, step}
 use Rattle.step.proofs.Steps.{step-accepted, fit-wrote}
 use Rattle.run.specs.Run as R
-use Rattle.run.specs.Run.{Word, Ran, ran, RunOutcome, ended, endedBy, runOn, runTree, run}
+use Rattle.run.specs.Run.{Ran, ran, endedBy, runTree, run}
 use Rattle.run.specs.Series.{Call, stepAt, runWith, heldAfterStep, heldAfterRun, heldAfter, stepCount, runCount, changesOf, heldAfterAll, changingSteps}
-use Rattle.run.proofs.Runs.{Steps, none, more, steps-join, Rows, run-steps}
+use Rattle.run.proofs.Runs.{Steps, none, more, steps-join, run-steps}
 
 -- accepted trees stay accepted over steps
 pub steps-accepted : (σ : ℕ → Ty) {t u : Tree} {n : ℕ} → Steps t n u → Accepted σ t [] predicate → Accepted σ u [] predicate

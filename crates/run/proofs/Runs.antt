@@ -1,7 +1,7 @@
 -- A run is a row of steps.
 -- Main results: Steps (trees that lie some changing steps apart), first-step (what a run does next is a step), run-steps (a
 -- run's last tree lies as many steps from the first as the run counts, and its frame is within the limit).
-use mathlib.Core.Path.{_≡_, refl, sym, ap, _∙_}
+use mathlib.Core.Path.{_≡_, refl, ap, _∙_}
 use mathlib.Core.Bool.{Bool, true, false}
 use Prim.Native.Nat.{ℕ, zero, suc, _+_, _≤_}
 use native.Mathlib.Omega.{arith}
@@ -13,7 +13,7 @@ use Rattle.frame.specs.Tags.{pick}
 use Rattle.frame.specs.Encoding.{enc}
 use Rattle.frame.specs.Reading.{frameLimit}
 use Rattle.step.specs.Step.{Stepped, changed, unchanged, noPlace, stepTree}
-use Rattle.run.specs.Run.{First, next, nowhere, orNext, firstFrom, firstStep, Word, REST, SPENT, FULL, Ran, ran, atEnd, goOn, runTree}
+use Rattle.run.specs.Run.{First, next, nowhere, orNext, firstFrom, firstStep, Word, FULL, ran, atEnd, goOn, runTree}
 
 -- u lies n changing steps after t, at any places
 pub data Steps : Tree → ℕ → Tree → Type 0 where

@@ -1,6 +1,6 @@
 -- How large a run's answer is.
 -- Main results: run-small (the count is within the budget, the last frame within the limit).
-use mathlib.Core.Path.{_≡_, refl, sym, ap, _∙_}
+use mathlib.Core.Path.{_≡_, refl}
 use mathlib.Core.Bool.{Bool, true, false}
 use mathlib.Core.List.{List}
 use Prim.Native.Nat.{ℕ, zero, suc, _+_, _≤_}
@@ -14,7 +14,7 @@ use Rattle.frame.specs.Reading.{frameLimit}
 use Rattle.frame.specs.Spans.{Bytes}
 use Rattle.typing.specs.Check.{Checked, accepted, refused, check}
 use Rattle.typing.proofs.Checked.{check-accepts}
-use Rattle.run.specs.Run.{First, next, nowhere, firstStep, Word, FULL, Ran, ran, atEnd, goOn, runTree, RunOutcome, ended, turnedDown, endedBy, runOn, run}
+use Rattle.run.specs.Run.{First, next, nowhere, firstStep, Word, FULL, Ran, ran, atEnd, goOn, runTree, ended, turnedDown, endedBy, runOn, run}
 use Rattle.run.proofs.Runs.{run-steps}
 
 -- with n steps made and this budget left

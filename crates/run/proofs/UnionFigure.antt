@@ -33,6 +33,7 @@ use Rattle.rules.specs.Negation.{rewriteNot}
 use Rattle.rules.specs.Finite.{finite, rewriteFinite}
 use Rattle.rules.specs.Dispatch.{dispatch}
 use Rattle.rules.specs.Equations.{Among, ⊤}
+use Rattle.rules.proofs.Operands.{append-nil, append-assoc}
 use Rattle.step.specs.Step.{changed, unchanged, stepTree}
 use Rattle.run.specs.Run.{next, nowhere, firstFrom, firstStep, REST, SPENT, FULL, Ran, ran, runTree, ended, turnedDown, endedBy, run}
 
@@ -50,14 +51,6 @@ Different (cons k ks) = (Among k ks → ⊥) × Different ks
 -- ---- lists
 abbrev finites : Forest → Forest
 finites ks = mapF finite ks
-
-append-last : (xs : Forest) (y : Tree) (ys : Forest) → append (append xs (cons y nil)) ys ≡ append xs (cons y ys)
-append-last nil y ys = refl
-append-last (cons x xs) y ys = ap (cons x) (append-last xs y ys)
-
-append-nil : (xs : Forest) → append xs nil ≡ xs
-append-nil nil = refl
-append-nil (cons x xs) = ap (cons x) (append-nil xs)
 
 finites-last : (xs : Forest) (y : Tree) → append (finites xs) (cons (finite y) nil) ≡ finites (append xs (cons y nil))
 finites-last nil y = refl
@@ -98,7 +91,7 @@ unfolding scan
 scan-keeps nil done h d = rw append-nil
 scan-keeps (cons k ks) done h d =
     let r = scan-keeps ks (append done (cons k nil)) apart (d .1) in
-    rw (verdict-keeps k done (h k (inl refl)), finites-last, ← append-last done k ks) r
+    rw (verdict-keeps k done (h k (inl refl)), finites-last, ← append-assoc done (cons k nil) ks) r
   where
     on : (q : Tree) → Among q ks → Among q done ⊎ (q ≡ k) → ⊥
     on q m (inl i) = h q (inr m) i

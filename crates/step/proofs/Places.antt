@@ -3,14 +3,14 @@
 -- replaced by an accepted one of the same type leaves the tree accepted).
 use mathlib.Core.Path.{_≡_, refl, ap₂}
 use mathlib.Core.List.{List, [], _∷_}
-use Prim.Native.Nat.{ℕ, suc}
+use Prim.Native.Nat.{ℕ}
 use Rattle.frame.specs.Types.{Ty}
-use Rattle.frame.specs.Trees.{head, Tree, node, Forest, nil, cons, count}
-use Rattle.frame.specs.Tags.{Sort, predicate}
+use Rattle.frame.specs.Trees.{head, Tree, node, Forest, cons, count}
+use Rattle.frame.specs.Tags.{Sort}
 use Rattle.frame.specs.Places.{Ctx, under, found, find, replace}
 use Rattle.frame.proofs.AtPlace.{at-place, down-place}
 use Rattle.typing.specs.Typing.{typeOf, typesIn}
-use Rattle.typing.specs.Accepted.{Node, HeadOk, TysOk, Accepted, AcceptedAll}
+use Rattle.typing.specs.Accepted.{TysOk, Accepted, AcceptedAll}
 use Rattle.typing.proofs.Derived.{push-ok}
 
 module _ (σ : ℕ → Ty) where

@@ -11,14 +11,13 @@ use lib.ListN.{length}
 use lib.Dec.{ltb}
 use borrow.Author.Tests.{ltb-false}
 use Rattle.frame.specs.Types.{Ty}
-use Rattle.frame.specs.Trees.{Head, head, Tree, node, Forest, tagOf}
-use Rattle.frame.specs.Tags.{pick, Sort, predicate, expression, sameSort, formOf}
+use Rattle.frame.specs.Trees.{head, Tree, node}
+use Rattle.frame.specs.Tags.{pick, Sort, predicate, formOf}
 use Rattle.frame.specs.Encoding.{enc}
 use Rattle.frame.specs.Reading.{frameLimit}
 use Rattle.frame.specs.Places.{Ctx, Found, found, absent, find, replace}
 use Rattle.frame.specs.Spans.{Bytes}
 use Rattle.frame.proofs.Inversion.{same-sort}
-use Rattle.typing.specs.Typing.{typeOf}
 use Rattle.typing.specs.Accepted.{Accepted}
 use Rattle.typing.specs.Signature.{signature}
 use Rattle.typing.specs.Check.{Checked, accepted, refused, check}
@@ -29,7 +28,7 @@ use Rattle.rules.specs.Equations.{Equation}
 use Rattle.rules.proofs.Instance.{instance}
 use Rattle.rules.proofs.Nodes.{predicate-type}
 use Rattle.rules.proofs.EquationAccepted.{equation-accepted}
-use Rattle.step.specs.Step.{Stepped, changed, unchanged, noPlace, isPredicate, stepChange, stepFound, stepTree, Outcome, wrote, kept, turnedDown, fit, outcomeOf, outcomeOn, step}
+use Rattle.step.specs.Step.{Stepped, changed, unchanged, noPlace, isPredicate, stepChange, stepFound, stepTree, wrote, turnedDown, fit, outcomeOf, outcomeOn, step}
 use Rattle.step.proofs.Places.{AcceptedIn, accepted-at, Stays, accepted-replaced}
 
 -- ---- trees

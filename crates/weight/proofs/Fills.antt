@@ -98,6 +98,11 @@ module _ (σ : ℕ → Ty) (Γ : Ctx) where
   range-at-most : (r s : Tree) (u : Ty) → typeOf r Γ ≡ relation u (element (typeOf s Γ)) → span Γ s ≤ span Γ r
   range-at-most r s u e = omega (arith, relation-span Γ r u (element (typeOf s Γ)) e, right-part {b = span Γ s} (type-one u))
 
+  -- s ◁ r, r ▷ s
+  restriction : (s r : Tree) → 2 ≤ weight s → 2 ≤ weight r → span Γ s ≤ span Γ r
+      → (weight (⋀ (pair (_≐Ty Γ s) (_≐Ty Γ r))) < weight s * weight r * span Γ r + span Γ r) × (span Γ r ≤ weight s * weight r * span Γ r)
+  restriction s r hs hr l = (both-full Γ s r (element (typeOf r Γ)) hs hr l (omega arith), omega (arith, mul-le-mul-right (span Γ r) (both-positive s r)))
+
   -- p ⊗ q, p ∥ q
   module _ (p q : Tree) (hp : 2 ≤ weight p) (hq : 2 ≤ weight q) where
     direct : (u v w : Ty) → typeOf p Γ ≡ relation u v → typeOf q Γ ≡ relation u w
@@ -134,23 +139,13 @@ module _ (σ : ℕ → Ty) (Γ : Ctx) where
       omega (arith, both-full Γ s t (prod u v) (h .0) (h .1) (left-part (type-one v)) (right-part (type-one u)))
   fills-fall («SIMP_UPTO_EQUAL_INTEGER» i j) a = omega (arith, both-positive i j)
   fills-fall («SIMP_DOMRES_EQUAL_TYPE» s r) a =
-      let h = pair-two σ #DomRes s r Γ a refl in
-      omega (
-        arith,
-        both-full Γ s r (element (typeOf r Γ)) (h .0) (h .1)
-            (domain-at-most s r (target (typeOf r Γ)) (second-of (fits-kids σ #DomRes 0 [] (pair s r) Γ expression a))) (omega arith),
-        mul-le-mul-right (span Γ r) (both-positive s r),
-      )
+      let l = domain-at-most s r (target (typeOf r Γ)) (second-of (fits-kids σ #DomRes 0 [] (pair s r) Γ expression a)) in
+      let h = pair-two σ #DomRes s r Γ a refl in omega (arith, restriction s r (h .0) (h .1) l)
   fills-fall («SIMP_DOMSUB_EQUAL_TYPE» s r) a =
       let h = pair-two σ #DomSub s r Γ a refl in omega (arith, empty-full Γ s r (element (typeOf r Γ)) (h .0) (h .1) (omega arith))
   fills-fall («SIMP_RANRES_EQUAL_TYPE» r s) a =
-      let h = pair-two σ #RanRes r s Γ a refl in
-      omega (
-        arith,
-        both-full Γ s r (element (typeOf r Γ)) (h .1) (h .0)
-            (range-at-most r s (source (typeOf r Γ)) (first-of (fits-kids σ #RanRes 0 [] (pair r s) Γ expression a))) (omega arith),
-        mul-le-mul-right (span Γ r) (both-positive r s),
-      )
+      let l = range-at-most r s (source (typeOf r Γ)) (first-of (fits-kids σ #RanRes 0 [] (pair r s) Γ expression a)) in
+      let h = pair-two σ #RanRes r s Γ a refl in omega (arith, restriction s r (h .1) (h .0) l)
   fills-fall («SIMP_RANSUB_EQUAL_TYPE» r s) a =
       let h = pair-two σ #RanSub r s Γ a refl in omega (arith, empty-full Γ s r (element (typeOf r Γ)) (h .1) (h .0) (omega arith))
   fills-fall («SIMP_DPROD_EQUAL_TYPE» p q) a =
