@@ -18,7 +18,8 @@ use Rattle.frame.specs.LineState.{lineState, lineBytes, lineBuffer, lineAnswer}
 use Rattle.frame.specs.declared.lines.LineState.{LineState}
 use Rattle.frame.specs.declared.lines.LineAnswer.{LineAnswer}
 use Rattle.frame.specs.declared.lines.LineAnswer.the-variants as L
-use Rattle.frame.proofs.LineTurns.{write-length, line-buffer}
+use Rattle.frame.proofs.LineTurns.{line-buffer}
+use Rattle.frame.proofs.LineWrites.{write-length}
 use Rattle.typing.specs.Check.{check}
 use Rattle.run.specs.Run.{Word, REST, SPENT, FULL, RunOutcome, ended, turnedDown, run, wordAnswer, runAnswer, runOutput}
 use Rattle.run.specs.declared.RunAnswer.{RunAnswer}

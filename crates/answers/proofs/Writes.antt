@@ -14,7 +14,7 @@ use borrow.Author.Tests.{ltb-true, ltb-false, lt-ltb, le-ltb}
 use Rattle.frame.specs.Lines.{writeLine}
 use Rattle.frame.specs.LineState.{WritePost}
 use Rattle.frame.proofs.NodeTurns.{sets-append}
-use Rattle.frame.proofs.LineTurns.{write-length}
+use Rattle.frame.proofs.LineWrites.{write-length}
 use Rattle.answers.specs.Text.{withLast, decimalIn, decimal, endedText, refusedText}
 use Rattle.answers.specs.Posts.{Appends}
 
