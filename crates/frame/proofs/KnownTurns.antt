@@ -1,5 +1,5 @@
 -- The ways out of `skip_types` and `known_head`, on plain values.
--- Main results: stand-room, skip-end, hand-on, hand-back (types in a row, by the first byte); head-at, known-two, known-types, known-room,
+-- Main results: tys-long, stand-room, skip-end, hand-on, hand-back (types in a row, by the first byte); head-at, known-two, known-types, known-room,
 -- known-range, known-found, known-end (a head that stands there).
 use mathlib.Core.Path.{_≡_, refl, sym, ap, ap₂, _∙_, subst}
 use mathlib.Core.Bool.{Bool, true, false}
@@ -28,7 +28,7 @@ use Rattle.frame.proofs.FormTables.{layoutAt}
 use Rattle.frame.proofs.HeadTurns.{HeadIs}
 
 -- ---- types in a row
-tys-long : (us : List Ty) → length us ≤ length (encTys us)
+pub tys-long : (us : List Ty) → length us ≤ length (encTys us)
 unfolding encTys
 tys-long [] = omega arith
 tys-long (u ∷ us) = simp length-append (omega (arith, ty-long u, tys-long us))

@@ -34,7 +34,7 @@ use Rattle.typing.specs.Bound.{Opened, Below, Outside, Ready, OpenPost, 
 use Rattle.typing.specs.declared.binding.Bound.{Bound}
 use Rattle.typing.specs.declared.binding.Bound.the-variants.{Ends, Refused}
 use Rattle.typing.proofs.OpenBinders.{TyAt, opened-length, opened-at, opened-below}
-use Rattle.typing.proofs.NotingTypes.{tys-long}
+use Rattle.frame.proofs.KnownTurns.{tys-long}
 use Rattle.typing.proofs.BinderTags.{leaves-same, under-plain, under-binding}
 
 -- ---- enter

@@ -32,3 +32,4 @@ pub mod StepTurns
 pub mod Again
 pub mod TreeTurns
 pub mod BufferLaws
+pub mod MirPieces

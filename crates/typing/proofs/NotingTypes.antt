@@ -1,13 +1,13 @@
 -- The given sets in types, noted from left to right: the ways out of note_types.
 -- Main results: types-room, types-step (what the first byte says), types-end, types-beyond, types-clash, types-given,
 -- types-pow, types-prod, types-leaf.
-use Rattle.frame.proofs.ReadTypes.{ty-long}
+use Rattle.frame.proofs.KnownTurns.{tys-long}
 use mathlib.Core.Path.{_≡_, refl, sym, ap, _∙_, subst}
 use mathlib.Core.Bool.{Bool, true, false}
 use mathlib.Core.List.{List, [], _∷_, _++_, append-assoc}
 use Prim.Native.Nat.{ℕ, _+_, _-_, _*_, _≤_, _<_}
 use native.Mathlib.Omega.{arith}
-use lib.ListN.{length, getD, length-append}
+use lib.ListN.{length, getD}
 use Rattle.frame.specs.Types.{Ty, bool, int, given, pow, prod}
 use Rattle.frame.specs.Encoding.{encTy, encTys}
 use Rattle.frame.specs.Spans.{Spans}
@@ -20,11 +20,6 @@ use Rattle.typing.specs.declared.identifiers.Noting.the-variants.{Ends, 
 use Rattle.typing.proofs.Noting.{noted-nil, noted-then, noted-early}
 
 -- ---- types in a row
-pub tys-long : (us : List Ty) → length us ≤ length (encTys us)
-unfolding encTys
-tys-long [] = omega arith
-tys-long (u ∷ us) = simp length-append (omega (arith, ty-long u, tys-long us))
-
 pub types-room : (s : List ℕ) (at m : ℕ) (us : List Ty) (q : ℕ) → TypesAt s at m us q → at + m ≤ length s
 types-room s at m us q a = let x = a .span .long in let y = a .span .within in let z = a .many in omega (arith, tys-long us)
 
