@@ -1,3 +1,1 @@
-pub mod Writes
 pub mod LineTexts
-pub mod Streams

@@ -1,33 +1,34 @@
--- Answers of runs and of lines, on plain values: the ways out of src/line.rs.
+-- Answers of runs and of lines, on plain values: the ways out of src/lib.rt.
 -- Main results: ended-fits, ended-room, ended-post (a run that ended, for any of the three words); refused-room, refused-post; run-answers;
 -- line-refused, line-frame (a line by what reading it answers); no-frame.
 use mathlib.Core.Path.{_≡_, refl, sym, ap, ap₂, _∙_, subst}
 use mathlib.Core.Bool.{Bool, true, false}
-use mathlib.Core.List.{List, [], _∷_, _++_}
-use Prim.Native.Nat.{ℕ, _+_, _*_, _≤_, _<_}
+use mathlib.Core.List.{List, _++_}
+use Prim.Native.Nat.{ℕ, _+_, _≤_, _<_}
 use native.Mathlib.Omega.{arith}
-use lib.ListN.{length, take, drop, length-append, length-drop}
-use lib.Seq.{take-at, length-sets, length-take-le}
-use lib.Dec.{eqb, ltb}
+use lib.ListN.{length, take, drop, length-append}
+use lib.Seq.{take-at, length-take-le}
+use lib.Dec.{ltb}
 use borrow.Author.Tests.{ltb-true, ltb-false, lt-ltb, ne-eqb}
 use Rattle.frame.specs.Tags.{pick}
 use Rattle.frame.specs.Reading.{frameLimit, parse}
 use Rattle.frame.specs.Spans.{Bytes}
-use Rattle.frame.specs.Lines.{Line, frame, badLine, readLine, writeLine}
-use Rattle.frame.specs.LineState.{lineState, lineBytes, lineBuffer, lineAnswer}
-use Rattle.frame.specs.declared.lines.LineState.{LineState}
-use Rattle.frame.specs.declared.lines.LineAnswer.{LineAnswer}
-use Rattle.frame.specs.declared.lines.LineAnswer.the-variants as L
-use Rattle.frame.proofs.LineTurns.{line-buffer}
-use Rattle.frame.proofs.LineWrites.{write-length}
+use Rattle.frame.specs.Lines.{Line, frame, badLine, readLine}
+use Rattle.lines.specs.LineState.{lineState, lineAnswer}
+use Rattle.lines.specs.declared.LineState.{LineState}
+use Rattle.lines.specs.declared.LineAnswer.{LineAnswer}
+use Rattle.lines.specs.declared.LineAnswer.the-variants as L
+use Rattle.lines.proofs.LineTurns.{line-buffer}
+use Rattle.lines.proofs.LineWrites.{write-length}
 use Rattle.typing.specs.Check.{check}
 use Rattle.run.specs.Run.{Word, REST, SPENT, FULL, RunOutcome, ended, turnedDown, run, wordAnswer, runAnswer, runOutput}
 use Rattle.run.specs.declared.RunAnswer.{RunAnswer}
 use Rattle.run.specs.declared.RunAnswer.the-variants.{Refused}
 use Rattle.run.proofs.Sizes.{run-small}
-use Rattle.answers.specs.Text.{budget, lent, decimal, wordText, endedText, refusedText, answerText, lineOutcome, lineText}
-use Rattle.answers.specs.Posts.{Appends, longest, Small, Answers, AnswerPre, AnswerPost, FramePost, HeldPost, Holds, LinePost}
-use Rattle.answers.proofs.Writes.{appends-as, ended-length, refused-length, digits-3, digits-5}
+use Rattle.printing.specs.Text.{budget, lent, wordText, endedText, refusedText, answerText, lineOutcome, lineText}
+use Rattle.printing.specs.PrintPosts.{Appends}
+use Rattle.answers.specs.Posts.{longest, Small, Answers, AnswerPre, AnswerPost, FramePost, HeldPost, LinePost}
+use Rattle.printing.proofs.Writes.{appends-as, ended-length, refused-length, digits-3, digits-5}
 
 -- ---- an answer and the outcome that it is the answer of
 same-word : (w v : Word) (k l m j : ℕ) → wordAnswer w k l ≡ wordAnswer v m j → (w ≡ v) × (k ≡ m) × (l ≡ j)

@@ -1,4 +1,4 @@
--- The ways out of `build` of src/subtree.rt, by the decision.
+-- The ways out of `build` of src/lib.rt, by the decision.
 use mathlib.Core.Path.{_≡_, sym, ap, _∙_, subst}
 use mathlib.Core.List.{List}
 use Prim.Native.Nat.{ℕ}
@@ -6,11 +6,11 @@ use native.Mathlib.Omega.{arith}
 use Rattle.frame.specs.Trees.{Tree}
 use Rattle.frame.specs.Encoding.{enc}
 use Rattle.rules.specs.Change.{Change, to, same}
-use Rattle.emit.proofs.Puts.{puts-as}
-use Rattle.rewriter.specs.Decision.{FixedMeans, Means}
-use Rattle.rewriter.specs.declared.decision.Decision.{Decision}
-use Rattle.rewriter.specs.declared.decision.Decision.the-variants as D
-use Rattle.build.specs.Operands.{FillAt, FillPre, FillPost}
+use Rattle.put.proofs.Puts.{puts-as}
+use Rattle.decision.specs.Decision.{FixedMeans, Means}
+use Rattle.decision.specs.declared.Decision.{Decision}
+use Rattle.decision.specs.declared.Decision.the-variants as D
+use Rattle.filling.specs.Operands.{FillAt, FillPre, FillPost}
 use Rattle.build.specs.Subtree.{BuildPre, BuildPost, OfEach, OfKept, OfApart, OfWithin, OfDecision}
 use Rattle.build.proofs.SubtreeTurns.{new-is}
 

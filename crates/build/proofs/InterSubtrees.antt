@@ -1,4 +1,4 @@
--- The ways out of build_apart and build_within of src/subtree.rt.
+-- The ways out of build_apart and build_within of src/lib.rt.
 -- Main results: apart-placed .. apart-built, within-placed .. within-built.
 use mathlib.Core.Path.{_≡_, refl, sym, ap, _∙_}
 use mathlib.Core.Bool.{true, false}
@@ -20,14 +20,14 @@ use Rattle.nav.proofs.Hops.{place-sorted, some-node}
 use Rattle.nav.proofs.SamePlaces.{only-child}
 use Rattle.rules.specs.Change.{Change, joined}
 use Rattle.rules.specs.EqualsEmptySet.{minusOf, minuend, withSubtrahend, minuends, subtrahends}
-use Rattle.emit.specs.Out.{Puts}
-use Rattle.emit.proofs.Puts.{puts-then, puts-as}
-use Rattle.emit.proofs.Joins.{plain-bytes, inter-bytes, union-bytes}
-use Rattle.rewriter.specs.Decision.{ApartMeans}
-use Rattle.rewriter.proofs.Shapes.{Counts, few-of, some-two, place-few}
-use Rattle.build.specs.Rows.{CopyPost, rowOf, RowAt, RowPre, RowPost, MinusRowPost}
+use Rattle.put.specs.Out.{Puts}
+use Rattle.put.proofs.Puts.{puts-then, puts-as}
+use Rattle.templates.proofs.Joins.{plain-bytes, inter-bytes, union-bytes}
+use Rattle.decision.specs.Decision.{ApartMeans}
+use Rattle.decision.proofs.Shapes.{Counts, few-of, some-two, place-few}
+use Rattle.rows.specs.Rows.{CopyPost, rowOf, RowAt, RowPre, RowPost, MinusRowPost}
 use Rattle.build.specs.Subtree.{joinedBytes, BuildPre, BuildPost, OfApart, OfWithin}
-use Rattle.build.specs.declared.rows.Share.the-variants.{Besides, Minuend, Subtrahend}
+use Rattle.rows.specs.declared.Share.the-variants.{Besides, Minuend, Subtrahend}
 use Rattle.build.proofs.SubtreeTurns.{many-then, new-is}
 
 -- ---- an ∩ has from 2 to 255 operands

@@ -1,4 +1,4 @@
--- The ways out of the functions of src/subtree.rt.
+-- The ways out of the functions of src/lib.rt.
 -- Main results: fill-row-none .. fill-row-more; many-byte, joined-one, joined-more; and for each kind of decision what the code asks on its way
 -- and what it has written at the end.
 use mathlib.Core.Path.{_≡_, refl, sym, ap, ap₂, _∙_}
@@ -22,15 +22,15 @@ use Rattle.frame.proofs.Within.{kids-of}
 use Rattle.nav.specs.PlaceTables.{Table, Placed, ChildrenPost, TagPost}
 use Rattle.nav.proofs.Hops.{place-sorted}
 use Rattle.rules.specs.Change.{Change, to}
-use Rattle.emit.specs.Out.{Puts}
-use Rattle.emit.proofs.Puts.{puts-nil, puts-then, puts-as}
-use Rattle.emit.proofs.Joins.{counted-bytes}
-use Rattle.rewriter.specs.Decision.{At, joint, eachFilled, EachMeans}
-use Rattle.rewriter.proofs.Shapes.{place-few}
-use Rattle.build.specs.Operands.{FillAt, FillPre, FillPost}
-use Rattle.build.specs.Rows.{KeptPre, KeptPost}
+use Rattle.put.specs.Out.{Puts}
+use Rattle.put.proofs.Puts.{puts-nil, puts-then, puts-as}
+use Rattle.templates.proofs.Joins.{counted-bytes}
+use Rattle.decision.specs.Decision.{At, joint, eachFilled, EachMeans}
+use Rattle.decision.proofs.Shapes.{place-few}
+use Rattle.filling.specs.Operands.{FillAt, FillPre, FillPost}
+use Rattle.rows.specs.Rows.{KeptPre, KeptPost}
 use Rattle.build.specs.Subtree.{manyBytes, joinedBytes, BinderAt, FillRowPre, FillRowPost, BuildPre, BuildPost, OfEach, OfKept}
-use Rattle.build.proofs.RowTurns.{split-row}
+use Rattle.rows.proofs.RowTurns.{split-row}
 
 -- ---- a pattern for each child
 module _ (s : List ℕ) (n : ℕ) (st nx leaves : List ℕ) (pattern c m binder : ℕ) where

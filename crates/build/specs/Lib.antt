@@ -1,3 +1,1 @@
-pub mod Operands
-pub mod Rows
 pub mod Subtree

@@ -1,4 +1,4 @@
--- What the code of src/subtree.rt asks and answers.
+-- What the code of src/lib.rt asks and answers.
 use mathlib.Core.Path.{_≡_}
 use mathlib.Core.List.{List, [], _∷_, _++_}
 use Prim.Native.Nat.{ℕ}
@@ -12,11 +12,11 @@ use Rattle.frame.specs.WellFormed.{Wf}
 use Rattle.frame.specs.Places.{Ctx, found, find}
 use Rattle.nav.specs.PlaceTables.{Table}
 use Rattle.rules.specs.Change.{Change, to}
-use Rattle.emit.specs.Out.{Puts}
-use Rattle.rewriter.specs.Decision.{Bound, eachFilled, EachMeans, KeptMeans, ApartMeans, WithinMeans, Means}
-use Rattle.rewriter.specs.declared.decision.Decision.{Decision}
-use Rattle.build.specs.Operands.{Held}
-use Rattle.build.specs.Rows.{RowAt}
+use Rattle.put.specs.Out.{Puts}
+use Rattle.decision.specs.Decision.{Bound, eachFilled, EachMeans, KeptMeans, ApartMeans, WithinMeans, Means}
+use Rattle.decision.specs.declared.Decision.{Decision}
+use Rattle.filling.specs.Operands.{Held}
+use Rattle.rows.specs.Rows.{RowAt}
 
 -- ---- heads of operators over a list
 abbrev pub manyBytes : ℕ → ℕ → List ℕ

@@ -1,6 +1,6 @@
 -- Laws for each way out of the check, on plain values.
 -- Main results: read-stands, read-fits, Roomy, type-pre, typed-by, refused-read, bound-out, names-out, typed-out, accepted-out.
-use mathlib.Core.Path.{_≡_, refl, sym, ap, _∙_, subst}
+use mathlib.Core.Path.{_≡_, sym, ap, _∙_, subst}
 use mathlib.Core.Bool.{Bool, true, false}
 use mathlib.Core.List.{List, []}
 use Prim.Native.Nat.{ℕ, _+_, _*_, _≤_}
@@ -8,24 +8,24 @@ use native.Mathlib.Omega.{arith}
 use lib.ListN.{length}
 use Rattle.frame.specs.Trees.{Tree, nodes}
 use Rattle.frame.specs.Tags.{predicate}
-use Rattle.frame.specs.Encoding.{enc}
 use Rattle.frame.specs.Reading.{Parsed, tree, bad, parse, frameLimit}
 use Rattle.frame.specs.Spans.{Bytes}
 use Rattle.frame.specs.At.{IsAt}
-use Rattle.frame.specs.Post.{frameAnswer}
-use Rattle.frame.specs.declared.reading.FrameAnswer.the-variants as F
+use Rattle.reading.specs.Post.{frameAnswer}
+use Rattle.reading.specs.declared.FrameAnswer.the-variants as F
 use Rattle.frame.proofs.Frames.{parse-inv, parse-enc}
 use Rattle.frame.proofs.Extents.{nodes-enc}
-use Rattle.frame.proofs.View.{FrameAt, frame-at, parse-at, at-span}
+use Rattle.reading.proofs.FrameSays.{frame-at}
+use Rattle.heads.proofs.View.{parse-at, at-span}
 use Rattle.typing.specs.Typing.{typedTree}
 use Rattle.typing.specs.Binding.{closedTree}
 use Rattle.typing.specs.Identifiers.{namesAgree}
 use Rattle.typing.specs.Leaves.{LeavesAt}
-use Rattle.typing.specs.Check.{Checked, accepted, refused, checkTree, checkParsed, check}
+use Rattle.typing.specs.Check.{accepted, checkTree, checkParsed, check}
 use Rattle.typing.proofs.Decides.{check-accepted}
-use Rattle.typing.specs.TypingPosts.{TypePre, TypePost, Typing}
-use Rattle.typing.specs.declared.patterns.Typed.{Typed}
-use Rattle.typing.specs.declared.patterns.Typed.the-variants as T
+use Rattle.synthesis.specs.TypingPosts.{TypePre, TypePost, Typing}
+use Rattle.patterns.specs.declared.Typed.{Typed}
+use Rattle.patterns.specs.declared.Typed.the-variants as T
 use Rattle.checking.specs.Posts.{checkAnswer, TypedPre, TypedPost, ReadPre, TreePost}
 use Rattle.checking.specs.declared.CheckAnswer.the-variants as A
 

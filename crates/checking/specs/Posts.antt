@@ -1,4 +1,4 @@
--- What the code of the check answers, by the definition of Check.antt.
+-- What the code of the check answers, by the definition of typing/specs/Check.antt.
 use mathlib.Core.Path.{_≡_}
 use mathlib.Core.Bool.{Bool}
 use mathlib.Core.List.{List, []}
@@ -14,7 +14,9 @@ use Rattle.typing.specs.Check.{Checked, accepted, refused, check}
 use Rattle.checking.specs.declared.CheckAnswer.{CheckAnswer}
 use Rattle.checking.specs.declared.CheckAnswer.the-variants as A
 
--- "Where an answer is an enum, a definition gives this paper's number and values for each case of the enum."
+-- "Where an answer is an enum, a definition gives this paper's number and values for each case of the enum. The promises use that
+-- definition." The contract of the entry `check` is an equation with it: "The contract of each entry gives answer, count and every
+-- byte of the output afterwards, refusals too"; there is no count and no output here.
 abbrev pub checkAnswer : Checked → CheckAnswer
 checkAnswer (accepted t) = A.Accepted (nodes t)
 checkAnswer (refused n) = A.Refused n

@@ -1,9 +1,9 @@
 // A frame checked: numbers 2 to 10 in their order (document 01, "Numbers of what is turned down, in checking order").
-use frame::reading::FrameAnswer;
-use typing::binding::binding_ok;
-use typing::identifiers::names_ok;
-use typing::patterns::Typed;
-use typing::typing::type_tree;
+use binding::binding_ok;
+use identifiers::names_ok;
+use patterns::Typed;
+use reading::FrameAnswer;
+use synthesis::type_tree;
 ghost use mathlib.Core.Path.{_≡_};
 ghost use Rattle.typing.specs.Check.{check as checked};
 ghost use Prim.Native.Nat.{_+_, _*_, _≤_};
@@ -68,7 +68,7 @@ pub fn check_tree(s: &[u8], n: usize, leaves: &mut [u16; 2048]) -> CheckAnswer
 pub fn check(frame: &[u8]) -> CheckAnswer
     ensures { λ r. ⌜ r ≡ checkAnswer (checked (now (frame .entry))) ⌝ }
 {
-    let read = frame::reading::read(frame);
+    let read = reading::read(frame);
     let answer = read.answer;
     match answer {
         FrameAnswer::Refused(c) => CheckAnswer::Refused(c),

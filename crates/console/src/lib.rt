@@ -1,14 +1,14 @@
-// Standard input to standard output, in large pieces. What is written for what is read is `answers::stream`'s: no contract can
+// Standard input to standard output, in large pieces. What is written for what is read is `streaming`'s: no contract can
 // speak of what a file holds, so those here say only that the loops are safe and end.
 ghost use Prim.Native.Nat.{_≤_};
 ghost use lib.ListN.{length};
 ghost use Rattle.answers.specs.Posts.{longest};
-use answers::stream::feed;
-use answers::stream::finish;
-use frame::lines::LineState;
-use frame::lines::line_start;
 use libc::STDIN_FILENO;
 use libc::STDOUT_FILENO;
+use lines::LineState;
+use lines::line_start;
+use streaming::feed;
+use streaming::finish;
 
 // The line that goes on, and whether there may be more input.
 struct Turn {

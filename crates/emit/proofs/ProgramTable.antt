@@ -2,7 +2,7 @@
 use mathlib.Core.Path.{_≡_, refl, sym, subst₂}
 use mathlib.Core.Bool.{Bool, true, false, _&&_}
 use mathlib.Core.List.{List, [], _∷_, _++_}
-use Prim.Native.Nat.{ℕ, zero, suc, _+_, _*_, _≤_, _<_}
+use Prim.Native.Nat.{ℕ, _+_, _*_, _≤_, _<_}
 use native.Mathlib.Omega.{arith}
 use lib.ListN.{length, take, drop, getD, length-drop, length-append}
 use lib.Dec.{eqb}
@@ -10,10 +10,10 @@ use borrow.Author.Tests.{eqb-true}
 use Rattle.frame.specs.Encoding.{encNumber}
 use Rattle.frame.proofs.Inversion.{true-not}
 use Rattle.frame.proofs.SameTrees.{both-true}
-use Rattle.frame.proofs.TagTables.{allBelow, below}
-use Rattle.emit.specs.Template.{Part}
-use Rattle.emit.specs.Programs.{templates, among, findRow, template, code, program}
-use Rattle.emit.specs.Holds.{ProgramAt}
+use Rattle.frame.proofs.Tables.{allBelow, below}
+use Rattle.templates.specs.Template.{Part}
+use Rattle.templates.specs.Programs.{templates, among, findRow, template, code, program}
+use Rattle.parts.specs.Holds.{ProgramAt}
 
 -- xs is the front of ys
 unfoldable front : List ℕ → List ℕ → Bool
@@ -46,7 +46,7 @@ front-program g at ps e =
     let l = length-drop at g in
     record { long = refl; within = omega (arith, some ps, h .0); bytes = h .1 }
 
--- ---- the code's tables, as src/template.rt has them
+-- ---- the code's tables, as src/lib.rt has them
 unfoldable pub programs : List ℕ
 programs = 1 ∷ 1 ∷ 96 ∷ 2 ∷ 3 ∷ 1 ∷ 0 ∷ 101 ∷ 3 ∷ 0 ∷ 1 ∷ 1 ∷ 151 ∷ 4 ∷ 0 ∷ 0 ∷ 1 ∷ 0 ∷ 101 ∷ 3 ∷ 1 ∷ 1 ∷ 1 ∷ 151 ∷ 4 ∷ 0 ∷ 1 ∷ 1 ∷ 1 ∷ 95 ∷ 2 ∷ 2 ∷ 1 ∷ 2 ∷ 108 ∷ 3 ∷ 0 ∷ 1 ∷ 2 ∷ 108 ∷ 3 ∷ 1 ∷ 0 ∷ 1 ∷ 1 ∷ 95 ∷ 2 ∷ 2 ∷ 1 ∷ 0 ∷ 101 ∷ 3 ∷ 0 ∷ 1 ∷ 1 ∷ 151 ∷ 4 ∷ 0 ∷ 0 ∷ 1 ∷ 2 ∷ 189 ∷ 1 ∷ 0 ∷ 101 ∷ 3 ∷ 1 ∷ 1 ∷ 1 ∷ 151 ∷ 4 ∷ 0 ∷ 1 ∷ 0 ∷ 252 ∷ 1 ∷ 0 ∷ 101 ∷ 3 ∷ 0 ∷ 1 ∷ 1 ∷ 151 ∷ 4 ∷ 0 ∷ 0 ∷ 1 ∷ 2 ∷ 189 ∷ 1 ∷ 0 ∷ 101 ∷ 3 ∷ 1 ∷ 1 ∷ 1 ∷ 151 ∷ 4 ∷ 0 ∷ 1 ∷ 0 ∷ 1 ∷ 1 ∷ 96 ∷ 2 ∷ 2 ∷ 1 ∷ 0 ∷ 101 ∷ 3 ∷ 0 ∷ 1 ∷ 1 ∷ 151 ∷ 4 ∷ 0 ∷ 0 ∷ 1 ∷ 0 ∷ 101 ∷ 3 ∷ 1 ∷ 1 ∷ 1 ∷ 151 ∷ 4 ∷ 0 ∷ 1 ∷ 0 ∷ 101 ∷ 1 ∷ 1 ∷ 46 ∷ 2 ∷ 2 ∷ 1 ∷ 2 ∷ 244 ∷ 3 ∷ 0 ∷ 1 ∷ 2 ∷ 244 ∷ 3 ∷ 1 ∷ 1 ∷ 1 ∷ 151 ∷ 4 ∷ 1 ∷ 0 ∷ 0 ∷ 1 ∷ 0 ∷ 101 ∷ 1 ∷ 1 ∷ 46 ∷ 2 ∷ 2 ∷ 1 ∷ 2 ∷ 245 ∷ 3 ∷ 0 ∷ 1 ∷ 2 ∷ 244 ∷ 3 ∷ 1 ∷ 1 ∷ 1 ∷ 151 ∷ 4 ∷ 2 ∷ 0 ∷ 0 ∷ 1 ∷ 0 ∷ 101 ∷ 1 ∷ 1 ∷ 46 ∷ 2 ∷ 2 ∷ 1 ∷ 2 ∷ 245 ∷ 3 ∷ 1 ∷ 1 ∷ 2 ∷ 244 ∷ 3 ∷ 0 ∷ 1 ∷ 1 ∷ 151 ∷ 4 ∷ 2 ∷ 1 ∷ 0 ∷ 1 ∷ 1 ∷ 95 ∷ 2 ∷ 2 ∷ 1 ∷ 0 ∷ 101 ∷ 3 ∷ 0 ∷ 1 ∷ 1 ∷ 151 ∷ 4 ∷ 0 ∷ 0 ∷ 1 ∷ 0 ∷ 101 ∷ 3 ∷ 1 ∷ 5 ∷ 3 ∷ 1 ∷ 0 ∷ 1 ∷ 1 ∷ 95 ∷ 2 ∷ 2 ∷ 1 ∷ 0 ∷ 101 ∷ 3 ∷ 0 ∷ 5 ∷ 3 ∷ 0 ∷ 1 ∷ 0 ∷ 101 ∷ 3 ∷ 1 ∷ 1 ∷ 1 ∷ 151 ∷ 4 ∷ 0 ∷ 1 ∷ 0 ∷ 1 ∷ 1 ∷ 95 ∷ 2 ∷ 2 ∷ 1 ∷ 0 ∷ 101 ∷ 3 ∷ 1 ∷ 1 ∷ 1 ∷ 151 ∷ 4 ∷ 0 ∷ 1 ∷ 1 ∷ 0 ∷ 101 ∷ 3 ∷ 0 ∷ 5 ∷ 3 ∷ 0 ∷ 0 ∷ 1 ∷ 0 ∷ 101 ∷ 1 ∷ 1 ∷ 46 ∷ 2 ∷ 2 ∷ 1 ∷ 2 ∷ 244 ∷ 3 ∷ 1 ∷ 3 ∷ 0 ∷ 1 ∷ 1 ∷ 151 ∷ 4 ∷ 1 ∷ 1 ∷ 0 ∷ 101 ∷ 1 ∷ 1 ∷ 46 ∷ 2 ∷ 2 ∷ 1 ∷ 2 ∷ 245 ∷ 3 ∷ 0 ∷ 3 ∷ 1 ∷ 1 ∷ 1 ∷ 151 ∷ 4 ∷ 2 ∷ 0 ∷ 0 ∷ 1 ∷ 1 ∷ 95 ∷ 2 ∷ 2 ∷ 1 ∷ 0 ∷ 101 ∷ 3 ∷ 0 ∷ 5 ∷ 3 ∷ 0 ∷ 1 ∷ 0 ∷ 101 ∷ 3 ∷ 1 ∷ 5 ∷ 3 ∷ 1 ∷ 0 ∷ 1 ∷ 1 ∷ 95 ∷ 2 ∷ 2 ∷ 1 ∷ 0 ∷ 101 ∷ 3 ∷ 1 ∷ 5 ∷ 3 ∷ 1 ∷ 1 ∷ 0 ∷ 101 ∷ 3 ∷ 0 ∷ 5 ∷ 3 ∷ 0 ∷ 0 ∷ 1 ∷ 3 ∷ 83 ∷ 6 ∷ 1 ∷ 0 ∷ 251 ∷ 3 ∷ 0 ∷ 1 ∷ 0 ∷ 101 ∷ 3 ∷ 1 ∷ 1 ∷ 1 ∷ 151 ∷ 4 ∷ 0 ∷ 1 ∷ 0 ∷ 1 ∷ 3 ∷ 83 ∷ 6 ∷ 1 ∷ 0 ∷ 251 ∷ 3 ∷ 0 ∷ 1 ∷ 0 ∷ 101 ∷ 3 ∷ 1 ∷ 5 ∷ 3 ∷ 1 ∷ 0 ∷ 101 ∷ 1 ∷ 0 ∷ 217 ∷ 3 ∷ 1 ∷ 3 ∷ 0 ∷ 1 ∷ 1 ∷ 151 ∷ 4 ∷ 0 ∷ 0 ∷ 0 ∷ 1 ∷ 0 ∷ 111 ∷ 3 ∷ 0 ∷ 1 ∷ 0 ∷ 5 ∷ 2 ∷ 1 ∷ 1 ∷ 1 ∷ 151 ∷ 4 ∷ 3 ∷ 0 ∷ 0 ∷ 1 ∷ 0 ∷ 251 ∷ 1 ∷ 3 ∷ 83 ∷ 6 ∷ 3 ∷ 0 ∷ 1 ∷ 3 ∷ 84 ∷ 6 ∷ 3 ∷ 1 ∷ 0 ∷ 101 ∷ 3 ∷ 0 ∷ 1 ∷ 0 ∷ 5 ∷ 2 ∷ 1 ∷ 5 ∷ 4 ∷ 0 ∷ 0 ∷ 1 ∷ 0 ∷ 101 ∷ 3 ∷ 0 ∷ 1 ∷ 1 ∷ 151 ∷ 4 ∷ 0 ∷ 0 ∷ 0 ∷ 1 ∷ 2 ∷ 108 ∷ 1 ∷ 3 ∷ 35 ∷ 6 ∷ 3 ∷ 0 ∷ 3 ∷ 1 ∷ 0 ∷ 111 ∷ 1 ∷ 2 ∷ 244 ∷ 3 ∷ 1 ∷ 3 ∷ 0 ∷ 0 ∷ 1 ∷ 0 ∷ 111 ∷ 1 ∷ 2 ∷ 245 ∷ 3 ∷ 0 ∷ 3 ∷ 1 ∷ 0 ∷ 101 ∷ 1 ∷ 1 ∷ 149 ∷ 3 ∷ 0 ∷ 0 ∷ 1 ∷ 0 ∷ 101 ∷ 1 ∷ 1 ∷ 150 ∷ 3 ∷ 0 ∷ 0 ∷ 1 ∷ 0 ∷ 101 ∷ 3 ∷ 0 ∷ 1 ∷ 1 ∷ 149 ∷ 0 ∷ 1 ∷ 0 ∷ 101 ∷ 3 ∷ 0 ∷ 1 ∷ 1 ∷ 150 ∷ 0 ∷ 1 ∷ 0 ∷ 101 ∷ 3 ∷ 0 ∷ 3 ∷ 1 ∷ 0 ∷ 103 ∷ 3 ∷ 0 ∷ 3 ∷ 1 ∷ 0 ∷ 104 ∷ 3 ∷ 0 ∷ 3 ∷ 1 ∷ 0 ∷ 105 ∷ 3 ∷ 0 ∷ 3 ∷ 1 ∷ 0 ∷ 106 ∷ 3 ∷ 0 ∷ 3 ∷ 1 ∷ 0 ∷ 111 ∷ 3 ∷ 0 ∷ 3 ∷ 1 ∷ 0 ∷ 1 ∷ 2 ∷ 108 ∷ 5 ∷ 5 ∷ 0 ∷ 0 ∷ 1 ∷ 3 ∷ 83 ∷ 6 ∷ 3 ∷ 0 ∷ 0 ∷ 1 ∷ 3 ∷ 84 ∷ 6 ∷ 3 ∷ 0 ∷ 0 ∷ 1 ∷ 2 ∷ 108 ∷ 3 ∷ 0 ∷ 0 ∷ 1 ∷ 2 ∷ 189 ∷ 3 ∷ 0 ∷ 0 ∷ 1 ∷ 2 ∷ 98 ∷ 0 ∷ 1 ∷ 2 ∷ 99 ∷ 0 ∷ []
 

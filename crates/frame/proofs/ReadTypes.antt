@@ -1,11 +1,11 @@
 -- Types, read and written: a type that is read has its bytes there, and a type's bytes are read as that type.
--- Main results: ty-read, tys-read, ty-back, tys-back, ty-bytes, tys-bytes, ty-prefix, encTy-injective, encTys-injective.
+-- Main results: ty-read, tys-read, ty-back, tys-back, ty-bytes, tys-bytes, ty-prefix, encTy-injective, encTys-injective, tys-long.
 use mathlib.Core.Path.{_≡_, refl, ap, ap₂, _∙_, subst, subst₂}
 use mathlib.Core.Bool.{Bool, true, false}
 use mathlib.Core.List.{List, [], _∷_, _++_}
 use Prim.Native.Nat.{ℕ, zero, suc, _+_, _*_, _/_, _%_, _≤_, _<_}
 use native.Mathlib.Omega.{arith}
-use lib.ListN.{length, getD}
+use lib.ListN.{length, getD, length-append}
 use lib.Dec.{leb, lit<}
 use borrow.Author.Tests.{leb-false, lt-leb}
 use Rattle.frame.specs.Types.{Ty, bool, int, given, pow, prod}
@@ -234,3 +234,8 @@ encTys-injective (t ∷ ts) (u ∷ us) w v l e =
     let i = ty-prefix t u (encTys ts) (encTys us) (w .0) (v .0) e in
     let l' : length ts ≡ length us = omega arith in
     ap₂ (λ (x : Ty) (xs : List Ty). x ∷ xs) (i .0) (encTys-injective ts us (w .2) (v .2) l' (i .1))
+
+pub tys-long : (us : List Ty) → length us ≤ length (encTys us)
+unfolding encTys
+tys-long [] = omega arith
+tys-long (u ∷ us) = simp length-append (omega (arith, ty-long u, tys-long us))

@@ -1,17 +1,17 @@
 -- Places within a subtree.
 -- Main results: find-within (place i of the subtree at place j is place j + i), kid-first, kid-next (the places of a node's
 -- children: the first follows the node, the next follows all nodes of the one before).
-use mathlib.Core.Path.{_≡_, refl, sym, ap, _∙_}
+use mathlib.Core.Path.{_≡_, refl, ap, _∙_}
 use mathlib.Core.Bool.{Bool, true, false}
 use mathlib.Core.List.{List}
 use Prim.Native.Nat.{ℕ, zero, suc, _+_, _-_, _≤_, _<_}
 use native.Mathlib.Omega.{arith}
 use lib.Dec.{ltb}
-use borrow.Author.Tests.{ltb-true, ltb-false, lt-ltb, le-ltb}
+use borrow.Author.Tests.{ltb-false, lt-ltb, le-ltb}
 use Rattle.frame.specs.Types.{Ty}
-use Rattle.frame.specs.Trees.{Head, head, Tree, node, Forest, nil, cons, nodes, nodesIn}
+use Rattle.frame.specs.Trees.{head, Tree, node, Forest, nil, cons, nodes}
 use Rattle.frame.specs.Tags.{pick}
-use Rattle.frame.specs.Places.{Ctx, under, Found, found, absent, find, findIn}
+use Rattle.frame.specs.Places.{Ctx, under, found, find, findIn}
 use Rattle.frame.proofs.AtPlace.{absent-not}
 use Rattle.frame.proofs.Splices.{find-lt}
 

@@ -1,5 +1,5 @@
 -- A tree that stands at a position of a frame: it is read there, up to q, with some fuel. What goes over a frame that was
--- read goes by these; frame/proofs/View.antt takes them apart by the head that the code reads.
+-- read goes by these; heads/proofs/View.antt takes them apart by the head that the code reads.
 use mathlib.Core.Path.{_≡_}
 use mathlib.Core.List.{List}
 use Prim.Native.Nat.{ℕ}

@@ -1,4 +1,7 @@
--- Numbers 2 to 7 at their limits, by one evaluation of `parse`; 0 is a frame that is read.
+-- Numbers 3 to 7 at their limits, and number 2 for no byte, by one evaluation of `parse`; 0 is a frame that is read.
+-- "4,096 bytes read, 4,097 number 2. 32 binders read, 33 number 5. 63 powers over BOOL read, 64 number 6.": the binders and the
+-- powers are in this table; the frames of 4,096 and of 4,097 bytes are not: programs run them (tests/simplify and
+-- crates/frame_test).
 use mathlib.Core.Path.{_≡_, refl}
 use mathlib.Core.List.{List, [], _∷_, map}
 use Prim.Native.Nat.{ℕ}
@@ -22,6 +25,8 @@ cases =
     ∷ number-of (0x00 ∷ 0x65 ∷ 0x00 ∷ 0x01 ∷ 0x00 ∷ 0x07 ∷ 0x00 ∷ []) 3
     -- a tag that isn't listed
     ∷ number-of (0x02 ∷ 0xBE ∷ []) 4
+    -- the tag after the last of a row
+    ∷ number-of (0x02 ∷ 0x64 ∷ []) 4
     -- an expression at the root
     ∷ number-of (0x01 ∷ 0x94 ∷ []) 4
     -- a predicate where an expression must stand

@@ -1,17 +1,13 @@
 pub mod Types
 pub mod Trees
 pub mod Tags
-pub mod TagCodes
 pub mod Operators
 pub mod Encoding
 pub mod Reading
-pub mod Post
 pub mod At
 pub mod Lines
-pub mod LineState
 pub mod Places
 pub mod Sameness
 pub mod WellFormed
 pub mod Spans
-pub mod Bytes
 pub mod Cases

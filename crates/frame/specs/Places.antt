@@ -3,7 +3,7 @@ use Prim.Native.Nat.{ℕ, zero, suc, _-_}
 use mathlib.Core.List.{List, [], _∷_}
 use lib.Dec.{ltb}
 use Rattle.frame.specs.Types.{Ty}
-use Rattle.frame.specs.Trees.{Head, head, Tree, node, Forest, nil, cons, nodes}
+use Rattle.frame.specs.Trees.{head, Tree, node, Forest, nil, cons, nodes}
 use Rattle.frame.specs.Tags.{pick, formOf, bindersOf}
 
 -- the types of the binders around a node: "index 0 is the last binder of the nearest list, counting back through it and

@@ -1,10 +1,12 @@
 -- Sameness (document 01, "The type record": "Sameness of trees is the same tag, payload and types; binder names play no part.").
-use Prim.Native.Nat.{ℕ}
+-- In the source `kind_eq` of expression.rs (document 008) compares expressions, and in it `alpha_eq` of decl.rs (010) binders, by
+-- their types alone. "If the Rust compares otherwise, ours holds; docs/DIFFERENCES.md says so, and frames where that, or a place
+-- left out as above, changes an answer are the only ones excused from equality with the Rust."
 use mathlib.Core.Bool.{Bool, true, false, _&&_}
 use mathlib.Core.List.{List, [], _∷_}
 use lib.Dec.{eqb}
 use Rattle.frame.specs.Types.{Ty, bool, int, given, pow, prod}
-use Rattle.frame.specs.Trees.{Head, head, Tree, node, Forest, nil, cons}
+use Rattle.frame.specs.Trees.{head, Tree, node, Forest, nil, cons}
 
 unfoldable pub sameTy : Ty → Ty → Bool
 sameTy bool bool = true

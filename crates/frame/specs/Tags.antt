@@ -56,8 +56,10 @@ pub data Class : Type 0 where
 pub data Row : Type 0 where
   row : ℕ → ℕ → Class → Row
 
--- "Tags are the values of the operator enums in tag.rs (004); ours are 1 identifier, 3 bound identifier, 4 literal,
+-- "Tags are the values of the operator enums in `tag.rs` (004); ours are 1 identifier, 3 bound identifier, 4 literal,
 -- 5 set extension, 601 bool(P), 620 finite, 701 not, 901 partition (all decimal)."
+-- "Left out: [..] `Ascription`, `Application`, `Extended`, predicate variables": there is no row for the numbers that tag.rs
+-- gives these, 951, 952, those from 1000 on and 9.
 abbrev pub table : List Row
 table =
     row 1 1 identifier
@@ -153,7 +155,8 @@ formAt quantifiedPred = form P (binding 1 32 (P ∷ [])) 0
 formAt finite = form P (these (E ∷ [])) 0
 -- "5 and 901: count 1 to 255."
 formAt partition = form P (counted 1 255 E) 0
--- "Tag 1: two-byte number, then its type. Tag 3: one-byte index [..] Tag 4: eight bytes in two's complement"
+-- "Tag 1: two-byte number, then its type. Tag 3: one-byte index [..] Tag 4: eight bytes in two's complement, any signed 64-bit
+-- number."
 formAt identifier = form E (payload 2) 1
 formAt bound = form E (payload 1) 0
 formAt literal = form E (payload 8) 0

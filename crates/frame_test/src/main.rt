@@ -3,11 +3,11 @@
 ghost use Prim.Native.Nat.{_≤_};
 ghost use lib.ListN.{length};
 use checking::CheckAnswer;
-use frame::lines::LineAnswer;
-use frame::lines::LineState;
-use frame::reading::FrameAnswer;
 use libc::STDIN_FILENO;
 use libc::STDOUT_FILENO;
+use lines::LineAnswer;
+use lines::LineState;
+use reading::FrameAnswer;
 
 fn print_refused(c: u8) {
     io::write_all(STDOUT_FILENO, b"REFUSED ");
@@ -29,7 +29,7 @@ fn print_checked(s: &[u8]) {
 }
 
 fn print_answers(s: &[u8]) {
-    let got = frame::reading::read(s);
+    let got = reading::read(s);
     let answer = got.answer;
     match answer {
         FrameAnswer::Nodes(k) => {
@@ -49,7 +49,7 @@ fn print_frame(s: &[u8], n: usize) {
 }
 
 fn print_line(state: LineState, buf: &[u8; 4096]) {
-    let answer = frame::lines::line_end(state);
+    let answer = lines::line_end(state);
     match answer {
         LineAnswer::Frame(n) => print_frame(buf, n),
         LineAnswer::Refused(c) => print_refused(c),
@@ -78,12 +78,12 @@ fn take_bytes(state: LineState, s: &[u8], buf: &mut [u8; 4096]) -> LineState {
     let mut i: usize = 0;
     while i < s.len() {
         let e = end_of_line(s, i);
-        line = frame::lines::line_piece(line, &s[i..e], buf);
+        line = lines::line_piece(line, &s[i..e], buf);
         if s.len() <= e {
             return line;
         }
         print_line(line, buf);
-        line = frame::lines::line_start();
+        line = lines::line_start();
         i = e + 1;
     }
     line
@@ -114,7 +114,7 @@ fn read_some(state: LineState, buf: &mut [u8; 4096]) -> Turn {
 
 // A proved loop has to end, and nothing says that the input does: no run uses up so many turns.
 fn read_all(buf: &mut [u8; 4096]) -> LineState {
-    let mut line = frame::lines::line_start();
+    let mut line = lines::line_start();
     let mut turns = u64::MAX;
     while turns > 0 {
         let turn = read_some(line, buf);

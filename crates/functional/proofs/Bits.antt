@@ -9,7 +9,7 @@ use native.Mathlib.Nat.{pow-suc}
 use lib.Dec.{eqb, ltb, eqb·zero-suc, eqb·suc-zero, eqb·suc-suc}
 use lib.Bits.{bitAnd, bitOr, and-step, or-step}
 use borrow.Author.Tests.{ne-eqb, ltb-true, ltb-false}
-use Rattle.frame.proofs.TagTables.{allBelow}
+use Rattle.frame.proofs.Tables.{allBelow}
 use Rattle.functional.specs.Functional.{bit}
 
 -- a digit is 0 or 1

@@ -13,13 +13,14 @@ use borrow.Author.Tests.{eqb-true, eqb-false, eq-eqb, ne-eqb, ltb-true, ltb-fals
 use Rattle.frame.specs.Types.{Ty}
 use Rattle.frame.specs.Trees.{head, Tree, node, Forest, count}
 use Rattle.frame.specs.Tags.{Layout, these, payload, counted, binding, Form, lookup, classOf, formAt, formOf, width, inRange, numberOf, bindersOf}
-use Rattle.frame.specs.TagCodes.{formAtCode, formCode, layoutKind, highOf}
+use Rattle.tags.specs.TagCodes.{formAtCode, formCode, layoutKind, highOf}
 use Rattle.frame.specs.Reading.{numberAt}
 use Rattle.frame.specs.WellFormed.{numberIn}
 use Rattle.frame.specs.Places.{Ctx, found, find}
 use Rattle.frame.proofs.SameTrees.{both-true}
 use Rattle.frame.proofs.Splices.{find-some}
-use Rattle.frame.proofs.TagTables.{allBelow, below, sameBool, flag, form-code, code-small, beyond}
+use Rattle.frame.proofs.Tables.{allBelow, below, sameBool, flag}
+use Rattle.tags.proofs.TagTables.{form-code, code-small, beyond}
 use Rattle.nav.specs.PlaceTables.{Framed, Placed, TagPost, ChildrenPost}
 use Rattle.nav.proofs.Hops.{place-sorted, place-stands}
 use Rattle.nav.proofs.PlaceTurns.{Numbers, numbers}

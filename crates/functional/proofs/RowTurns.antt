@@ -14,7 +14,7 @@ use Rattle.frame.specs.Trees.{head, Tree, node, Forest, nil, cons, count, nodes
 use Rattle.frame.specs.Tags.{pick, lookup, classOf, formAt, formOf, bindersOf}
 use Rattle.frame.specs.Places.{Ctx, under, found, find, findIn}
 use Rattle.frame.proofs.AtPlace.{absent-not}
-use Rattle.frame.proofs.TagTables.{allBelow}
+use Rattle.frame.proofs.Tables.{allBelow}
 use Rattle.frame.proofs.Within.{find-within}
 use Rattle.nav.specs.PlaceTables.{Table, Placed}
 use Rattle.nav.proofs.Hops.{framed-few, place-end, child-first, child-next}

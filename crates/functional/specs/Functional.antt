@@ -1,4 +1,5 @@
--- `functional_check` in code: sets of binders as masks, and what the functions of src/lib.rt ask and answer.
+-- `functional_check` in code: sets of binders as masks, and what the functions of src/lib.rt ask and answer. "`HashSet` of binder
+-- indices becomes a 32-bit mask."
 use mathlib.Core.Path.{_≡_}
 use mathlib.Core.Bool.{Bool, true, false, _&&_, _||_}
 use mathlib.Core.List.{List, []}

@@ -24,10 +24,10 @@ pub fn binders_at(s: &[u8], starts: &[u16; 2048], k: usize) -> usize
     requires { ⌜ Placed (now s) (now starts) k ⌝ }
     ensures { λ r. ⌜ BindersPost (now (s .entry)) (now (starts .entry)) k r × (r ≤ 32) ⌝ }
 {
-    if !is_binder(nav::places::tag_at(s, starts, k)) {
+    if !is_binder(nav::tag_at(s, starts, k)) {
         return 0;
     }
-    frame::reading::number(s, nav::places::start_at(starts, k) + 2, 1)
+    heads::number(s, nav::start_at(starts, k) + 2, 1)
 }
 
 // The binder that the node at place k itself names, of n binders that have d others between them and place k.
@@ -35,10 +35,10 @@ fn own_at(s: &[u8], starts: &[u16; 2048], k: usize, d: usize, n: usize) -> u32
     requires { ⌜ Placed (now s) (now starts) k × (n ≤ 32) ⌝ }
     ensures { λ r. ⌜ OwnPost (now (s .entry)) (now (starts .entry)) k d n r ⌝ }
 {
-    if nav::places::tag_at(s, starts, k) != 3 {
+    if nav::tag_at(s, starts, k) != 3 {
         return 0;
     }
-    let x = frame::reading::number(s, nav::places::start_at(starts, k) + 2, 1);
+    let x = heads::number(s, nav::start_at(starts, k) + 2, 1);
     if x < d {
         return 0;
     }
@@ -54,10 +54,10 @@ fn kids_at(s: &[u8], starts: &[u16; 2048], k: usize, all: bool) -> usize
     ensures { λ r. ⌜ KidsPost (now (s .entry)) (now (starts .entry)) k all r ⌝ }
 {
     if all {
-        return nav::places::arity_at(s, starts, k);
+        return nav::arity_at(s, starts, k);
     }
-    if nav::places::tag_at(s, starts, k) == 201 {
-        return nav::places::arity_at(s, starts, k);
+    if nav::tag_at(s, starts, k) == 201 {
+        return nav::arity_at(s, starts, k);
     }
     0
 }
@@ -84,7 +84,7 @@ fn named_in(
     let kids = kids_at(s, starts, c, all);
     let own = own_at(s, starts, c, d, n);
     let below = named_in(s, starts, nexts, c + 1, kids, d + b, n, all);
-    let next = nav::places::next_at(nexts, c);
+    let next = nav::next_at(nexts, c);
     let others = named_in(s, starts, nexts, next, m - 1, d, n, all);
     own | below | others
 }

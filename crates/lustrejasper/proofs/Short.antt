@@ -1,6 +1,6 @@
 -- The frames of steps and runs are within the limit, so that their lengths have room beside a word.
 -- Main results: step-short, run-short.
-use mathlib.Core.Path.{_≡_, refl, sym, _∙_, subst}
+use mathlib.Core.Path.{_≡_, refl, sym, subst}
 use mathlib.Core.List.{List}
 use Prim.Native.Nat.{ℕ}
 use Rattle.frame.specs.Spans.{Bytes}
@@ -8,7 +8,7 @@ use Rattle.step.specs.Step.{Outcome, wrote, kept, turnedDown, step, stepAnswer}
 use Rattle.step.specs.declared.StepAnswer.{StepAnswer}
 use Rattle.step.proofs.Steps.{step-wrote}
 use Rattle.run.specs.Run as R
-use Rattle.run.specs.Run.{Word, REST, SPENT, FULL, RunOutcome, ended, run, runAnswer}
+use Rattle.run.specs.Run.{REST, SPENT, FULL, RunOutcome, ended, run, runAnswer}
 use Rattle.run.specs.declared.RunAnswer.{RunAnswer}
 use Rattle.run.proofs.Sizes.{run-small}
 use Rattle.lustrejasper.specs.Posts.{ShortStep, ShortRun}

@@ -1,4 +1,6 @@
--- The answers of the static library: one number of 64 bits for each case of an answer's enum. include/lustrejasper.h says the same in C.
+-- The answers of the static library: one number of 64 bits for each case of an answer's enum. include/lustrejasper.h says the
+-- same in C. "Where an answer is an enum, a definition gives this paper's number and values for each case of the enum. The promises
+-- use that definition."
 use Prim.Native.Nat.{ℕ, _+_, _*_, _^_}
 use Rattle.checking.specs.declared.CheckAnswer.{CheckAnswer}
 use Rattle.checking.specs.declared.CheckAnswer.the-variants as C

@@ -14,7 +14,7 @@ use Rattle.rules.specs.Equations.{⊤, ⊥ᵖ, ¬ᵖ, _⇒_, _⇔_, ⋀, _≐_,
 use Rattle.meaning.specs.Values.{same}
 use Rattle.meaning.specs.Operations.{opAt, opOf}
 use Rattle.meaning.specs.Meaning.{Interpretation, Vals, truth, val, leInt, holds, valueOf, means, meansAll}
-use Rattle.meaning.specs.Premises.{SingleIntegers, Alive}
+use Rattle.meaning.specs.Premises.{SingleIntegers, NoInterOverNothing}
 use Rattle.meaning.proofs.Lists.{so-imp, so-all, not-not, or-true, or-false, beq-true, beq-false}
 use Rattle.meaning.proofs.Sound.{Formula, Keeps, keeps-truth, accepted-formula}
 use Rattle.meaning.proofs.Kit.{NoInter}
@@ -92,8 +92,8 @@ module _ (I : Interpretation) (σ : ℕ → Ty) (Γ : Ctx) where
   opposite-single (negated p) s = (tt, tt, tt, (s, tt))
   opposite-single (restored p) s = s .3 .0
 
-  opposite-alive : {p n : Tree} → Opposite p n → Alive I p Γ → Alive I n Γ
-  unfolding Alive opOf opAt classOf lookup
+  opposite-alive : {p n : Tree} → Opposite p n → NoInterOverNothing I p Γ → NoInterOverNothing I n Γ
+  unfolding NoInterOverNothing opOf opAt classOf lookup
   opposite-alive (negated p) a = (tt, tt, (a, tt))
   opposite-alive (restored p) a = a .2 .0
 
@@ -102,7 +102,7 @@ module _ (I : Interpretation) (σ : ℕ → Ty) (Γ : Ctx) where
     -- h is the order that g is not
     order-keeps : (g h : ℕ) → Formula (leaf h) → NoInter h → ((ρ : Vals I Γ) → not (Truth ρ (two g a b)) ≡ Truth ρ (two h a b)) → SingleIntegers (¬ᵖ (two g a b)) Γ
         → Keeps I Γ (¬ᵖ (two g a b)) (two h a b)
-    unfolding SingleIntegers Alive opOf opAt classOf lookup formAt
+    unfolding SingleIntegers NoInterOverNothing opOf opAt classOf lookup formAt
     order-keeps g h f n t s =
         keeps-truth I (¬ᵖ (two g a b)) (two h a b) Γ (refl, refl) f (kit.many-single I Γ h f (pair a b) (kit.kids-single I Γ g (pair a b) (s .3 .0)))
         (λ l. kit.many-alive I Γ h n (pair a b) (kit.kids-alive I Γ g (pair a b) (l .2 .0))) (λ l ρ. kit.not-truth I Γ (two g a b) ρ ∙ t ρ)
@@ -129,14 +129,14 @@ module _ (I : Interpretation) (σ : ℕ → Ty) (Γ : Ctx) where
     type : typeOf x Γ ≡ bool
     flips : (ρ : Vals I Γ) → val I (means I y Γ) ρ bool ≡ not (val I (means I x Γ) ρ bool)
     single : SingleIntegers y Γ
-    alive : Alive I y Γ
+    alive : NoInterOverNothing I y Γ
 
   false-true : Flipped (leaf #False) (leaf #True)
-  unfolding SingleIntegers Alive typeOf means valueOf opOf opAt classOf lookup formAt
+  unfolding SingleIntegers NoInterOverNothing typeOf means valueOf opOf opAt classOf lookup formAt
   false-true = record { type = refl; flips = λ ρ. refl; single = (tt, tt, tt, tt); alive = (tt, tt, tt) }
 
   true-false : Flipped (leaf #True) (leaf #False)
-  unfolding SingleIntegers Alive typeOf means valueOf opOf opAt classOf lookup formAt
+  unfolding SingleIntegers NoInterOverNothing typeOf means valueOf opOf opAt classOf lookup formAt
   true-false = record { type = refl; flips = λ ρ. refl; single = (tt, tt, tt, tt); alive = (tt, tt, tt) }
 
   module _ (x y : Tree) (f : Flipped x y) (e : Tree) where
@@ -153,7 +153,7 @@ module _ (I : Interpretation) (σ : ℕ → Ty) (Γ : Ctx) where
         ∙ ap (λ b. Bool·beq b (val I (means I e Γ) ρ bool)) (sym (f .flips ρ)) ∙ sym (kit.equal-truth I Γ y e bool h ρ)
 
     right-keeps : Accepted σ (¬ᵖ (e ≐ x)) Γ predicate → SingleIntegers (¬ᵖ (e ≐ x)) Γ → Keeps I Γ (¬ᵖ (e ≐ x)) (e ≐ y)
-    unfolding Accepted SingleIntegers Alive typeOf opOf opAt classOf lookup formAt
+    unfolding Accepted SingleIntegers NoInterOverNothing typeOf opOf opAt classOf lookup formAt
     right-keeps a s =
         let h = a .kids .0 .fits in
         let k = f .type in
@@ -161,7 +161,7 @@ module _ (I : Interpretation) (σ : ℕ → Ty) (Γ : Ctx) where
         (λ l ρ. kit.not-truth I Γ (e ≐ x) ρ ∙ right-truth (cc) ρ)
 
     left-keeps : typeOf y Γ ≡ bool → SingleIntegers (¬ᵖ (x ≐ e)) Γ → Keeps I Γ (¬ᵖ (x ≐ e)) (y ≐ e)
-    unfolding SingleIntegers Alive opOf opAt classOf lookup formAt
+    unfolding SingleIntegers NoInterOverNothing opOf opAt classOf lookup formAt
     left-keeps h s =
         keeps-truth I (¬ᵖ (x ≐ e)) (y ≐ e) Γ (refl, refl) (refl, refl) (kit.two-single I Γ #Equal (refl, refl) y e (f .single) (s .3 .0 .3 .1 .0)) (λ l. kit.two-alive I Γ #Equal (refl, refl) y e (f .alive) (l .2 .0 .2 .1 .0))
         (λ l ρ. kit.not-truth I Γ (x ≐ e) ρ ∙ left-truth h ρ)
@@ -183,7 +183,7 @@ module _ (I : Interpretation) (σ : ℕ → Ty) (Γ : Ctx) where
   -- ---- ⇒
   module _ (p : Tree) where
     pub imp-top-left-keeps : Accepted σ (⊤ ⇒ p) Γ predicate → SingleIntegers (⊤ ⇒ p) Γ → Keeps I Γ (⊤ ⇒ p) p
-    unfolding Accepted SingleIntegers Alive means holds opOf opAt classOf lookup formAt
+    unfolding Accepted SingleIntegers NoInterOverNothing means holds opOf opAt classOf lookup formAt
     imp-top-left-keeps a s = keeps-truth I (⊤ ⇒ p) p Γ (refl, refl) (accepted-formula σ p Γ (a .kids .1 .0)) (s .3 .1 .0) (λ l. l .2 .1 .0) (λ l ρ. refl)
 
     pub imp-bottom-left-keeps : Keeps I Γ (⊥ᵖ ⇒ p) ⊤
@@ -199,17 +199,17 @@ module _ (I : Interpretation) (σ : ℕ → Ty) (Γ : Ctx) where
     imp-self-keeps = keeps-truth I (p ⇒ p) ⊤ Γ (refl, refl) (refl, refl) (kit.leaf-single I Γ #BTrue (refl, refl)) (λ l. kit.leaf-alive I Γ #BTrue (refl, refl)) (λ l ρ. imp-self (Truth ρ p))
 
     pub imp-not-left-keeps : Accepted σ (¬ᵖ p ⇒ p) Γ predicate → SingleIntegers (¬ᵖ p ⇒ p) Γ → Keeps I Γ (¬ᵖ p ⇒ p) p
-    unfolding Accepted SingleIntegers Alive means holds opOf opAt classOf lookup formAt
+    unfolding Accepted SingleIntegers NoInterOverNothing means holds opOf opAt classOf lookup formAt
     imp-not-left-keeps a s =
         keeps-truth I (¬ᵖ p ⇒ p) p Γ (refl, refl) (accepted-formula σ p Γ (a .kids .1 .0)) (s .3 .1 .0) (λ l. l .2 .1 .0) (λ l ρ. imp-not-left (Truth ρ p))
 
     pub imp-not-right-keeps : SingleIntegers (p ⇒ ¬ᵖ p) Γ → Keeps I Γ (p ⇒ ¬ᵖ p) (¬ᵖ p)
-    unfolding SingleIntegers Alive means holds opOf opAt classOf lookup formAt
+    unfolding SingleIntegers NoInterOverNothing means holds opOf opAt classOf lookup formAt
     imp-not-right-keeps s =
         keeps-truth I (p ⇒ ¬ᵖ p) (¬ᵖ p) Γ (refl, refl) (refl, refl) (s .3 .1 .0) (λ l. l .2 .1 .0) (λ l ρ. imp-not-right (Truth ρ p))
 
   pub imp-bottom-right-keeps : (p n : Tree) → Opposite p n → Accepted σ (p ⇒ ⊥ᵖ) Γ predicate → SingleIntegers (p ⇒ ⊥ᵖ) Γ → Keeps I Γ (p ⇒ ⊥ᵖ) n
-  unfolding Accepted SingleIntegers Alive means holds opOf opAt classOf lookup formAt
+  unfolding Accepted SingleIntegers NoInterOverNothing means holds opOf opAt classOf lookup formAt
   imp-bottom-right-keeps p n o a s =
       keeps-truth I (p ⇒ ⊥ᵖ) n Γ (refl, refl) (opposite-formula o (a .kids .0)) (opposite-single o (s .3 .0)) (λ l. opposite-alive o (l .2 .0))
       (λ l ρ. or-false (not (Truth ρ p)) ∙ sym (opposite-truth o ρ))
@@ -229,7 +229,7 @@ module _ (I : Interpretation) (σ : ℕ → Ty) (Γ : Ctx) where
       top-truth ρ = unfold means holds opOf opAt classOf lookup in refl
 
   pub imp-opposite-keeps : (ps : Forest) (q m : Tree) → Opposite q m → Among m ps → SingleIntegers (⋀ ps ⇒ q) Γ → Keeps I Γ (⋀ ps ⇒ q) (¬ᵖ (⋀ ps))
-  unfolding SingleIntegers Alive opOf opAt classOf lookup formAt
+  unfolding SingleIntegers NoInterOverNothing opOf opAt classOf lookup formAt
   imp-opposite-keeps ps q m o i s =
       keeps-truth I (⋀ ps ⇒ q) (¬ᵖ (⋀ ps)) Γ (refl, refl) (refl, refl) (kit.one-single I Γ #Not (refl, refl) (⋀ ps) (s .3 .0)) (λ l. kit.one-alive I Γ #Not (refl, refl) (⋀ ps) (l .2 .0))
       (λ l ρ. kit.implies-truth I Γ (⋀ ps) q ρ ∙ imp-apart (Truth ρ (⋀ ps)) (Truth ρ q) (λ h. rw (opposite-truth o ρ) at (among-true ps m i ρ h)) ∙ sym (kit.not-truth I Γ (⋀ ps) ρ))
@@ -237,11 +237,11 @@ module _ (I : Interpretation) (σ : ℕ → Ty) (Γ : Ctx) where
   -- ---- ⇔
   module _ (p : Tree) where
     pub eqv-top-right-keeps : Accepted σ (p ⇔ ⊤) Γ predicate → SingleIntegers (p ⇔ ⊤) Γ → Keeps I Γ (p ⇔ ⊤) p
-    unfolding Accepted SingleIntegers Alive means holds opOf opAt classOf lookup formAt
+    unfolding Accepted SingleIntegers NoInterOverNothing means holds opOf opAt classOf lookup formAt
     eqv-top-right-keeps a s = keeps-truth I (p ⇔ ⊤) p Γ (refl, refl) (accepted-formula σ p Γ (a .kids .0)) (s .3 .0) (λ l. l .2 .0) (λ l ρ. beq-true (Truth ρ p))
 
     pub eqv-top-left-keeps : Accepted σ (⊤ ⇔ p) Γ predicate → SingleIntegers (⊤ ⇔ p) Γ → Keeps I Γ (⊤ ⇔ p) p
-    unfolding Accepted SingleIntegers Alive means holds opOf opAt classOf lookup formAt
+    unfolding Accepted SingleIntegers NoInterOverNothing means holds opOf opAt classOf lookup formAt
     eqv-top-left-keeps a s = keeps-truth I (⊤ ⇔ p) p Γ (refl, refl) (accepted-formula σ p Γ (a .kids .1 .0)) (s .3 .1 .0) (λ l. l .2 .1 .0) (λ l ρ. true-beq-is (Truth ρ p))
 
     pub eqv-self-keeps : Keeps I Γ (p ⇔ p) ⊤
@@ -258,18 +258,18 @@ module _ (I : Interpretation) (σ : ℕ → Ty) (Γ : Ctx) where
 
     -- ---- ¬
     pub not-not-keeps : Accepted σ (¬ᵖ (¬ᵖ p)) Γ predicate → SingleIntegers (¬ᵖ (¬ᵖ p)) Γ → Keeps I Γ (¬ᵖ (¬ᵖ p)) p
-    unfolding Accepted SingleIntegers Alive means holds opOf opAt classOf lookup formAt
+    unfolding Accepted SingleIntegers NoInterOverNothing means holds opOf opAt classOf lookup formAt
     not-not-keeps a s =
         keeps-truth I (¬ᵖ (¬ᵖ p)) p Γ (refl, refl) (accepted-formula σ p Γ (a .kids .0 .kids .0)) (s .3 .0 .3 .0) (λ l. l .2 .0 .2 .0) (λ l ρ. not-not (Truth ρ p))
 
   pub eqv-bottom-right-keeps : (p n : Tree) → Opposite p n → Accepted σ (p ⇔ ⊥ᵖ) Γ predicate → SingleIntegers (p ⇔ ⊥ᵖ) Γ → Keeps I Γ (p ⇔ ⊥ᵖ) n
-  unfolding Accepted SingleIntegers Alive means holds opOf opAt classOf lookup formAt
+  unfolding Accepted SingleIntegers NoInterOverNothing means holds opOf opAt classOf lookup formAt
   eqv-bottom-right-keeps p n o a s =
       keeps-truth I (p ⇔ ⊥ᵖ) n Γ (refl, refl) (opposite-formula o (a .kids .0)) (opposite-single o (s .3 .0)) (λ l. opposite-alive o (l .2 .0))
       (λ l ρ. beq-false (Truth ρ p) ∙ sym (opposite-truth o ρ))
 
   pub eqv-bottom-left-keeps : (p n : Tree) → Opposite p n → Accepted σ (⊥ᵖ ⇔ p) Γ predicate → SingleIntegers (⊥ᵖ ⇔ p) Γ → Keeps I Γ (⊥ᵖ ⇔ p) n
-  unfolding Accepted SingleIntegers Alive means holds opOf opAt classOf lookup formAt
+  unfolding Accepted SingleIntegers NoInterOverNothing means holds opOf opAt classOf lookup formAt
   eqv-bottom-left-keeps p n o a s =
       keeps-truth I (⊥ᵖ ⇔ p) n Γ (refl, refl) (opposite-formula o (a .kids .1 .0)) (opposite-single o (s .3 .1 .0)) (λ l. opposite-alive o (l .2 .1 .0))
       (λ l ρ. false-beq-is (Truth ρ p) ∙ sym (opposite-truth o ρ))

@@ -12,10 +12,10 @@ use Rattle.frame.specs.Tags.{predicate, expression, classOf, lookup, formAt}
 use Rattle.frame.specs.Places.{Ctx}
 use Rattle.typing.specs.Typing.{element, typeOf}
 use Rattle.typing.specs.Accepted.{Accepted}
-use Rattle.rules.specs.Equations.{_≐_, _⊆_, ∅, _≐∅, Ty-of, _≐Ty, Emptiness, is-∅, in-∅, ∅-is, Fullness, is-Ty, Ty-is}
+use Rattle.rules.specs.Equations.{_≐_, _⊆_, ∅, Ty-of, Emptiness, is-∅, in-∅, ∅-is, Fullness, is-Ty, Ty-is, _≐∅, _≐Ty}
 use Rattle.meaning.specs.Operations.{opAt, opOf}
 use Rattle.meaning.specs.Meaning.{Interpretation, Vals, truth, setOf, some, every, equals, means}
-use Rattle.meaning.specs.Premises.{SingleIntegers, Alive}
+use Rattle.meaning.specs.Premises.{SingleIntegers, NoInterOverNothing}
 use Rattle.meaning.proofs.Sets.{is-empty, empty-is, no-members, full-is}
 use Rattle.meaning.proofs.Sound.{Formula, Keeps, keeps-truth}
 use Rattle.meaning.proofs.Kit as kit
@@ -25,29 +25,29 @@ module _ (I : Interpretation) (σ : ℕ → Ty) (Γ : Ctx) where
   pub record Emptied (e new : Tree) : Type 0 where
     pub formula : Formula new
     pub single : SingleIntegers new Γ
-    pub alive : Alive I e Γ → Alive I new Γ
-    pub says : Alive I e Γ → (ρ : Vals I Γ)
+    pub alive : NoInterOverNothing I e Γ → NoInterOverNothing I new Γ
+    pub says : NoInterOverNothing I e Γ → (ρ : Vals I Γ)
         → truth I (means I new Γ) ρ ≡ not (some I (element (typeOf e Γ)) (setOf I (means I e Γ) ρ (element (typeOf e Γ))))
 
   -- new says that E has every element of its type
   pub record Filled (e new : Tree) : Type 0 where
     pub formula : Formula new
     pub single : SingleIntegers new Γ
-    pub alive : Alive I e Γ → Alive I new Γ
-    pub says : Alive I e Γ → (ρ : Vals I Γ)
+    pub alive : NoInterOverNothing I e Γ → NoInterOverNothing I new Γ
+    pub says : NoInterOverNothing I e Γ → (ρ : Vals I Γ)
         → truth I (means I new Γ) ρ ≡ every I (element (typeOf e Γ)) (setOf I (means I e Γ) ρ (element (typeOf e Γ)))
 
   -- the same by the type u of the elements of E
-  module _ (e new : Tree) (u : Ty) (he : typeOf e Γ ≡ pow u) (f : Formula new) (s : SingleIntegers new Γ) (l : Alive I e Γ → Alive I new Γ) where
-    pub emptied : (Alive I e Γ → (ρ : Vals I Γ) → truth I (means I new Γ) ρ ≡ not (some I u (setOf I (means I e Γ) ρ u))) → Emptied e new
+  module _ (e new : Tree) (u : Ty) (he : typeOf e Γ ≡ pow u) (f : Formula new) (s : SingleIntegers new Γ) (l : NoInterOverNothing I e Γ → NoInterOverNothing I new Γ) where
+    pub emptied : (NoInterOverNothing I e Γ → (ρ : Vals I Γ) → truth I (means I new Γ) ρ ≡ not (some I u (setOf I (means I e Γ) ρ u))) → Emptied e new
     emptied k = record { formula = f; single = s; alive = l; says = rw he k }
 
-    pub filled : (Alive I e Γ → (ρ : Vals I Γ) → truth I (means I new Γ) ρ ≡ every I u (setOf I (means I e Γ) ρ u)) → Filled e new
+    pub filled : (NoInterOverNothing I e Γ → (ρ : Vals I Γ) → truth I (means I new Γ) ρ ≡ every I u (setOf I (means I e Γ) ρ u)) → Filled e new
     filled k = record { formula = f; single = s; alive = l; says = rw he k }
 
   -- E = ∅ is F = ∅, and E = Ty is F = Ty; u and v are the types of the elements of E and F
-  module _ (e f : Tree) (u v : Ty) (he : typeOf e Γ ≡ pow u) (hf : typeOf f Γ ≡ pow v) (s : SingleIntegers f Γ) (l : Alive I e Γ → Alive I f Γ) where
-    pub emptied-by : (Alive I e Γ → (ρ : Vals I Γ) → some I v (setOf I (means I f Γ) ρ v) ≡ some I u (setOf I (means I e Γ) ρ u)) → Emptied e (_≐∅ Γ f)
+  module _ (e f : Tree) (u v : Ty) (he : typeOf e Γ ≡ pow u) (hf : typeOf f Γ ≡ pow v) (s : SingleIntegers f Γ) (l : NoInterOverNothing I e Γ → NoInterOverNothing I f Γ) where
+    pub emptied-by : (NoInterOverNothing I e Γ → (ρ : Vals I Γ) → some I v (setOf I (means I f Γ) ρ v) ≡ some I u (setOf I (means I e Γ) ρ u)) → Emptied e (_≐∅ Γ f)
     unfolding classOf lookup formAt
     emptied-by k = record {
       formula = (refl, refl);
@@ -56,7 +56,7 @@ module _ (I : Interpretation) (σ : ℕ → Ty) (Γ : Ctx) where
       says = λ a ρ. rw he (kit.empty-truth I Γ f v hf ρ ∙ ap not (k a ρ));
     }
 
-    pub filled-by : (Alive I e Γ → (ρ : Vals I Γ) → every I v (setOf I (means I f Γ) ρ v) ≡ every I u (setOf I (means I e Γ) ρ u)) → Filled e (_≐Ty Γ f)
+    pub filled-by : (NoInterOverNothing I e Γ → (ρ : Vals I Γ) → every I v (setOf I (means I f Γ) ρ v) ≡ every I u (setOf I (means I e Γ) ρ u)) → Filled e (_≐Ty Γ f)
     unfolding classOf lookup formAt
     filled-by k = record {
       formula = (refl, refl);
@@ -94,34 +94,34 @@ module _ (I : Interpretation) (σ : ℕ → Ty) (Γ : Ctx) where
     u = element (typeOf e Γ)
 
     equal-empty : (t : Ty) → Emptied e new → Keeps I Γ (e ≐ ∅ t) new
-    unfolding u Alive opOf opAt classOf lookup formAt
+    unfolding u NoInterOverNothing opOf opAt classOf lookup formAt
     equal-empty t r =
         keeps-truth I (e ≐ ∅ t) new Γ (refl, refl) (r .formula) (r .single) (λ a. r .alive (a .2 .0)) (λ a ρ.
         kit.equal-truth I Γ e (∅ t) (pow u) set ρ ∙ ap (λ x. equals I (pow u) (setOf I (means I e Γ) ρ u) x) (kit.none-of I Γ t ρ u)
         ∙ is-empty (I .size) u (setOf I (means I e Γ) ρ u) ∙ sym (r .says (a .2 .0) ρ))
 
     within-empty : (t : Ty) → Emptied e new → Keeps I Γ (e ⊆ ∅ t) new
-    unfolding u Alive opOf opAt classOf lookup formAt
+    unfolding u NoInterOverNothing opOf opAt classOf lookup formAt
     within-empty t r =
         keeps-truth I (e ⊆ ∅ t) new Γ (refl, refl) (r .formula) (r .single) (λ a. r .alive (a .2 .0)) (λ a ρ.
         kit.subset-truth I Γ e (∅ t) u set ρ ∙ ap (λ f. every I u (λ x. not (setOf I (means I e Γ) ρ u x) || f x)) (kit.none-of I Γ t ρ u)
         ∙ no-members (I .size) u (setOf I (means I e Γ) ρ u) ∙ sym (r .says (a .2 .0) ρ))
 
     empty-equal : (t : Ty) → t ≡ typeOf e Γ → Emptied e new → Keeps I Γ (∅ t ≐ e) new
-    unfolding u Alive typeOf opOf opAt classOf lookup formAt
+    unfolding u NoInterOverNothing typeOf opOf opAt classOf lookup formAt
     empty-equal t h r =
         keeps-truth I (∅ t ≐ e) new Γ (refl, refl) (r .formula) (r .single) (λ a. r .alive (a .2 .1 .0)) (λ a ρ.
         kit.equal-truth I Γ (∅ t) e (pow u) (h ∙ set) ρ ∙ ap (λ x. equals I (pow u) x (setOf I (means I e Γ) ρ u)) (kit.none-of I Γ t ρ u)
         ∙ empty-is (I .size) u (setOf I (means I e Γ) ρ u) ∙ sym (r .says (a .2 .1 .0) ρ))
 
     equal-type : Filled e new → Keeps I Γ (_≐Ty Γ e) new
-    unfolding u Alive opOf opAt classOf lookup formAt
+    unfolding u NoInterOverNothing opOf opAt classOf lookup formAt
     equal-type r =
         keeps-truth I (_≐Ty Γ e) new Γ (refl, refl) (r .formula) (r .single) (λ a. r .alive (a .2 .0)) (λ a ρ.
         kit.full-truth I Γ e u set ρ ∙ sym (r .says (a .2 .0) ρ))
 
     type-equal : Filled e new → Keeps I Γ (Ty-of Γ e ≐ e) new
-    unfolding u Alive opOf opAt classOf lookup formAt
+    unfolding u NoInterOverNothing opOf opAt classOf lookup formAt
     type-equal r =
         keeps-truth I (Ty-of Γ e ≐ e) new Γ (refl, refl) (r .formula) (r .single) (λ a. r .alive (a .2 .1 .0)) (λ a ρ.
         kit.equal-truth I Γ (Ty-of Γ e) e (pow u) (kit.type-type u Γ) ρ ∙ ap (λ x. equals I (pow u) x (setOf I (means I e Γ) ρ u)) (kit.type-full I u Γ ρ)

@@ -13,7 +13,7 @@ use Rattle.rules.specs.Equations.{⊥ᵖ, ¬ᵖ, _⇔_, ⋀, ⋁, _⊆_, ext, d
 use Rattle.meaning.specs.Lists.{any}
 use Rattle.meaning.specs.Operations.{opAt, opOf}
 use Rattle.meaning.specs.Meaning.{Interpretation, Vals, setOf, relOf, some, every, holds, valueOf, means}
-use Rattle.meaning.specs.Premises.{SingleIntegers, Alive}
+use Rattle.meaning.specs.Premises.{SingleIntegers, NoInterOverNothing}
 use Rattle.meaning.proofs.Sets.{within-is}
 use Rattle.meaning.proofs.EmptySets as set
 use Rattle.meaning.proofs.EmptySetsMore as more
@@ -25,13 +25,13 @@ module _ (I : Interpretation) (σ : ℕ → Ty) (Γ : Ctx) where
   -- ---- two sets
   module _ (a b : Tree) (u v : Ty) (ha : typeOf a Γ ≡ pow u) (hb : typeOf b Γ ≡ pow v) where
     pub minus-emptied : SingleIntegers (two #SetMinus a b) Γ → Emptied I σ Γ (two #SetMinus a b) (a ⊆ b)
-    unfolding SingleIntegers Alive means valueOf typeOf opOf opAt classOf lookup formAt
+    unfolding SingleIntegers NoInterOverNothing means valueOf typeOf opOf opAt classOf lookup formAt
     minus-emptied s =
         empty.within-emptied I Γ σ (two #SetMinus a b) u ha a b u ha (s .3 .0) (s .3 .1 .0) (λ l. l .2 .0) (λ l. l .2 .1 .0)
         (λ ρ. within-is (I .size) u (setOf I (means I a Γ) ρ u) (setOf I (means I b Γ) ρ u))
 
     pub times-emptied : SingleIntegers (two #CProd a b) Γ → Emptied I σ Γ (two #CProd a b) (⋁ (pair (_≐∅ Γ a) (_≐∅ Γ b)))
-    unfolding SingleIntegers Alive means valueOf typeOf opOf opAt classOf lookup formAt
+    unfolding SingleIntegers NoInterOverNothing means valueOf typeOf opOf opAt classOf lookup formAt
     times-emptied s =
         empty.either-emptied I Γ σ (two #CProd a b) (prod u v) (rw (ha, hb)) a b u ha (s .3 .0) (s .3 .1 .0) (λ l. l .2 .0) (λ l. l .2 .1 .0) v hb
         (λ ρ. set.times-some (I .size) u v (kit.no-int a Γ u (s .3 .0) ha) (kit.no-int b Γ v (s .3 .1 .0) hb) (setOf I (means I a Γ) ρ u) (setOf I (means I b Γ) ρ v))
@@ -39,7 +39,7 @@ module _ (I : Interpretation) (σ : ℕ → Ty) (Γ : Ctx) where
   -- ---- a set and a relation
   module _ (s r : Tree) (u v : Ty) (hs : typeOf s Γ ≡ pow u) (hr : typeOf r Γ ≡ relation u v) where
     pub domres-emptied : SingleIntegers (two #DomRes s r) Γ → Emptied I σ Γ (two #DomRes s r) (_≐∅ Γ (⋂ (pair (dom r) s)))
-    unfolding SingleIntegers Alive means valueOf typeOf opOf opAt classOf lookup formAt
+    unfolding SingleIntegers NoInterOverNothing means valueOf typeOf opOf opAt classOf lookup formAt
     domres-emptied f =
         let n = kit.no-int r Γ (prod u v) (f .3 .1 .0) hr in
         empty.meet-emptied I Γ σ (two #DomRes s r) (prod u v) hr (dom r) s u (empty.dom-type Γ r u v hr) (empty.dom-single Γ r u v hr (f .3 .1 .0)) (f .3 .0)
@@ -48,7 +48,7 @@ module _ (I : Interpretation) (σ : ℕ → Ty) (Γ : Ctx) where
         ∙ set.domres-some (I .size) u v (n .0) (n .1) (setOf I (means I s Γ) ρ u) (setOf I (means I r Γ) ρ (prod u v)))
 
     pub domsub-emptied : SingleIntegers (two #DomSub s r) Γ → Emptied I σ Γ (two #DomSub s r) (dom r ⊆ s)
-    unfolding SingleIntegers Alive means valueOf typeOf opOf opAt classOf lookup formAt
+    unfolding SingleIntegers NoInterOverNothing means valueOf typeOf opOf opAt classOf lookup formAt
     domsub-emptied f =
         let n = kit.no-int r Γ (prod u v) (f .3 .1 .0) hr in
         empty.within-emptied I Γ σ (two #DomSub s r) (prod u v) hr (dom r) s u (empty.dom-type Γ r u v hr) (empty.dom-single Γ r u v hr (f .3 .1 .0)) (f .3 .0)
@@ -57,7 +57,7 @@ module _ (I : Interpretation) (σ : ℕ → Ty) (Γ : Ctx) where
         ∙ set.domsub-none (I .size) u v (n .0) (n .1) (setOf I (means I s Γ) ρ u) (setOf I (means I r Γ) ρ (prod u v)))
 
     pub image-emptied : SingleIntegers (two #RelImage r s) Γ → Emptied I σ Γ (two #RelImage r s) (_≐∅ Γ (two #DomRes s r))
-    unfolding SingleIntegers Alive means valueOf typeOf opOf opAt classOf lookup formAt
+    unfolding SingleIntegers NoInterOverNothing means valueOf typeOf opOf opAt classOf lookup formAt
     image-emptied f =
         let n = kit.no-int r Γ (prod u v) (f .3 .0) hr in
         emptied-by I σ Γ (two #RelImage r s) (two #DomRes s r) v (prod u v) (rw hr) hr (tt, kit.single-type r Γ (f .3 .0), tt, (f .3 .1 .0, (f .3 .0, tt)))
@@ -67,7 +67,7 @@ module _ (I : Interpretation) (σ : ℕ → Ty) (Γ : Ctx) where
 
   module _ (r s : Tree) (u v : Ty) (hr : typeOf r Γ ≡ relation u v) (hs : typeOf s Γ ≡ pow v) where
     pub ranres-emptied : SingleIntegers (two #RanRes r s) Γ → Emptied I σ Γ (two #RanRes r s) (_≐∅ Γ (⋂ (pair (ran r) s)))
-    unfolding SingleIntegers Alive means valueOf typeOf opOf opAt classOf lookup formAt
+    unfolding SingleIntegers NoInterOverNothing means valueOf typeOf opOf opAt classOf lookup formAt
     ranres-emptied f =
         let n = kit.no-int r Γ (prod u v) (f .3 .0) hr in
         empty.meet-emptied I Γ σ (two #RanRes r s) (prod u v) hr (ran r) s v (empty.ran-type Γ r u v hr) (empty.ran-single Γ r u v hr (f .3 .0)) (f .3 .1 .0)
@@ -76,7 +76,7 @@ module _ (I : Interpretation) (σ : ℕ → Ty) (Γ : Ctx) where
         ∙ set.ranres-some (I .size) u v (n .0) (n .1) (setOf I (means I r Γ) ρ (prod u v)) (setOf I (means I s Γ) ρ v))
 
     pub ransub-emptied : SingleIntegers (two #RanSub r s) Γ → Emptied I σ Γ (two #RanSub r s) (ran r ⊆ s)
-    unfolding SingleIntegers Alive means valueOf typeOf opOf opAt classOf lookup formAt
+    unfolding SingleIntegers NoInterOverNothing means valueOf typeOf opOf opAt classOf lookup formAt
     ransub-emptied f =
         let n = kit.no-int r Γ (prod u v) (f .3 .0) hr in
         empty.within-emptied I Γ σ (two #RanSub r s) (prod u v) hr (ran r) s v (empty.ran-type Γ r u v hr) (empty.ran-single Γ r u v hr (f .3 .0)) (f .3 .1 .0)
@@ -88,7 +88,7 @@ module _ (I : Interpretation) (σ : ℕ → Ty) (Γ : Ctx) where
   module _ (p q : Tree) (u v w : Ty) where
     pub dprod-emptied : typeOf p Γ ≡ relation u v → typeOf q Γ ≡ relation u w → SingleIntegers (two #DProd p q) Γ
         → Emptied I σ Γ (two #DProd p q) (_≐∅ Γ (⋂ (pair (dom p) (dom q))))
-    unfolding SingleIntegers Alive means valueOf typeOf opOf opAt classOf lookup formAt
+    unfolding SingleIntegers NoInterOverNothing means valueOf typeOf opOf opAt classOf lookup formAt
     dprod-emptied hp hq f =
         let n = kit.no-int p Γ (prod u v) (f .3 .0) hp in
         let m = kit.no-int q Γ (prod u w) (f .3 .1 .0) hq in
@@ -99,7 +99,7 @@ module _ (I : Interpretation) (σ : ℕ → Ty) (Γ : Ctx) where
 
     -- p leads from u to v, q from v to w; e is p, then q
     composed : (e : Tree) → typeOf e Γ ≡ relation u w → typeOf p Γ ≡ relation u v → typeOf q Γ ≡ relation v w → SingleIntegers p Γ → SingleIntegers q Γ
-        → (Alive I e Γ → Alive I p Γ) → (Alive I e Γ → Alive I q Γ)
+        → (NoInterOverNothing I e Γ → NoInterOverNothing I p Γ) → (NoInterOverNothing I e Γ → NoInterOverNothing I q Γ)
         → ((ρ : Vals I Γ) → setOf I (means I e Γ) ρ (prod u w) ≡ (λ a. some I v (λ z. relOf I (means I p Γ) ρ u v (a .0) z && relOf I (means I q Γ) ρ v w z (a .1))))
         → Emptied I σ Γ e (_≐∅ Γ (⋂ (pair (ran p) (dom q))))
     composed e he hp hq s r k l is =
@@ -113,19 +113,19 @@ module _ (I : Interpretation) (σ : ℕ → Ty) (Γ : Ctx) where
   module _ (p q : Tree) (u v w : Ty) where
     pub forward-emptied : typeOf p Γ ≡ relation u v → typeOf q Γ ≡ relation v w → SingleIntegers (many #FComp (pair p q)) Γ
         → Emptied I σ Γ (many #FComp (pair p q)) (_≐∅ Γ (⋂ (pair (ran p) (dom q))))
-    unfolding SingleIntegers Alive typeOf opOf opAt classOf lookup formAt
+    unfolding SingleIntegers NoInterOverNothing typeOf opOf opAt classOf lookup formAt
     forward-emptied hp hq f =
         composed p q u v w (many #FComp (pair p q)) (rw (hp, hq)) hp hq (f .3 .0) (f .3 .1 .0) (λ l. l .2 .0) (λ l. l .2 .1 .0) (λ ρ. empty.forward-is I Γ p u v hp ρ q w)
 
     pub backward-emptied : typeOf p Γ ≡ relation v w → typeOf q Γ ≡ relation u v → SingleIntegers (many #BComp (pair p q)) Γ
         → Emptied I σ Γ (many #BComp (pair p q)) (_≐∅ Γ (⋂ (pair (ran q) (dom p))))
-    unfolding SingleIntegers Alive typeOf opOf opAt classOf lookup formAt
+    unfolding SingleIntegers NoInterOverNothing typeOf opOf opAt classOf lookup formAt
     backward-emptied hp hq f =
         composed q p u v w (many #BComp (pair p q)) (rw (hp, hq)) hq hp (f .3 .1 .0) (f .3 .0) (λ l. l .2 .1 .0) (λ l. l .2 .0) (λ ρ. empty.backward-is I Γ p v w hp ρ q u)
 
   pub pprod-emptied : (p q : Tree) (u v w z : Ty) → typeOf p Γ ≡ relation u v → typeOf q Γ ≡ relation w z → SingleIntegers (two #PProd p q) Γ
       → Emptied I σ Γ (two #PProd p q) (⋁ (pair (_≐∅ Γ p) (_≐∅ Γ q)))
-  unfolding SingleIntegers Alive means valueOf typeOf opOf opAt classOf lookup formAt
+  unfolding SingleIntegers NoInterOverNothing means valueOf typeOf opOf opAt classOf lookup formAt
   pprod-emptied p q u v w z hp hq f =
       let n = kit.no-int p Γ (prod u v) (f .3 .0) hp in
       let m = kit.no-int q Γ (prod w z) (f .3 .1 .0) hq in
@@ -135,21 +135,21 @@ module _ (I : Interpretation) (σ : ℕ → Ty) (Γ : Ctx) where
   -- ---- one relation
   module _ (r : Tree) (u v : Ty) (hr : typeOf r Γ ≡ relation u v) where
     pub dom-emptied : SingleIntegers (dom r) Γ → Emptied I σ Γ (dom r) (_≐∅ Γ r)
-    unfolding SingleIntegers Alive opOf opAt classOf lookup formAt
+    unfolding SingleIntegers NoInterOverNothing opOf opAt classOf lookup formAt
     dom-emptied f =
         let n = kit.no-int r Γ (prod u v) (f .3 .0) hr in
         emptied-by I σ Γ (dom r) r u (prod u v) (empty.dom-type Γ r u v hr) hr (f .3 .0) (λ l. l .2 .0)
         (λ l ρ. set.dom-some (I .size) u v (n .0) (n .1) (setOf I (means I r Γ) ρ (prod u v)) ∙ ap (some I u) (sym (empty.dom-is I Γ r u v hr ρ)))
 
     pub ran-emptied : SingleIntegers (ran r) Γ → Emptied I σ Γ (ran r) (_≐∅ Γ r)
-    unfolding SingleIntegers Alive opOf opAt classOf lookup formAt
+    unfolding SingleIntegers NoInterOverNothing opOf opAt classOf lookup formAt
     ran-emptied f =
         let n = kit.no-int r Γ (prod u v) (f .3 .0) hr in
         emptied-by I σ Γ (ran r) r v (prod u v) (empty.ran-type Γ r u v hr) hr (f .3 .0) (λ l. l .2 .0)
         (λ l ρ. set.ran-some (I .size) u v (n .0) (n .1) (setOf I (means I r Γ) ρ (prod u v)) ∙ ap (some I v) (sym (empty.ran-is I Γ r u v hr ρ)))
 
     pub converse-emptied : SingleIntegers (one #Converse r) Γ → Emptied I σ Γ (one #Converse r) (_≐∅ Γ r)
-    unfolding SingleIntegers Alive means valueOf typeOf opOf opAt classOf lookup formAt
+    unfolding SingleIntegers NoInterOverNothing means valueOf typeOf opOf opAt classOf lookup formAt
     converse-emptied f =
         let n = kit.no-int r Γ (prod u v) (f .3 .0) hr in
         emptied-by I σ Γ (one #Converse r) r (prod v u) (prod u v) (rw hr) hr (f .3 .0) (λ l. l .2 .0)
@@ -164,13 +164,13 @@ module _ (I : Interpretation) (σ : ℕ → Ty) (Γ : Ctx) where
         (λ ρ. set.pow-some (I .size) u (kit.no-int s Γ u (f .3 .0) hs) (setOf I (means I s Γ) ρ u))
 
     pub pow1-emptied : SingleIntegers (one #Pow1 s) Γ → Emptied I σ Γ (one #Pow1 s) (_≐∅ Γ s)
-    unfolding SingleIntegers Alive means valueOf typeOf opOf opAt classOf lookup formAt
+    unfolding SingleIntegers NoInterOverNothing means valueOf typeOf opOf opAt classOf lookup formAt
     pow1-emptied f =
         emptied-by I σ Γ (one #Pow1 s) s (pow u) u (rw hs) hs (f .3 .0) (λ l. l .2 .0)
         (λ l ρ. set.pow1-some (I .size) u (kit.no-int s Γ u (f .3 .0) hs) (setOf I (means I s Γ) ρ u))
 
   pub union-emptied : (s : Tree) (u : Ty) → typeOf s Γ ≡ pow (pow u) → SingleIntegers (one #KUnion s) Γ → Emptied I σ Γ (one #KUnion s) (s ⊆ ext (sole (∅ (element (typeOf s Γ)))))
-  unfolding SingleIntegers Alive means valueOf typeOf opOf opAt classOf lookup formAt any
+  unfolding SingleIntegers NoInterOverNothing means valueOf typeOf opOf opAt classOf lookup formAt any
   union-emptied s u hs f =
       let n = kit.no-int s Γ (pow u) (f .3 .0) hs in
       empty.within-emptied I Γ σ (one #KUnion s) u (rw hs) s (ext (sole (∅ (element (typeOf s Γ))))) (pow u) hs (f .3 .0)
@@ -180,7 +180,7 @@ module _ (I : Interpretation) (σ : ℕ → Ty) (Γ : Ctx) where
   -- ---- sets of relations
   module _ (a b : Tree) (u v : Ty) (ha : typeOf a Γ ≡ pow u) (hb : typeOf b Γ ≡ pow v) where
     pub srel-emptied : SingleIntegers (two #SRel a b) Γ → Emptied I σ Γ (two #SRel a b) (⋀ (pair (_≐∅ Γ a) (¬ᵖ (_≐∅ Γ b))))
-    unfolding SingleIntegers Alive means holds valueOf typeOf opOf opAt classOf lookup formAt
+    unfolding SingleIntegers NoInterOverNothing means holds valueOf typeOf opOf opAt classOf lookup formAt
     srel-emptied f =
         emptied I σ Γ (two #SRel a b) (⋀ (pair (_≐∅ Γ a) (¬ᵖ (_≐∅ Γ b)))) (pow (prod u v)) (rw (ha, hb)) (refl, refl)
         (kit.two-single I Γ #LAnd (refl, refl) (_≐∅ Γ a) (¬ᵖ (_≐∅ Γ b)) (kit.empty-single I Γ a (f .3 .0)) (kit.one-single I Γ #Not (refl, refl) (_≐∅ Γ b) (kit.empty-single I Γ b (f .3 .1 .0))))
@@ -196,7 +196,7 @@ module _ (I : Interpretation) (σ : ℕ → Ty) (Γ : Ctx) where
         law false false = refl
 
     pub strel-emptied : SingleIntegers (two #STRel a b) Γ → Emptied I σ Γ (two #STRel a b) (_≐∅ Γ a ⇔ ¬ᵖ (_≐∅ Γ b))
-    unfolding SingleIntegers Alive means holds valueOf typeOf opOf opAt classOf lookup formAt
+    unfolding SingleIntegers NoInterOverNothing means holds valueOf typeOf opOf opAt classOf lookup formAt
     strel-emptied f =
         emptied I σ Γ (two #STRel a b) (_≐∅ Γ a ⇔ ¬ᵖ (_≐∅ Γ b)) (pow (prod u v)) (rw (ha, hb)) (refl, refl)
         (kit.two-single I Γ #LEqv (refl, refl) (_≐∅ Γ a) (¬ᵖ (_≐∅ Γ b)) (kit.empty-single I Γ a (f .3 .0)) (kit.one-single I Γ #Not (refl, refl) (_≐∅ Γ b) (kit.empty-single I Γ b (f .3 .1 .0))))

@@ -14,7 +14,7 @@ use Rattle.rules.proofs.Operands.{every-mid, minuends-every, subtrahends-every}
 use Rattle.meaning.specs.Lists.{any, all}
 use Rattle.meaning.specs.Operations.{opAt, opOf}
 use Rattle.meaning.specs.Meaning.{Interpretation, Vals, Val, Den, val, setOf, some, equals, valueOf, means, meansAll}
-use Rattle.meaning.specs.Premises.{NoInt, SingleIntegers, SingleIntegersIn, Alive, AliveAll}
+use Rattle.meaning.specs.Premises.{NoInt, SingleIntegers, SingleIntegersIn, NoInterOverNothing, NoInterOverNothingIn}
 use Rattle.meaning.proofs.Lists.{and-true, or-false, and-assoc}
 use Rattle.meaning.proofs.Sets.{within-is}
 use Rattle.meaning.proofs.EmptySetsMore as more
@@ -32,8 +32,8 @@ over-single Γ g h (cons a nil) s = s .0
 over-single Γ g h (cons a (cons b ks)) s = kit.node-single Γ g (cons a (cons b ks)) (rw (h (cons a (cons b ks))) (kit.single-type a Γ (s .0))) s
 
 module _ (I : Interpretation) (Γ : Ctx) where
-  over-alive : (g : ℕ) → NoInter g → (ks : Forest) → AliveAll I ks Γ → Alive I (over g ks) Γ
-  unfolding Alive
+  over-alive : (g : ℕ) → NoInter g → (ks : Forest) → NoInterOverNothingIn I ks Γ → NoInterOverNothing I (over g ks) Γ
+  unfolding NoInterOverNothing
   over-alive g f nil a = kit.many-alive I Γ g f nil tt
   over-alive g f (cons k nil) a = a .0
   over-alive g f (cons k (cons l ks)) a = kit.many-alive I Γ g f (cons k (cons l ks)) a
@@ -77,13 +77,13 @@ module _ (I : Interpretation) (σ : ℕ → Ty) (Γ : Ctx) (a : Tree) (left righ
 
   pub single-emptied : (u : Ty) → typeOf (⋂ (append left (cons (ext (sole a)) right))) Γ ≡ pow u → typeOf a Γ ≡ u → SingleIntegers (⋂ (append left (cons (ext (sole a)) right))) Γ
       → Emptied I σ Γ (⋂ (append left (cons (ext (sole a)) right))) (¬ᵖ (a ∈ᵖ over #BInter (append left right)))
-  unfolding with-a rest SingleIntegers Alive typeOf opOf opAt classOf lookup formAt
+  unfolding with-a rest SingleIntegers NoInterOverNothing typeOf opOf opAt classOf lookup formAt
   single-emptied u he ha s =
       let r = every-mid (λ k. SingleIntegers k Γ) left (ext (sole a)) right (single-each Γ with-a (s .3)) in
       emptied I σ Γ (⋂ with-a) (¬ᵖ (a ∈ᵖ rest)) u he (refl, refl)
       (kit.one-single I Γ #Not (refl, refl) (a ∈ᵖ rest) (kit.two-single I Γ #In (refl, refl) a rest (r .0 .3 .0)
       (over-single Γ #BInter (λ k. refl) (append left right) (single-all Γ (append left right) (r .1)))))
-      (λ l. (let k = every-mid (λ k. Alive I k Γ) left (ext (sole a)) right (alive-each I Γ with-a (l .2)) in
+      (λ l. (let k = every-mid (λ k. NoInterOverNothing I k Γ) left (ext (sole a)) right (alive-each I Γ with-a (l .2)) in
       kit.one-alive I Γ #Not (refl, refl) (a ∈ᵖ rest) (kit.two-alive I Γ #In (refl, refl) a rest (k .0 .2 .0)
       (over-alive I Γ #BInter (refl, refl) (append left right) (alive-all I Γ (append left right) (k .1))))))
       (λ l ρ. kit.not-truth I Γ (a ∈ᵖ rest) ρ ∙ ap not (kit.member-truth I Γ a rest u ha ρ ∙ sym (single-some u (kit.no-int (⋂ with-a) Γ u s he) ρ)))
@@ -111,13 +111,13 @@ module _ (I : Interpretation) (Γ : Ctx) where
 
   pub subtracted-emptied : (σ : ℕ → Ty) (ks ls ms : Forest) (u : Ty) → Subtracted ks ls ms → typeOf (⋂ ks) Γ ≡ pow u → typeOf (over #BInter ls) Γ ≡ pow u → SingleIntegers (⋂ ks) Γ
       → Emptied I σ Γ (⋂ ks) (over #BInter ls ⊆ over #BUnion ms)
-  unfolding SingleIntegers Alive typeOf opOf opAt classOf lookup formAt
+  unfolding SingleIntegers NoInterOverNothing typeOf opOf opAt classOf lookup formAt
   subtracted-emptied σ ks ls ms u d he hl s =
       let a = over #BInter ls in
       let b = over #BUnion ms in
       let parts : (x y : Tree) → SingleIntegers (two #SetMinus x y) Γ → SingleIntegers x Γ × SingleIntegers y Γ = λ x y t. (t .3 .0, t .3 .1 .0) in
-      let lives : (x y : Tree) → Alive I (two #SetMinus x y) Γ → Alive I x Γ × Alive I y Γ = λ x y t. (t .2 .0, t .2 .1 .0) in
+      let lives : (x y : Tree) → NoInterOverNothing I (two #SetMinus x y) Γ → NoInterOverNothing I x Γ × NoInterOverNothing I y Γ = λ x y t. (t .2 .0, t .2 .1 .0) in
       within-emptied I Γ σ (⋂ ks) u he a b u hl (over-single Γ #BInter (λ k. refl) ls (single-all Γ ls (minuends-every (λ k. SingleIntegers k Γ) parts d (single-each Γ ks (s .3))))) (over-single Γ #BUnion (λ k. refl) ms (single-all Γ ms (subtrahends-every (λ k. SingleIntegers k Γ) parts d (single-each Γ ks (s .3)))))
-      (λ l. over-alive I Γ #BInter (refl, refl) ls (alive-all I Γ ls (minuends-every (λ k. Alive I k Γ) lives d (alive-each I Γ ks (l .2))))) (λ l. over-alive I Γ #BUnion (refl, refl) ms (alive-all I Γ ms (subtrahends-every (λ k. Alive I k Γ) lives d (alive-each I Γ ks (l .2)))))
+      (λ l. over-alive I Γ #BInter (refl, refl) ls (alive-all I Γ ls (minuends-every (λ k. NoInterOverNothing I k Γ) lives d (alive-each I Γ ks (l .2))))) (λ l. over-alive I Γ #BUnion (refl, refl) ms (alive-all I Γ ms (subtrahends-every (λ k. NoInterOverNothing I k Γ) lives d (alive-each I Γ ks (l .2)))))
       (λ ρ. within-is (I .size) u (setOf I (means I a Γ) ρ u) (setOf I (means I b Γ) ρ u)
       ∙ ap (λ f. not (some I u f)) (fun-ext (λ x. ap₂ (λ c e. c && not e) (cap-over-is I Γ ρ u x ls) (cup-over-is I Γ ρ u x ms) ∙ sym (subtracted-is ρ u x d) ∙ sym (cap-is I Γ ρ u x ks))))

@@ -15,7 +15,7 @@ use Rattle.rules.specs.Equations.{⊥ᵖ, ⋀, ⋁, _⊆_, dom, ran, ⋂, _≐�
 use Rattle.meaning.specs.Lists.{any, all}
 use Rattle.meaning.specs.Operations.{Operator, operator, domain, range, image, forward, backward, opAt, opOf}
 use Rattle.meaning.specs.Meaning.{Interpretation, Vals, truth, val, setOf, relOf, some, every, onward, backwards, holds, valueOf, means}
-use Rattle.meaning.specs.Premises.{SingleIntegers, Alive}
+use Rattle.meaning.specs.Premises.{SingleIntegers, NoInterOverNothing}
 use Rattle.meaning.proofs.Lists.{and-true, or-false, not-and}
 use Rattle.meaning.proofs.Kit as kit
 use Rattle.meaning.proofs.Emptied.{Emptied, emptied, emptied-by}
@@ -99,10 +99,10 @@ module _ (I : Interpretation) (Γ : Ctx) where
   module _ (σ : ℕ → Ty) (e : Tree) (w : Ty) (he : typeOf e Γ ≡ pow w) where
     -- ⊥
     pub false-emptied : ((ρ : Vals I Γ) → some I w (setOf I (means I e Γ) ρ w) ≡ true) → Emptied I σ Γ e ⊥ᵖ
-    unfolding SingleIntegers Alive means holds typeOf opOf opAt classOf lookup formAt
+    unfolding SingleIntegers NoInterOverNothing means holds typeOf opOf opAt classOf lookup formAt
     false-emptied h = emptied I σ Γ e ⊥ᵖ w he (refl, refl) (tt, tt, tt, tt) (λ a. (tt, tt, tt)) (λ a ρ. sym (ap not (h ρ)))
 
-    module _ (a b : Tree) (u : Ty) (ha : typeOf a Γ ≡ pow u) (s : SingleIntegers a Γ) (r : SingleIntegers b Γ) (k : Alive I e Γ → Alive I a Γ) (l : Alive I e Γ → Alive I b Γ) where
+    module _ (a b : Tree) (u : Ty) (ha : typeOf a Γ ≡ pow u) (s : SingleIntegers a Γ) (r : SingleIntegers b Γ) (k : NoInterOverNothing I e Γ → NoInterOverNothing I a Γ) (l : NoInterOverNothing I e Γ → NoInterOverNothing I b Γ) where
       -- A ∩ B = ∅
       pub meet-emptied : ((ρ : Vals I Γ) → some I u (λ x. setOf I (means I a Γ) ρ u x && setOf I (means I b Γ) ρ u x) ≡ some I w (setOf I (means I e Γ) ρ w))
           → Emptied I σ Γ e (_≐∅ Γ (⋂ (pair a b)))

@@ -15,7 +15,7 @@ use Rattle.rules.specs.Equations.{⊥ᵖ, _⇒_, ⋀, ∀ᵖ, ext, _≐∅}
 use Rattle.meaning.specs.Lists.{any, all}
 use Rattle.meaning.specs.Operations.{opAt, opOf}
 use Rattle.meaning.specs.Meaning.{Interpretation, Vals, Den, truth, val, setOf, some, equals, overridden, valueOf, boundSet, choices, means, meansAll}
-use Rattle.meaning.specs.Premises.{NoInt, SingleIntegers, SingleIntegersIn, Alive, AliveAll}
+use Rattle.meaning.specs.Premises.{NoInt, SingleIntegers, SingleIntegersIn, NoInterOverNothing, NoInterOverNothingIn}
 use Rattle.meaning.proofs.Sets.{some-false, some-any}
 use Rattle.meaning.proofs.EmptySets as set
 use Rattle.meaning.proofs.EmptySetsMore as more
@@ -42,7 +42,7 @@ module _ (I : Interpretation) (σ : ℕ → Ty) (Γ : Ctx) where
 
   -- ---- A = ∅ ∧ … ∧ B = ∅
   module _ (e : Tree) (ks : Forest) (u : Ty) (he : typeOf e Γ ≡ pow u) (h : Each (pow u) (typesIn ks Γ)) where
-    each-emptied : SingleIntegersIn ks Γ → (Alive I e Γ → AliveAll I ks Γ)
+    each-emptied : SingleIntegersIn ks Γ → (NoInterOverNothing I e Γ → NoInterOverNothingIn I ks Γ)
         → ((ρ : Vals I Γ) → some I u (setOf I (means I e Γ) ρ u) ≡ any (λ d. some I u (setOf I d ρ u)) (meansAll I ks Γ))
         → Emptied I σ Γ e (⋀ (mapF (_≐∅ Γ) ks))
     unfolding classOf lookup formAt
@@ -53,7 +53,7 @@ module _ (I : Interpretation) (σ : ℕ → Ty) (Γ : Ctx) where
 
   module _ (ks : Forest) (few : 1 ≤ count ks) where
     pub cup-emptied : (u : Ty) → Each (pow u) (typesIn ks Γ) → SingleIntegers (many #BUnion ks) Γ → Emptied I σ Γ (many #BUnion ks) (⋀ (mapF (_≐∅ Γ) ks))
-    unfolding SingleIntegers Alive means valueOf typeOf opOf opAt classOf lookup formAt
+    unfolding SingleIntegers NoInterOverNothing means valueOf typeOf opOf opAt classOf lookup formAt
     cup-emptied u h s =
         let e : typeOf (many #BUnion ks) Γ ≡ pow u = head-type (pow u) ks Γ few h in
         each-emptied (many #BUnion ks) ks u e h (s .3) (λ a. a .2)
@@ -68,7 +68,7 @@ module _ (I : Interpretation) (σ : ℕ → Ty) (Γ : Ctx) where
         ∙ ap (λ b. some I (prod u v) (setOf I d ρ (prod u v)) || b) (overrides u v n m ρ ds)
 
     pub override-emptied : (u v : Ty) → Each (relation u v) (typesIn ks Γ) → SingleIntegers (many #Ovr ks) Γ → Emptied I σ Γ (many #Ovr ks) (⋀ (mapF (_≐∅ Γ) ks))
-    unfolding SingleIntegers Alive means valueOf typeOf opOf opAt classOf lookup formAt
+    unfolding SingleIntegers NoInterOverNothing means valueOf typeOf opOf opAt classOf lookup formAt
     override-emptied u v h s =
         let e : typeOf (many #Ovr ks) Γ ≡ relation u v = head-type (relation u v) ks Γ few h in
         let n = kit.no-int (many #Ovr ks) Γ (prod u v) s e in
@@ -77,7 +77,7 @@ module _ (I : Interpretation) (σ : ℕ → Ty) (Γ : Ctx) where
   -- ⋃
   pub qunion-emptied : (xs : List Ty) (p e : Tree) (u : Ty) → typeOf e (push xs Γ) ≡ pow u → SingleIntegers (bodied #QUnion xs p e) Γ
       → Emptied I σ Γ (bodied #QUnion xs p e) (∀ᵖ xs (p ⇒ _≐∅ (push xs Γ) e))
-  unfolding SingleIntegers Alive means boundSet typeOf opOf opAt classOf lookup formAt
+  unfolding SingleIntegers NoInterOverNothing means boundSet typeOf opOf opAt classOf lookup formAt
   qunion-emptied xs p e u h s =
       let Δ = push xs Γ in
       emptied I σ Γ (bodied #QUnion xs p e) (∀ᵖ xs (p ⇒ _≐∅ Δ e)) u h (refl, refl)

@@ -17,7 +17,7 @@ use Rattle.rules.specs.Equations.{⊤, ⊥ᵖ, ⋀, ⋁, _≐_, fin, _≐∅}
 use Rattle.meaning.specs.Lists.{any, all}
 use Rattle.meaning.specs.Operations.{partition, opAt, opOf}
 use Rattle.meaning.specs.Meaning.{Interpretation, Vals, truth, setOf, equals, holds, disjointFrom, disjoint, partitions, means, meansAll}
-use Rattle.meaning.specs.Premises.{NoInt, SingleIntegers, Alive}
+use Rattle.meaning.specs.Premises.{NoInt, SingleIntegers, NoInterOverNothing}
 use Rattle.meaning.proofs.Lists.{or-false, and-true}
 use Rattle.meaning.proofs.Sets.{is-empty}
 use Rattle.meaning.proofs.Sound.{Formula, Keeps, keeps-truth}
@@ -36,8 +36,8 @@ module _ (I : Interpretation) (σ : ℕ → Ty) (Γ : Ctx) where
   fin-truth s ρ = refl
 
   -- finite(S) and a predicate that is true
-  pub finite-keeps : (s r : Tree) → Formula r → SingleIntegers r Γ → (Alive I s Γ → Alive I r Γ) → ((ρ : Vals I Γ) → truth I (means I r Γ) ρ ≡ true) → Keeps I Γ (fin s) r
-  unfolding Alive opOf opAt classOf lookup formAt
+  pub finite-keeps : (s r : Tree) → Formula r → SingleIntegers r Γ → (NoInterOverNothing I s Γ → NoInterOverNothing I r Γ) → ((ρ : Vals I Γ) → truth I (means I r Γ) ρ ≡ true) → Keeps I Γ (fin s) r
+  unfolding NoInterOverNothing opOf opAt classOf lookup formAt
   finite-keeps s r f h l t = keeps-truth I (fin s) r Γ (refl, refl) f h (λ a. l (a .2 .0)) (λ a ρ. fin-truth s ρ ∙ sym (t ρ))
 
   -- ∅, BOOL, {a, …, b}
@@ -45,7 +45,7 @@ module _ (I : Interpretation) (σ : ℕ → Ty) (Γ : Ctx) where
   unfolding means holds opOf opAt classOf lookup formAt
   finite-top-keeps s = finite-keeps s ⊤ (refl, refl) (kit.leaf-single I Γ #BTrue (refl, refl)) (λ a. kit.leaf-alive I Γ #BTrue (refl, refl)) (λ ρ. refl)
 
-  finite-finite : (s r : Tree) → SingleIntegers r Γ → (Alive I s Γ → Alive I r Γ) → Keeps I Γ (fin s) (fin r)
+  finite-finite : (s r : Tree) → SingleIntegers r Γ → (NoInterOverNothing I s Γ → NoInterOverNothing I r Γ) → Keeps I Γ (fin s) (fin r)
   unfolding classOf lookup formAt
   finite-finite s r h l = finite-keeps s (fin r) (refl, refl) (kit.one-single I Γ #Finite (refl, refl) r h) (λ a. kit.one-alive I Γ #Finite (refl, refl) r (l a)) (fin-truth r)
 
@@ -83,14 +83,14 @@ module _ (I : Interpretation) (σ : ℕ → Ty) (Γ : Ctx) where
   fins-truth ρ (cons k ks) = fins-truth ρ ks
 
   pub finite-union-keeps : (ks : Forest) → SingleIntegers (fin (many #BUnion ks)) Γ → Keeps I Γ (fin (many #BUnion ks)) (⋀ (mapF fin ks))
-  unfolding SingleIntegers Alive opOf opAt classOf lookup formAt
+  unfolding SingleIntegers NoInterOverNothing opOf opAt classOf lookup formAt
   finite-union-keeps ks s =
       finite-keeps (many #BUnion ks) (⋀ (mapF fin ks)) (refl, refl) (kit.many-single I Γ #LAnd (refl, refl) (mapF fin ks) (many.map-single fin Γ Γ (kit.one-single I Γ #Finite (refl, refl)) ks (s .3 .0 .3)))
       (λ a. kit.many-alive I Γ #LAnd (refl, refl) (mapF fin ks) (many.map-alive I fin Γ Γ (kit.one-alive I Γ #Finite (refl, refl)) ks (a .2))) (λ ρ. kit.and-truth I Γ (mapF fin ks) ρ ∙ fins-truth ρ ks)
 
   -- ℙ S, r⁻¹, S ◁ r: the first operand
   pub finite-first-keeps : (g : ℕ) (s : Tree) (ks : Forest) → SingleIntegers (fin (many g (cons s ks))) Γ → Keeps I Γ (fin (many g (cons s ks))) (fin s)
-  unfolding SingleIntegers Alive classOf lookup formAt
+  unfolding SingleIntegers NoInterOverNothing classOf lookup formAt
   finite-first-keeps g s ks h = finite-finite (many g (cons s ks)) s (kit.kids-single I Γ g (cons s ks) (h .3 .0) .0) (λ a. kit.kids-alive I Γ g (cons s ks) a .0)
 
   -- S × T: S = ∅, or T = ∅, or both are finite
@@ -103,7 +103,7 @@ module _ (I : Interpretation) (σ : ℕ → Ty) (Γ : Ctx) where
     product-truth ρ = or-last (truth I (means I (_≐∅ Γ s) Γ) ρ) (truth I (means I (_≐∅ Γ t) Γ) ρ)
 
     pub finite-product-keeps : SingleIntegers (fin (two #CProd s t)) Γ → Keeps I Γ (fin (two #CProd s t)) product-new
-    unfolding SingleIntegers Alive opOf opAt classOf lookup formAt
+    unfolding SingleIntegers NoInterOverNothing opOf opAt classOf lookup formAt
     finite-product-keeps h =
         let hs = h .3 .0 .3 .0 in
         let ht = h .3 .0 .3 .1 .0 in
@@ -116,7 +116,7 @@ module _ (I : Interpretation) (σ : ℕ → Ty) (Γ : Ctx) where
   -- λx·P∣F, a set of maplets E ↦ F
   pub finite-lambda-keeps : (xs : List Ty) (p e f : Tree) → SingleIntegers (fin (bodied #CSet xs p (two #Mapsto e f))) Γ
       → Keeps I Γ (fin (bodied #CSet xs p (two #Mapsto e f))) (fin (bodied #CSet xs p e))
-  unfolding SingleIntegers Alive typeOf opOf opAt classOf lookup formAt
+  unfolding SingleIntegers NoInterOverNothing typeOf opOf opAt classOf lookup formAt
   finite-lambda-keeps xs p e f h =
       let s = h .3 .0 in
       finite-finite (bodied #CSet xs p (two #Mapsto e f)) (bodied #CSet xs p e) (s .0, s .1 .0, s .2, (s .3 .0, (s .3 .1 .0 .3 .0, tt)))
@@ -141,7 +141,7 @@ module _ (I : Interpretation) (σ : ℕ → Ty) (Γ : Ctx) where
         ∙ ap (λ f. equals I (pow u) (setOf I (means I s Γ) ρ u) f) (fun-ext (λ x. or-false (setOf I (means I t Γ) ρ u x))) ∙ sym (kit.equal-truth I Γ s t (pow u) h ρ)
 
   pub partition-none-keeps : (s : Tree) → Accepted σ (many #Partition (sole s)) Γ predicate → SingleIntegers (many #Partition (sole s)) Γ → Keeps I Γ (many #Partition (sole s)) (_≐∅ Γ s)
-  unfolding Accepted SingleIntegers Alive typeOf opOf opAt classOf lookup formAt
+  unfolding Accepted SingleIntegers NoInterOverNothing typeOf opOf opAt classOf lookup formAt
   partition-none-keeps s a h =
       let e = a .fits in
       keeps-truth I (many #Partition (sole s)) (_≐∅ Γ s) Γ (refl, refl) (refl, refl) (kit.empty-single I Γ s (h .3 .0)) (λ l. kit.empty-alive I Γ s (l .2 .0))
@@ -149,7 +149,7 @@ module _ (I : Interpretation) (σ : ℕ → Ty) (Γ : Ctx) where
 
   pub partition-one-keeps : (s t : Tree) → Accepted σ (many #Partition (pair s t)) Γ predicate → SingleIntegers (many #Partition (pair s t)) Γ
       → Keeps I Γ (many #Partition (pair s t)) (s ≐ t)
-  unfolding Accepted SingleIntegers Alive typeOf opOf opAt classOf lookup formAt
+  unfolding Accepted SingleIntegers NoInterOverNothing typeOf opOf opAt classOf lookup formAt
   partition-one-keeps s t a h =
       let e = a .fits in
       keeps-truth I (many #Partition (pair s t)) (s ≐ t) Γ (refl, refl) (refl, refl) (kit.two-single I Γ #Equal (refl, refl) s t (h .3 .0) (h .3 .1 .0)) (λ l. kit.two-alive I Γ #Equal (refl, refl) s t (l .2 .0) (l .2 .1 .0))

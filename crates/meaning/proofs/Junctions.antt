@@ -17,7 +17,7 @@ use Rattle.rules.proofs.Operands.{dropped-every}
 use Rattle.meaning.specs.Lists.{any, all, In}
 use Rattle.meaning.specs.Operations.{opAt, opOf}
 use Rattle.meaning.specs.Meaning.{Interpretation, Vals, Den, truth, holds, means, meansAll}
-use Rattle.meaning.specs.Premises.{SingleIntegers, Alive}
+use Rattle.meaning.specs.Premises.{SingleIntegers, NoInterOverNothing}
 use Rattle.meaning.proofs.Lists.{so-any, so-all, clash, not-so, In-left, all-mid, any-mid, and-true, or-false}
 use Rattle.meaning.proofs.Sound.{Formula, Keeps, keeps-truth, accepted-formula}
 use Rattle.meaning.proofs.Kit.{NoInter}
@@ -184,8 +184,8 @@ module _ (I : Interpretation) (σ : ℕ → Ty) (Γ : Ctx) where
     left-single : (ls : Forest) → Dropped n ps ls → SingleIntegers (many g ps) Γ → Every (λ k. SingleIntegers k Γ) ls
     left-single ls r s = dropped-every (λ k. SingleIntegers k Γ) r (single-each Γ ps (kit.kids-single I Γ g ps s))
 
-    left-alive : (ls : Forest) → Dropped n ps ls → Alive I (many g ps) Γ → Every (λ k. Alive I k Γ) ls
-    left-alive ls r a = dropped-every (λ k. Alive I k Γ) r (alive-each I Γ ps (kit.kids-alive I Γ g ps a))
+    left-alive : (ls : Forest) → Dropped n ps ls → NoInterOverNothing I (many g ps) Γ → Every (λ k. NoInterOverNothing I k Γ) ls
+    left-alive ls r a = dropped-every (λ k. NoInterOverNothing I k Γ) r (alive-each I Γ ps (kit.kids-alive I Γ g ps a))
 
     pub junction-one-keeps : (q : Tree) → Dropped n ps (sole q) → Accepted σ (many g ps) Γ predicate → SingleIntegers (many g ps) Γ → Keeps I Γ (many g ps) q
     junction-one-keeps q r a s =

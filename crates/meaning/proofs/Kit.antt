@@ -16,11 +16,11 @@ use Rattle.frame.specs.Places.{Ctx, push}
 use Prim.Native.Nat.{ℕ}
 use Rattle.typing.specs.Typing.{element, typeOf, typesIn}
 use Rattle.typing.specs.TypeExpression.{toExpression}
-use Rattle.rules.specs.Equations.{¬ᵖ, _⇒_, _⇔_, ⋀, ⋁, ∀ᵖ, ∃ᵖ, _≐_, _∈ᵖ_, _⊆_, ∅, _≐∅, Ty-of, _≐Ty}
+use Rattle.rules.specs.Equations.{¬ᵖ, _⇒_, _⇔_, ⋀, ⋁, ∀ᵖ, ∃ᵖ, _≐_, _∈ᵖ_, _⊆_, ∅, Ty-of, _≐∅, _≐Ty}
 use Rattle.meaning.specs.Lists.{any, all}
 use Rattle.meaning.specs.Operations.{Logic, Op, logic, equal, subset, member, opAt, opOf}
 use Rattle.meaning.specs.Meaning.{Interpretation, Vals, truth, val, setOf, some, every, equals, choices, bindersIn, nodeMeans, identifierValue, holds, valueOf, quantified, means, meansAll}
-use Rattle.meaning.specs.Premises.{NoInt, Single, AllNoInt, AllSingle, SingleIntegers, SingleIntegersIn, Alive, AliveAll}
+use Rattle.meaning.specs.Premises.{NoInt, Single, AllNoInt, AllSingle, SingleIntegers, SingleIntegersIn, NoInterOverNothing, NoInterOverNothingIn}
 use Rattle.meaning.proofs.Lists.{or-true}
 use Rattle.meaning.proofs.Sound.{Formula, formula-type, binders-agree}
 use Rattle.meaning.proofs.Sets.{is-empty, is-full, every-true}
@@ -62,8 +62,8 @@ so true h = refl
 so false h = absurd h
 
 module _ (I : Interpretation) where
-  pub type-alive : (t : Ty) (Γ : Ctx) → Alive I (toExpression t) Γ
-  unfolding Alive toExpression opOf opAt classOf lookup
+  pub type-alive : (t : Ty) (Γ : Ctx) → NoInterOverNothing I (toExpression t) Γ
+  unfolding NoInterOverNothing toExpression opOf opAt classOf lookup
   type-alive bool Γ = (tt, tt, tt)
   type-alive int Γ = (tt, tt, tt)
   type-alive (given n) Γ = (tt, tt, tt)
@@ -111,20 +111,20 @@ abbrev pub NoInter : ℕ → Type 0
 NoInter g = (eqb g #KInter ≡ false) × (eqb g #QInter ≡ false)
 
 module _ (I : Interpretation) (Γ : Ctx) (g : ℕ) (f : NoInter g) where
-  pub many-alive : (ks : Forest) → AliveAll I ks Γ → Alive I (many g ks) Γ
-  unfolding Alive
+  pub many-alive : (ks : Forest) → NoInterOverNothingIn I ks Γ → NoInterOverNothing I (many g ks) Γ
+  unfolding NoInterOverNothing
   many-alive ks a = rw (f .0, f .1, sym (binders-agree I g []), no-binders (formOf g .layout)) (tt, tt, a)
 
-  pub leaf-alive : Alive I (leaf g) Γ
-  unfolding Alive
+  pub leaf-alive : NoInterOverNothing I (leaf g) Γ
+  unfolding NoInterOverNothing
   leaf-alive = many-alive nil tt
 
-  pub one-alive : (p : Tree) → Alive I p Γ → Alive I (one g p) Γ
-  unfolding Alive
+  pub one-alive : (p : Tree) → NoInterOverNothing I p Γ → NoInterOverNothing I (one g p) Γ
+  unfolding NoInterOverNothing
   one-alive p a = many-alive (sole p) (a, tt)
 
-  pub two-alive : (p q : Tree) → Alive I p Γ → Alive I q Γ → Alive I (two g p q) Γ
-  unfolding Alive
+  pub two-alive : (p q : Tree) → NoInterOverNothing I p Γ → NoInterOverNothing I q Γ → NoInterOverNothing I (two g p q) Γ
+  unfolding NoInterOverNothing
   two-alive p q a b = many-alive (pair p q) (a, (b, tt))
 
 -- ---- a quantifier
@@ -133,8 +133,8 @@ module _ (I : Interpretation) (Γ : Ctx) (g : ℕ) (f : Formula (leaf g)) (b : (
   unfolding SingleIntegers
   bound-single s n r = rw (formula-type I (node (head g 0 xs) (sole p)) Γ f, b xs) (s, tt, n, (r, tt))
 
-  pub bound-alive : NoInter g → Alive I p (push xs Γ) → Alive I (node (head g 0 xs) (sole p)) Γ
-  unfolding Alive
+  pub bound-alive : NoInter g → NoInterOverNothing I p (push xs Γ) → NoInterOverNothing I (node (head g 0 xs) (sole p)) Γ
+  unfolding NoInterOverNothing
   bound-alive h a = rw (h .0, h .1, sym (binders-agree I g xs), b xs) (tt, tt, (a, tt))
 
 -- ---- the operands of a node without types
@@ -143,8 +143,8 @@ module _ (I : Interpretation) (Γ : Ctx) (g : ℕ) (ks : Forest) where
   unfolding SingleIntegers
   kids-single s = rw (no-binders (formOf g .layout)) at (s .3)
 
-  pub kids-alive : Alive I (many g ks) Γ → AliveAll I ks Γ
-  unfolding Alive
+  pub kids-alive : NoInterOverNothing I (many g ks) Γ → NoInterOverNothingIn I ks Γ
+  unfolding NoInterOverNothing
   kids-alive a = rw (sym (binders-agree I g []), no-binders (formOf g .layout)) at (a .2)
 
 -- ---- what a node without types means, by its operator
@@ -218,8 +218,8 @@ module _ (I : Interpretation) (Γ : Ctx) where
     unfolding SingleIntegers typeOf classOf lookup formAt
     empty-single s = (tt, tt, tt, (s, (((single-type e Γ s, tt), single-type e Γ s, tt, tt), tt)))
 
-    pub empty-alive : Alive I e Γ → Alive I (_≐∅ Γ e) Γ
-    unfolding Alive opOf opAt classOf lookup
+    pub empty-alive : NoInterOverNothing I e Γ → NoInterOverNothing I (_≐∅ Γ e) Γ
+    unfolding NoInterOverNothing opOf opAt classOf lookup
     empty-alive a = (tt, tt, (a, ((tt, tt, tt), tt)))
 
     pub empty-truth : (u : Ty) → typeOf e Γ ≡ pow u → (ρ : Vals I Γ) → truth I (means I (_≐∅ Γ e) Γ) ρ ≡ not (some I u (setOf I (means I e Γ) ρ u))
@@ -231,7 +231,7 @@ module _ (I : Interpretation) (Γ : Ctx) where
     unfolding classOf lookup formAt
     full-single s = two-single I Γ #Equal (refl, refl) e (Ty-of Γ e) s (type-single (element (typeOf e Γ)) Γ (single-element (typeOf e Γ) (single-type e Γ s)))
 
-    pub full-alive : Alive I e Γ → Alive I (_≐Ty Γ e) Γ
+    pub full-alive : NoInterOverNothing I e Γ → NoInterOverNothing I (_≐Ty Γ e) Γ
     full-alive a = two-alive I Γ #Equal (refl, refl) e (Ty-of Γ e) a (type-alive I (element (typeOf e Γ)) Γ)
 
     full-at : (u : Ty) → typeOf e Γ ≡ pow u → (ρ : Vals I Γ) → setOf I (means I (Ty-of Γ e) Γ) ρ u ≡ (λ x. true)

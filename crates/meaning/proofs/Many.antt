@@ -14,7 +14,7 @@ use Rattle.rules.specs.Equations.{Among, _≐∅, _≐Ty}
 use Rattle.rules.proofs.Nodes.{Every}
 use Rattle.meaning.specs.Lists.{any, all, In}
 use Rattle.meaning.specs.Meaning.{Interpretation, Vals, Den, truth, setOf, some, every, means, meansAll}
-use Rattle.meaning.specs.Premises.{SingleIntegers, SingleIntegersIn, Alive, AliveAll}
+use Rattle.meaning.specs.Premises.{SingleIntegers, SingleIntegersIn, NoInterOverNothing, NoInterOverNothingIn}
 use Rattle.meaning.proofs.Lists.{not-or}
 use Rattle.meaning.proofs.Kit as kit
 
@@ -40,13 +40,13 @@ module _ (Γ : Ctx) where
   single-all (cons k ks) s = (s .0, single-all ks (s .1))
 
 module _ (I : Interpretation) (Γ : Ctx) where
-  pub alive-each : (ks : Forest) → AliveAll I ks Γ → Every (λ k. Alive I k Γ) ks
-  unfolding Alive
+  pub alive-each : (ks : Forest) → NoInterOverNothingIn I ks Γ → Every (λ k. NoInterOverNothing I k Γ) ks
+  unfolding NoInterOverNothing
   alive-each nil s = tt
   alive-each (cons k ks) s = (s .0, alive-each ks (s .1))
 
-  pub alive-all : (ks : Forest) → Every (λ k. Alive I k Γ) ks → AliveAll I ks Γ
-  unfolding Alive
+  pub alive-all : (ks : Forest) → Every (λ k. NoInterOverNothing I k Γ) ks → NoInterOverNothingIn I ks Γ
+  unfolding NoInterOverNothing
   alive-all nil s = tt
   alive-all (cons k ks) s = (s .0, alive-all ks (s .1))
 
@@ -58,8 +58,8 @@ module _ (f : Tree → Tree) (Γ Δ : Ctx) where
   map-single h (cons k ks) s = (h k (s .0), map-single h ks (s .1))
 
 module _ (I : Interpretation) (f : Tree → Tree) (Γ Δ : Ctx) where
-  pub map-alive : ((k : Tree) → Alive I k Γ → Alive I (f k) Δ) → (ks : Forest) → AliveAll I ks Γ → AliveAll I (mapF f ks) Δ
-  unfolding Alive
+  pub map-alive : ((k : Tree) → NoInterOverNothing I k Γ → NoInterOverNothing I (f k) Δ) → (ks : Forest) → NoInterOverNothingIn I ks Γ → NoInterOverNothingIn I (mapF f ks) Δ
+  unfolding NoInterOverNothing
   map-alive h nil s = tt
   map-alive h (cons k ks) s = (h k (s .0), map-alive h ks (s .1))
 

@@ -15,7 +15,7 @@ use Rattle.rules.specs.Equations.{_⇒_, ⋀, ⋁, ∀ᵖ, ∃ᵖ}
 use Rattle.meaning.specs.Lists.{any, all}
 use Rattle.meaning.specs.Operations.{opAt, opOf}
 use Rattle.meaning.specs.Meaning.{Interpretation, Vals, truth, choices, holds, quantified, means, meansAll}
-use Rattle.meaning.specs.Premises.{AllSingle, AllNoInt, SingleIntegers, SingleIntegersIn, Alive, AliveAll}
+use Rattle.meaning.specs.Premises.{AllSingle, AllNoInt, SingleIntegers, SingleIntegersIn, NoInterOverNothing, NoInterOverNothingIn}
 use Rattle.meaning.proofs.Lists.{all-swap, any-swap, any-imp}
 use Rattle.meaning.proofs.Sound.{Formula, Keeps, keeps-truth}
 use Rattle.meaning.proofs.Kit.{NoInter}
@@ -38,7 +38,7 @@ module _ (I : Interpretation) (σ : ℕ → Ty) (Γ : Ctx) (xs : List Ty) where
 
     -- l is (q x·P) g … g (q x·Q)
     spread : (q g : ℕ) → Formula (leaf q) → ((us : List Ty) → bindersOf (formOf q .layout) us ≡ us) → NoInter q → Formula (leaf g) → NoInter g
-        → (l : Tree) → Formula l → AllSingle xs → AllNoInt xs → SingleIntegersIn ps (push xs Γ) → (Alive I l Γ → AliveAll I ps (push xs Γ))
+        → (l : Tree) → Formula l → AllSingle xs → AllNoInt xs → SingleIntegersIn ps (push xs Γ) → (NoInterOverNothing I l Γ → NoInterOverNothingIn I ps (push xs Γ))
         → ((ρ : Vals I Γ) → truth I (means I l Γ) ρ ≡ truth I (means I (many g (mapF (tree.quantified q xs) ps)) Γ) ρ) → Keeps I Γ l (many g (mapF (tree.quantified q xs) ps))
     spread q g fq b nq fg ng l fl s n r k t =
         keeps-truth I l (many g (mapF (tree.quantified q xs) ps)) Γ fl fg
@@ -48,21 +48,21 @@ module _ (I : Interpretation) (σ : ℕ → Ty) (Γ : Ctx) (xs : List Ty) where
 
     -- ∀x·(P ∧ … ∧ Q) is (∀x·P) ∧ … ∧ (∀x·Q)
     pub forall-and-keeps : Accepted σ (∀ᵖ xs (⋀ ps)) Γ predicate → SingleIntegers (∀ᵖ xs (⋀ ps)) Γ → Keeps I Γ (∀ᵖ xs (⋀ ps)) (⋀ (mapF (∀ᵖ xs) ps))
-    unfolding Accepted SingleIntegers Alive typeOf opOf opAt classOf lookup formAt
+    unfolding Accepted SingleIntegers NoInterOverNothing typeOf opOf opAt classOf lookup formAt
     forall-and-keeps a s =
         spread #Forall #LAnd (refl, refl) (λ us. refl) (refl, refl) (refl, refl) (refl, refl) (∀ᵖ xs (⋀ ps)) (refl, refl) (s .0) (s .2) (s .3 .0 .3) (λ l. l .2 .0 .2)
         (forall-and-truth (many-law.each-alike bool (typesIn ps (push xs Γ)) (a .kids .0 .fits)))
 
     -- ∃x·(P ∨ … ∨ Q) is (∃x·P) ∨ … ∨ (∃x·Q)
     pub exists-or-keeps : Accepted σ (∃ᵖ xs (⋁ ps)) Γ predicate → SingleIntegers (∃ᵖ xs (⋁ ps)) Γ → Keeps I Γ (∃ᵖ xs (⋁ ps)) (⋁ (mapF (∃ᵖ xs) ps))
-    unfolding Accepted SingleIntegers Alive typeOf opOf opAt classOf lookup formAt
+    unfolding Accepted SingleIntegers NoInterOverNothing typeOf opOf opAt classOf lookup formAt
     exists-or-keeps a s =
         spread #Exists #LOr (refl, refl) (λ us. refl) (refl, refl) (refl, refl) (refl, refl) (∃ᵖ xs (⋁ ps)) (refl, refl) (s .0) (s .2) (s .3 .0 .3) (λ l. l .2 .0 .2)
         (exists-or-truth (many-law.each-alike bool (typesIn ps (push xs Γ)) (a .kids .0 .fits)))
 
   -- ∃x·(P ⇒ Q) is (∀x·P) ⇒ (∃x·Q)
   pub exists-imp-keeps : (p q : Tree) → SingleIntegers (∃ᵖ xs (p ⇒ q)) Γ → Keeps I Γ (∃ᵖ xs (p ⇒ q)) (∀ᵖ xs p ⇒ ∃ᵖ xs q)
-  unfolding SingleIntegers Alive means holds quantified typeOf opOf opAt classOf lookup formAt
+  unfolding SingleIntegers NoInterOverNothing means holds quantified typeOf opOf opAt classOf lookup formAt
   exists-imp-keeps p q s =
       keeps-truth I (∃ᵖ xs (p ⇒ q)) (∀ᵖ xs p ⇒ ∃ᵖ xs q) Γ (refl, refl) (refl, refl)
       (kit.two-single I Γ #LImp (refl, refl) (∀ᵖ xs p) (∃ᵖ xs q) (kit.bound-single I Γ #Forall (refl, refl) (λ us. refl) xs p (s .0) (s .2) (s .3 .0 .3 .0)) (kit.bound-single I Γ #Exists (refl, refl) (λ us. refl) xs q (s .0) (s .2) (s .3 .0 .3 .1 .0)))

@@ -28,7 +28,7 @@ use Rattle.meaning.specs.Lists.{any, all, In}
 use Rattle.meaning.specs.Values.{listOf, sameElement, pairs, including, subsets, Value, default, values, same, someOf, everyOf, asType}
 use Rattle.meaning.specs.Operations.{opAt, opOf}
 use Rattle.meaning.specs.Meaning.{Interpretation, Val, leInt, valueAt, choices, identifierValue, setOf, equals, holds, valueOf, quantified, boundSet, means, isTrue}
-use Rattle.meaning.specs.Premises.{NoInt, SingleIntegers, Alive}
+use Rattle.meaning.specs.Premises.{NoInt, SingleIntegers, NoInterOverNothing}
 use Rattle.meaning.proofs.Lists.{or-false, so-imp, so-any}
 use Rattle.meaning.proofs.Complete.{listed, so-eq, so-some, so-every, as-type-refl}
 use Rattle.meaning.proofs.Sets.{so-sets}
@@ -115,8 +115,8 @@ inter-single I n t h =
     ∙ only-one (I .size) t h (identifierValue I n (pow t))
 
 -- ---- inter(∅) = BOOL breaks "no intersection over nothing"
-pub over-nothing : (I : Interpretation) → Alive I (one #KInter (∅ (pow (pow bool))) ≐ leaf #Bool) [] → ⊥
-unfolding Alive means valueOf typeOf someOf values subsets any opOf opAt classOf lookup
+pub over-nothing : (I : Interpretation) → NoInterOverNothing I (one #KInter (∅ (pow (pow bool))) ≐ leaf #Bool) [] → ⊥
+unfolding NoInterOverNothing means valueOf typeOf someOf values subsets any opOf opAt classOf lookup
 over-nothing I a = false≢true (a .2 .0 .0 tt)
 
 -- without that premise inter(S) = Ty would not be S = {Ty}: inter(∅) is everything here, and ∅ is not {BOOL}
@@ -125,8 +125,8 @@ unfolding isTrue means holds valueOf same values subsets including someOf everyO
 premise-needed I e = true≢false e
 
 -- the premise holds of inter({S}) = S
-pub over-one : (I : Interpretation) (n : ℕ) (t : Ty) → NoInt t → Alive I (one #KInter (ext (sole (identifier n (pow t)))) ≐ identifier n (pow t)) []
-unfolding Alive means valueOf any typeOf opOf opAt classOf lookup
+pub over-one : (I : Interpretation) (n : ℕ) (t : Ty) → NoInt t → NoInterOverNothing I (one #KInter (ext (sole (identifier n (pow t)))) ≐ identifier n (pow t)) []
+unfolding NoInterOverNothing means valueOf any typeOf opOf opAt classOf lookup
 over-one I n t h = (
   tt,
   tt,

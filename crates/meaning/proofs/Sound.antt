@@ -16,7 +16,7 @@ use Rattle.typing.specs.Typing.{result, typeOf, typesIn}
 use Rattle.typing.specs.Accepted.{Accepted}
 use Rattle.meaning.specs.Operations.{Op, logic, quantifier, operator, binding, opAt, opOf}
 use Rattle.meaning.specs.Meaning.{Interpretation, Vals, Den, pred, expr, truth, val, bindersIn, nodeMeans, means, meansAll}
-use Rattle.meaning.specs.Premises.{SingleIntegers, SingleIntegersIn, Alive, AliveAll}
+use Rattle.meaning.specs.Premises.{SingleIntegers, SingleIntegersIn, NoInterOverNothing, NoInterOverNothingIn}
 
 -- an operator suits the sort of its tag, and a predicate has no type
 abbrev Suits : Bool → Sort → Op → Ty → Type 0
@@ -160,12 +160,12 @@ module _ (I : Interpretation) where
   pub record Keeps (Γ : Ctx) (l r : Tree) : Type 0 where
     pub single : SingleIntegers r Γ
     pub types : typeOf l Γ ≡ typeOf r Γ
-    pub alive : Alive I l Γ → Alive I r Γ
-    pub same : Alive I l Γ → means I l Γ ≡ means I r Γ
+    pub alive : NoInterOverNothing I l Γ → NoInterOverNothing I r Γ
+    pub same : NoInterOverNothing I l Γ → means I l Γ ≡ means I r Γ
 
   -- of predicates
-  pub keeps-truth : (l r : Tree) (Γ : Ctx) → Formula l → Formula r → SingleIntegers r Γ → (Alive I l Γ → Alive I r Γ)
-      → (Alive I l Γ → (ρ : Vals I Γ) → truth I (means I l Γ) ρ ≡ truth I (means I r Γ) ρ) → Keeps Γ l r
+  pub keeps-truth : (l r : Tree) (Γ : Ctx) → Formula l → Formula r → SingleIntegers r Γ → (NoInterOverNothing I l Γ → NoInterOverNothing I r Γ)
+      → (NoInterOverNothing I l Γ → (ρ : Vals I Γ) → truth I (means I l Γ) ρ ≡ truth I (means I r Γ) ρ) → Keeps Γ l r
   keeps-truth l r Γ f h s a e = record {
     single = s;
     types = formula-type l Γ f ∙ sym (formula-type r Γ h);
@@ -176,12 +176,12 @@ module _ (I : Interpretation) where
   pub record KeepsAll (Γ : Ctx) (ks ls : Forest) : Type 0 where
     pub single : SingleIntegersIn ls Γ
     pub types : typesIn ks Γ ≡ typesIn ls Γ
-    pub alive : AliveAll I ks Γ → AliveAll I ls Γ
-    pub same : AliveAll I ks Γ → meansAll I ks Γ ≡ meansAll I ls Γ
+    pub alive : NoInterOverNothingIn I ks Γ → NoInterOverNothingIn I ls Γ
+    pub same : NoInterOverNothingIn I ks Γ → meansAll I ks Γ ≡ meansAll I ls Γ
 
   in-node : (g n : ℕ) (us : List Ty) (ks ls : Forest) (Γ : Ctx) → SingleIntegers (node (head g n us) ks) Γ
       → KeepsAll (under g us Γ) ks ls → KeepsAll (push (bindersIn I (opOf g) us) Γ) ks ls → Keeps Γ (node (head g n us) ks) (node (head g n us) ls)
-  unfolding SingleIntegers Alive typeOf means
+  unfolding SingleIntegers NoInterOverNothing typeOf means
   in-node g n us ks ls Γ t k s = record {
     single = (t .0, rw (k .types) at (t .1), t .2, k .single);
     types = rw (k .types);
@@ -195,13 +195,13 @@ module _ (I : Interpretation) where
   at-node g n us ks ls Γ k t = in-node g n us ks ls Γ t (k (t .3)) (rw (under-agree g us Γ) at (k (t .3)))
 
   at-first : (t u : Tree) (ks : Forest) (Γ : Ctx) → (SingleIntegers t Γ → Keeps Γ t u) → SingleIntegersIn (cons t ks) Γ → KeepsAll Γ (cons t ks) (cons u ks)
-  unfolding SingleIntegers Alive typeOf means
+  unfolding SingleIntegers NoInterOverNothing typeOf means
   at-first t u ks Γ k f =
       let s : Keeps Γ t u = k (f .0) in
       record { single = (s .single, f .1); types = rw (s .types); alive = λ a. (s .alive (a .0), a .1); same = λ a. rw (s .same (a .0)) }
 
   at-rest : (t : Tree) (ks ls : Forest) (Γ : Ctx) → (SingleIntegersIn ks Γ → KeepsAll Γ ks ls) → SingleIntegersIn (cons t ks) Γ → KeepsAll Γ (cons t ks) (cons t ls)
-  unfolding SingleIntegers Alive typeOf means
+  unfolding SingleIntegers NoInterOverNothing typeOf means
   at-rest t ks ls Γ k f =
       let s : KeepsAll Γ ks ls = k (f .1) in
       record { single = (f .0, s .single); types = rw (s .types); alive = λ a. (a .0, s .alive (a .1)); same = λ a. rw (s .same (a .1)) }

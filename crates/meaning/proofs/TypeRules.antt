@@ -12,13 +12,13 @@ use Rattle.frame.specs.Places.{Ctx, push}
 use Rattle.typing.specs.Typing.{element, relation, typeOf, typesIn}
 use Rattle.typing.specs.TypeExpression.{toExpression}
 use Rattle.typing.specs.Accepted.{Accepted, TysOk}
-use Rattle.rules.specs.Equations.{_⇒_, ⋀, ∀ᵖ, _≐_, ext, ⋂, _≐∅, _≐Ty, Fills, «SIMP_BINTER_EQUAL_TYPE», «SIMP_SETMINUS_EQUAL_TYPE», «SIMP_CPROD_EQUAL_TYPE», «SIMP_UPTO_EQUAL_INTEGER», «SIMP_DOMRES_EQUAL_TYPE», «SIMP_DOMSUB_EQUAL_TYPE», «SIMP_RANRES_EQUAL_TYPE», «SIMP_RANSUB_EQUAL_TYPE», «SIMP_DPROD_EQUAL_TYPE», «SIMP_PPROD_EQUAL_TYPE», «SIMP_KINTER_EQUAL_TYPE», «SIMP_CONVERSE_EQUAL_TYPE», «SIMP_QINTER_EQUAL_TYPE»}
+use Rattle.rules.specs.Equations.{_⇒_, ⋀, ∀ᵖ, _≐_, ext, ⋂, Fills, _≐∅, _≐Ty, «SIMP_BINTER_EQUAL_TYPE», «SIMP_SETMINUS_EQUAL_TYPE», «SIMP_CPROD_EQUAL_TYPE», «SIMP_UPTO_EQUAL_INTEGER», «SIMP_DOMRES_EQUAL_TYPE», «SIMP_DOMSUB_EQUAL_TYPE», «SIMP_RANRES_EQUAL_TYPE», «SIMP_RANSUB_EQUAL_TYPE», «SIMP_DPROD_EQUAL_TYPE», «SIMP_PPROD_EQUAL_TYPE», «SIMP_KINTER_EQUAL_TYPE», «SIMP_CONVERSE_EQUAL_TYPE», «SIMP_QINTER_EQUAL_TYPE»}
 use Rattle.rules.proofs.Nodes.{Has}
 use Rattle.rules.proofs.OldNodes.{of-inter, of-converse, of-minus, of-times, of-domres, of-domsub, of-ranres, of-ransub, of-dprod, of-pprod, of-qinter}
 use Rattle.meaning.specs.Lists.{any, all}
 use Rattle.meaning.specs.Operations.{opAt, opOf}
 use Rattle.meaning.specs.Meaning.{Interpretation, Vals, truth, setOf, some, every, equals, choices, valueOf, boundSet, means, meansAll}
-use Rattle.meaning.specs.Premises.{NoInt, SingleIntegers, Alive}
+use Rattle.meaning.specs.Premises.{NoInt, SingleIntegers, NoInterOverNothing}
 use Rattle.meaning.proofs.TypeSets as set
 use Rattle.meaning.proofs.Kit as kit
 use Rattle.meaning.proofs.Emptied.{Filled, filled, filled-by}
@@ -26,10 +26,10 @@ use Rattle.meaning.proofs.Many.{Each, each-alike, map-single, map-alive
 
 module _ (I : Interpretation) (σ : ℕ → Ty) (Γ : Ctx) where
   -- ---- E = Ty is p ∧ q, where p and q say that a set is full or empty
-  both : (e p q : Tree) (u : Ty) → typeOf e Γ ≡ pow u → SingleIntegers p Γ → SingleIntegers q Γ → (Alive I e Γ → Alive I p Γ × Alive I q Γ)
+  both : (e p q : Tree) (u : Ty) → typeOf e Γ ≡ pow u → SingleIntegers p Γ → SingleIntegers q Γ → (NoInterOverNothing I e Γ → NoInterOverNothing I p Γ × NoInterOverNothing I q Γ)
       → ((ρ : Vals I Γ) → (truth I (means I p Γ) ρ && (truth I (means I q Γ) ρ && true)) ≡ every I u (setOf I (means I e Γ) ρ u))
       → Filled I σ Γ e (⋀ (pair p q))
-  unfolding SingleIntegers Alive means classOf lookup formAt all
+  unfolding SingleIntegers NoInterOverNothing means classOf lookup formAt all
   both e p q u he sp sq l k =
       filled I σ Γ e (⋀ (pair p q)) u he (refl, refl) (kit.many-single I Γ #LAnd (refl, refl) (pair p q) (sp, (sq, tt)))
       (λ a. kit.many-alive I Γ #LAnd (refl, refl) (pair p q) (l a .0, (l a .1, tt))) (λ a ρ. kit.and-truth I Γ (pair p q) ρ ∙ k ρ)
@@ -37,7 +37,7 @@ module _ (I : Interpretation) (σ : ℕ → Ty) (Γ : Ctx) where
   -- p says of a set a what f tells: that it is full, that it is empty
   record Says (a p : Tree) (f : Vals I Γ → Bool) : Type 0 where
     single : SingleIntegers a Γ → SingleIntegers p Γ
-    alive : Alive I a Γ → Alive I p Γ
+    alive : NoInterOverNothing I a Γ → NoInterOverNothing I p Γ
     truly : (ρ : Vals I Γ) → truth I (means I p Γ) ρ ≡ f ρ
 
   full-says : (a : Tree) (u : Ty) → typeOf a Γ ≡ pow u → Says a (_≐Ty Γ a) (λ ρ. every I u (setOf I (means I a Γ) ρ u))
@@ -46,7 +46,7 @@ module _ (I : Interpretation) (σ : ℕ → Ty) (Γ : Ctx) where
   none-says : (a : Tree) (u : Ty) → typeOf a Γ ≡ pow u → Says a (_≐∅ Γ a) (λ ρ. not (some I u (setOf I (means I a Γ) ρ u)))
   none-says a u h = record { single = kit.empty-single I Γ a; alive = kit.empty-alive I Γ a; truly = kit.empty-truth I Γ a u h }
 
-  module _ (e a b : Tree) (t : Ty) (he : typeOf e Γ ≡ pow t) (s : SingleIntegers a Γ × SingleIntegers b Γ) (l : Alive I e Γ → Alive I a Γ × Alive I b Γ) where
+  module _ (e a b : Tree) (t : Ty) (he : typeOf e Γ ≡ pow t) (s : SingleIntegers a Γ × SingleIntegers b Γ) (l : NoInterOverNothing I e Γ → NoInterOverNothing I a Γ × NoInterOverNothing I b Γ) where
     both-say : {p q : Tree} {f g : Vals I Γ → Bool} → Says a p f → Says b q g → ((ρ : Vals I Γ) → (f ρ && (g ρ && true)) ≡ every I t (setOf I (means I e Γ) ρ t))
         → Filled I σ Γ e (⋀ (pair p q))
     both-say {p} {q} x y k =
@@ -54,7 +54,7 @@ module _ (I : Interpretation) (σ : ℕ → Ty) (Γ : Ctx) where
         (λ ρ. ap₂ (λ c d. c && (d && true)) (x .truly ρ) (y .truly ρ) ∙ k ρ)
 
   module _ (e a b : Tree) (t u v : Ty) (he : typeOf e Γ ≡ pow t) (ha : typeOf a Γ ≡ pow u) (hb : typeOf b Γ ≡ pow v)
-      (s : SingleIntegers a Γ × SingleIntegers b Γ) (l : Alive I e Γ → Alive I a Γ × Alive I b Γ) where
+      (s : SingleIntegers a Γ × SingleIntegers b Γ) (l : NoInterOverNothing I e Γ → NoInterOverNothing I a Γ × NoInterOverNothing I b Γ) where
     full-full : ((ρ : Vals I Γ) → (every I u (setOf I (means I a Γ) ρ u) && (every I v (setOf I (means I b Γ) ρ v) && true)) ≡ every I t (setOf I (means I e Γ) ρ t))
         → Filled I σ Γ e (⋀ (pair (_≐Ty Γ a) (_≐Ty Γ b)))
     full-full = both-say e a b t he s l (full-says a u ha) (full-says b v hb)
@@ -70,14 +70,14 @@ module _ (I : Interpretation) (σ : ℕ → Ty) (Γ : Ctx) where
   -- ---- A ∖ B, S × T
   minus-filled : (a b : Tree) (u : Ty) → typeOf a Γ ≡ pow u → typeOf b Γ ≡ pow u → SingleIntegers (two #SetMinus a b) Γ
       → Filled I σ Γ (two #SetMinus a b) (⋀ (pair (_≐Ty Γ a) (_≐∅ Γ b)))
-  unfolding SingleIntegers Alive typeOf means valueOf opOf opAt classOf lookup formAt
+  unfolding SingleIntegers NoInterOverNothing typeOf means valueOf opOf opAt classOf lookup formAt
   minus-filled a b u ha hb s =
       full-none (two #SetMinus a b) a b u u u ha ha hb (s .3 .0, s .3 .1 .0) (λ l. (l .2 .0, l .2 .1 .0))
       (λ ρ. set.minus-full (I .size) u (kit.no-int a Γ u (s .3 .0) ha) (setOf I (means I a Γ) ρ u) (setOf I (means I b Γ) ρ u))
 
   times-filled : (a b : Tree) (u v : Ty) → typeOf a Γ ≡ pow u → typeOf b Γ ≡ pow v → SingleIntegers (two #CProd a b) Γ
       → Filled I σ Γ (two #CProd a b) (⋀ (pair (_≐Ty Γ a) (_≐Ty Γ b)))
-  unfolding SingleIntegers Alive typeOf means valueOf opOf opAt classOf lookup formAt
+  unfolding SingleIntegers NoInterOverNothing typeOf means valueOf opOf opAt classOf lookup formAt
   times-filled a b u v ha hb s =
       full-full (two #CProd a b) a b (prod u v) u v (rw (ha, hb)) ha hb (s .3 .0, s .3 .1 .0) (λ l. (l .2 .0, l .2 .1 .0))
       (λ ρ. set.times-full (I .size) u v (kit.no-int a Γ u (s .3 .0) ha) (kit.no-int b Γ v (s .3 .1 .0) hb) (setOf I (means I a Γ) ρ u) (setOf I (means I b Γ) ρ v))
@@ -85,14 +85,14 @@ module _ (I : Interpretation) (σ : ℕ → Ty) (Γ : Ctx) where
   -- ---- S ◁ r, S ⩤ r
   module _ (a r : Tree) (u v : Ty) (ha : typeOf a Γ ≡ pow u) (hr : typeOf r Γ ≡ relation u v) where
     domres-filled : SingleIntegers (two #DomRes a r) Γ → Filled I σ Γ (two #DomRes a r) (⋀ (pair (_≐Ty Γ a) (_≐Ty Γ r)))
-    unfolding SingleIntegers Alive typeOf means valueOf opOf opAt classOf lookup formAt
+    unfolding SingleIntegers NoInterOverNothing typeOf means valueOf opOf opAt classOf lookup formAt
     domres-filled s =
         let n = kit.no-int r Γ (prod u v) (s .3 .1 .0) hr in
         full-full (two #DomRes a r) a r (prod u v) u (prod u v) hr ha hr (s .3 .0, s .3 .1 .0) (λ l. (l .2 .0, l .2 .1 .0))
         (λ ρ. set.domres-full (I .size) u v (n .0) (n .1) (setOf I (means I r Γ) ρ (prod u v)) (setOf I (means I a Γ) ρ u))
 
     domsub-filled : SingleIntegers (two #DomSub a r) Γ → Filled I σ Γ (two #DomSub a r) (⋀ (pair (_≐∅ Γ a) (_≐Ty Γ r)))
-    unfolding SingleIntegers Alive typeOf means valueOf opOf opAt classOf lookup formAt
+    unfolding SingleIntegers NoInterOverNothing typeOf means valueOf opOf opAt classOf lookup formAt
     domsub-filled s =
         let n = kit.no-int r Γ (prod u v) (s .3 .1 .0) hr in
         none-full (two #DomSub a r) a r (prod u v) u (prod u v) hr ha hr (s .3 .0, s .3 .1 .0) (λ l. (l .2 .0, l .2 .1 .0))
@@ -101,14 +101,14 @@ module _ (I : Interpretation) (σ : ℕ → Ty) (Γ : Ctx) where
   -- ---- r ▷ T, r ⩥ T
   module _ (r b : Tree) (u v : Ty) (hr : typeOf r Γ ≡ relation u v) (hb : typeOf b Γ ≡ pow v) where
     ranres-filled : SingleIntegers (two #RanRes r b) Γ → Filled I σ Γ (two #RanRes r b) (⋀ (pair (_≐Ty Γ b) (_≐Ty Γ r)))
-    unfolding SingleIntegers Alive typeOf means valueOf opOf opAt classOf lookup formAt
+    unfolding SingleIntegers NoInterOverNothing typeOf means valueOf opOf opAt classOf lookup formAt
     ranres-filled s =
         let n = kit.no-int r Γ (prod u v) (s .3 .0) hr in
         full-full (two #RanRes r b) b r (prod u v) v (prod u v) hr hb hr (s .3 .1 .0, s .3 .0) (λ l. (l .2 .1 .0, l .2 .0))
         (λ ρ. set.ranres-full (I .size) u v (n .0) (n .1) (setOf I (means I r Γ) ρ (prod u v)) (setOf I (means I b Γ) ρ v))
 
     ransub-filled : SingleIntegers (two #RanSub r b) Γ → Filled I σ Γ (two #RanSub r b) (⋀ (pair (_≐∅ Γ b) (_≐Ty Γ r)))
-    unfolding SingleIntegers Alive typeOf means valueOf opOf opAt classOf lookup formAt
+    unfolding SingleIntegers NoInterOverNothing typeOf means valueOf opOf opAt classOf lookup formAt
     ransub-filled s =
         let n = kit.no-int r Γ (prod u v) (s .3 .0) hr in
         none-full (two #RanSub r b) b r (prod u v) v (prod u v) hr hb hr (s .3 .1 .0, s .3 .0) (λ l. (l .2 .1 .0, l .2 .0))
@@ -117,7 +117,7 @@ module _ (I : Interpretation) (σ : ℕ → Ty) (Γ : Ctx) where
   -- ---- p ⊗ q, p ∥ q
   dprod-filled : (p q : Tree) (u v w : Ty) → typeOf p Γ ≡ relation u v → typeOf q Γ ≡ relation u w → SingleIntegers (two #DProd p q) Γ
       → Filled I σ Γ (two #DProd p q) (⋀ (pair (_≐Ty Γ p) (_≐Ty Γ q)))
-  unfolding SingleIntegers Alive typeOf means valueOf opOf opAt classOf lookup formAt
+  unfolding SingleIntegers NoInterOverNothing typeOf means valueOf opOf opAt classOf lookup formAt
   dprod-filled p q u v w hp hq s =
       let n = kit.no-int p Γ (prod u v) (s .3 .0) hp in
       let m = kit.no-int q Γ (prod u w) (s .3 .1 .0) hq in
@@ -126,7 +126,7 @@ module _ (I : Interpretation) (σ : ℕ → Ty) (Γ : Ctx) where
 
   pprod-filled : (p q : Tree) (u v w x : Ty) → typeOf p Γ ≡ relation u v → typeOf q Γ ≡ relation w x → SingleIntegers (two #PProd p q) Γ
       → Filled I σ Γ (two #PProd p q) (⋀ (pair (_≐Ty Γ p) (_≐Ty Γ q)))
-  unfolding SingleIntegers Alive typeOf means valueOf opOf opAt classOf lookup formAt
+  unfolding SingleIntegers NoInterOverNothing typeOf means valueOf opOf opAt classOf lookup formAt
   pprod-filled p q u v w x hp hq s =
       let n = kit.no-int p Γ (prod u v) (s .3 .0) hp in
       let m = kit.no-int q Γ (prod w x) (s .3 .1 .0) hq in
@@ -135,7 +135,7 @@ module _ (I : Interpretation) (σ : ℕ → Ty) (Γ : Ctx) where
 
   -- ---- r∼
   converse-filled : (r : Tree) (u v : Ty) → typeOf r Γ ≡ relation u v → SingleIntegers (one #Converse r) Γ → Filled I σ Γ (one #Converse r) (_≐Ty Γ r)
-  unfolding SingleIntegers Alive typeOf means valueOf opOf opAt classOf lookup formAt
+  unfolding SingleIntegers NoInterOverNothing typeOf means valueOf opOf opAt classOf lookup formAt
   converse-filled r u v hr s =
       let n = kit.no-int r Γ (prod u v) (s .3 .0) hr in
       filled-by I σ Γ (one #Converse r) r (prod v u) (prod u v) (rw hr) hr (s .3 .0) (λ l. l .2 .0)
@@ -148,7 +148,7 @@ module _ (I : Interpretation) (σ : ℕ → Ty) (Γ : Ctx) where
 
   -- ---- A ∩ … ∩ B
   cap-filled : (ks : Forest) → Each (pow (element (typeOf (⋂ ks) Γ))) (typesIn ks Γ) → SingleIntegers (⋂ ks) Γ → Filled I σ Γ (⋂ ks) (⋀ (mapF (_≐Ty Γ) ks))
-  unfolding SingleIntegers Alive typeOf means valueOf opOf opAt classOf lookup formAt
+  unfolding SingleIntegers NoInterOverNothing typeOf means valueOf opOf opAt classOf lookup formAt
   cap-filled ks h s =
       let u = element (typeOf (⋂ ks) Γ) in
       record {
@@ -169,20 +169,20 @@ module _ (I : Interpretation) (σ : ℕ → Ty) (Γ : Ctx) where
     unfolding only SingleIntegers typeOf classOf lookup formAt
     only-single n = (tt, rw (kit.type-type u Γ) n, tt, (kit.type-single u Γ n, tt))
 
-    only-alive : Alive I only Γ
-    unfolding only Alive opOf opAt classOf lookup
+    only-alive : NoInterOverNothing I only Γ
+    unfolding only NoInterOverNothing opOf opAt classOf lookup
     only-alive = (tt, tt, (kit.type-alive I u Γ, tt))
 
     only-set : (ρ : Vals I Γ) → setOf I (means I only Γ) ρ (pow u) ≡ (λ a. equals I (pow u) a (λ x. true) || false)
     unfolding only means valueOf any opOf opAt classOf lookup
     only-set ρ = ap (λ f. λ a. equals I (pow u) a f || false) (kit.type-full I u Γ ρ)
 
-    member-of : Alive I (one #KInter s) Γ → (ρ : Vals I Γ) → So (some I (pow u) (setOf I (means I s Γ) ρ (pow u)))
-    unfolding Alive typeOf means opOf opAt classOf lookup
+    member-of : NoInterOverNothing I (one #KInter s) Γ → (ρ : Vals I Γ) → So (some I (pow u) (setOf I (means I s Γ) ρ (pow u)))
+    unfolding NoInterOverNothing typeOf means opOf opAt classOf lookup
     member-of a ρ = rw hs at (a .0 ρ)
 
     kinter-at : SingleIntegers (one #KInter s) Γ → Filled I σ Γ (one #KInter s) (s ≐ only)
-    unfolding SingleIntegers Alive typeOf means valueOf opOf opAt classOf lookup formAt
+    unfolding SingleIntegers NoInterOverNothing typeOf means valueOf opOf opAt classOf lookup formAt
     kinter-at i =
         let n = kit.no-int s Γ (pow u) (i .3 .0) hs in
         filled I σ Γ (one #KInter s) (s ≐ only) u (rw hs) (refl, refl) (kit.two-single I Γ #Equal (refl, refl) s only (i .3 .0) (only-single n))
@@ -198,7 +198,7 @@ module _ (I : Interpretation) (σ : ℕ → Ty) (Γ : Ctx) where
   -- ---- ⋂ xs · p ∣ e
   qinter-filled : (xs : List Ty) (p e : Tree) (u : Ty) → typeOf e (push xs Γ) ≡ pow u → SingleIntegers (bodied #QInter xs p e) Γ
       → Filled I σ Γ (bodied #QInter xs p e) (∀ᵖ xs (p ⇒ _≐Ty (push xs Γ) e))
-  unfolding SingleIntegers Alive typeOf means boundSet opOf opAt classOf lookup formAt
+  unfolding SingleIntegers NoInterOverNothing typeOf means boundSet opOf opAt classOf lookup formAt
   qinter-filled xs p e u he s =
       let Δ = push xs Γ in
       filled I σ Γ (bodied #QInter xs p e) (∀ᵖ xs (p ⇒ _≐Ty Δ e)) u he (refl, refl)

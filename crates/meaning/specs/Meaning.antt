@@ -1,21 +1,22 @@
 -- The value of an expression and the truth of a predicate in an interpretation (document 01, "Meaning", and the Event-B
--- Mathematical Language for each operator that a taken rule names).
+-- Mathematical Language for each operator that a taken rule names): "Source decides on rule order and built tree; the Event-B
+-- Mathematical Language on meaning and typing."
 use mathlib.Core.Bool.{Bool, true, false, not, _&&_, _||_, Bool·beq}
 use mathlib.Core.List.{List, [], _∷_, flatMap}
 use Prim.Native.Nat.{ℕ, zero, suc, _-_, _^_}
 use lib.IntN.{ℤ, pos, negsuc}
 use lib.Dec.{eqb, leb, ltb}
 use Rattle.frame.specs.Types.{Ty, bool, int, given, pow, prod}
-use Rattle.frame.specs.Trees.{Head, head, Tree, node, Forest, nil, cons}
+use Rattle.frame.specs.Trees.{head, Tree, node, Forest, nil, cons}
 use Rattle.frame.specs.Tags.{pick}
-use Rattle.frame.specs.Places.{Ctx, push, under}
-use Rattle.typing.specs.Typing.{element, source, target, ty, typeAt, typesIn}
+use Rattle.frame.specs.Places.{Ctx, push}
+use Rattle.typing.specs.Typing.{element, source, target, ty, typesIn}
 use Rattle.meaning.specs.Lists.{any, all}
 use Rattle.meaning.specs.Values.{Value, default, values, same, someOf, everyOf, asType}
 use Rattle.meaning.specs.Operations.{Logic, true′, false′, not′, and′, or′, implies, equiv, equal, less, lessEqual, greater, greaterEqual, member, subset, finite, partition, unnamed, Quantifier, forall, exists, Operator, identifier, bound, literal, extension, maplet, surjective, totalSurjective, minus, times, directProduct, parallelProduct, domainRestriction, domainSubtraction, rangeRestriction, rangeSubtraction, upTo, image, union, intersection, backward, forward, override, integers, naturals, positives, booleans, yes′, no′, empty, projection1, projection2, identity, powerset, powerset1, generalUnion, generalIntersection, domain, range, converse, others, Binding, quantifiedUnion, quantifiedIntersection, comprehension, Op, logic, quantifier, operator, binding, opOf}
 
 -- ---- whole numbers: "Literals and order have their usual meaning."
--- "eight bytes in two's complement"
+-- "Tag 4: eight bytes in two's complement, any signed 64-bit number." "`BigInt` becomes the signed 64-bit literal."
 unfoldable pub literalValue : ℕ → ℤ
 literalValue n = pick (ltb n (2 ^ 63)) (pos n) (negsuc (2 ^ 64 - suc n))
 

@@ -1,17 +1,16 @@
 -- The premises of demand 3, on the first tree alone (document 01, "Meaning").
-use mathlib.Core.Bool.{Bool, So}
+use mathlib.Core.Bool.{So}
 use mathlib.Core.List.{List, [], _∷_}
-use Prim.Native.Nat.{ℕ}
 use lib.Dec.{eqb}
 use Rattle.frame.specs.Types.{Ty, bool, int, given, pow, prod}
-use Rattle.frame.specs.Trees.{Head, head, Tree, node, Forest, nil, cons}
+use Rattle.frame.specs.Trees.{head, Tree, node, Forest, nil, cons}
 use Rattle.frame.specs.Tags.{pick, bindersOf, formOf}
 use Rattle.frame.specs.Operators.{#KInter, #QInter}
 use Rattle.frame.specs.Places.{Ctx, push, under}
 use Rattle.typing.specs.Typing.{element, ty, typeOf, typesIn}
 use Rattle.meaning.specs.Lists.{any}
 use Rattle.meaning.specs.Operations.{opOf}
-use Rattle.meaning.specs.Meaning.{Interpretation, Vals, Den, truth, kid, setOf, some, choices, bindersIn, meansAll}
+use Rattle.meaning.specs.Meaning.{Interpretation, Vals, truth, kid, setOf, some, choices, bindersIn, meansAll}
 
 -- ---- "Integers only as single numbers": no type in the first tree, carried or derived, holds 01 inside another type, and
 -- no binder has type 01
@@ -51,15 +50,15 @@ unfoldable mutual
 -- around that node, the operand of 755 has a member, and the predicate of 802 is true for some values of its own binders
 module _ (I : Interpretation) where
   unfoldable mutual
-    pub Alive : Tree → Ctx → Type 0
-    Alive (node (head g n us) ks) Γ =
+    pub NoInterOverNothing : Tree → Ctx → Type 0
+    NoInterOverNothing (node (head g n us) ks) Γ =
         let bs = bindersIn I (opOf g) us in
         let Δ = push bs Γ in
         let u = element (ty 0 (typesIn ks Δ)) in
         pick {X = Type 0} (eqb g #KInter) ((ρ : Vals I Δ) → So (some I u (setOf I (kid I 0 (meansAll I ks Δ)) ρ u))) (Unit {0})
         × pick {X = Type 0} (eqb g #QInter) ((ρ : Vals I Γ) → So (any (truth I (kid I 0 (meansAll I ks Δ))) (choices I bs Γ ρ))) (Unit {0})
-        × AliveAll ks Δ
+        × NoInterOverNothingIn ks Δ
 
-    pub AliveAll : Forest → Ctx → Type 0
-    AliveAll nil Γ = Unit {0}
-    AliveAll (cons t ts) Γ = Alive t Γ × AliveAll ts Γ
+    pub NoInterOverNothingIn : Forest → Ctx → Type 0
+    NoInterOverNothingIn nil Γ = Unit {0}
+    NoInterOverNothingIn (cons t ts) Γ = NoInterOverNothing t Γ × NoInterOverNothingIn ts Γ

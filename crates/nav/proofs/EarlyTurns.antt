@@ -13,13 +13,13 @@ use Rattle.frame.specs.Tags.{Sort, Layout, these, payload, counted, binding, Cl
 use Rattle.frame.specs.Encoding.{encHead, enc, encs}
 use Rattle.frame.specs.Reading.{numberAt}
 use Rattle.frame.specs.WellFormed.{Wf, Wfs}
-use Rattle.frame.specs.Bytes.{SameBytes}
+use Rattle.octets.specs.Bytes.{SameBytes}
 use Rattle.frame.proofs.Inversion.{true-not}
 use Rattle.frame.proofs.ReadBack.{head-long, enc-long}
 use Rattle.frame.proofs.EveryTag.{alongRows, every-tag}
-use Rattle.nav.specs.Stands.{Stands}
+use Rattle.sameness.specs.Stands.{Stands}
 use Rattle.nav.specs.PlaceTables.{EarlyPre, EarlyPost}
-use Rattle.nav.proofs.View.{stand-byte}
+use Rattle.sameness.proofs.View.{stand-byte}
 use Rattle.nav.proofs.PlaceTurns.{tag-there}
 
 -- ---- the tags from 101 to 252 are those of nodes with two operands

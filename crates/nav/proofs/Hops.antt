@@ -21,7 +21,7 @@ use Rattle.frame.proofs.Extents.{nodes-enc, starts-length}
 use Rattle.frame.proofs.AtPlace.{absent-not, down-place}
 use Rattle.frame.proofs.Splices.{find-some, find-lt, splice-there, splice-within}
 use Rattle.frame.proofs.Within.{find-within, KidsAtPlace, kids-of, kid-first, kid-next}
-use Rattle.nav.specs.Stands.{Stands}
+use Rattle.sameness.specs.Stands.{Stands}
 use Rattle.nav.specs.PlaceTables.{arity, Framed, NextsFrom, hops, HopsIn}
 
 -- ---- what stands at a place

@@ -1,5 +1,3 @@
-pub mod View
-pub mod SameTurns
 pub mod Hops
 pub mod PlaceTurns
 pub mod EarlyTurns

@@ -1,4 +1,4 @@
--- The ways out of the functions of src/places.rt, on plain values.
+-- The ways out of the functions of src/lib.rt, on plain values.
 -- Main results: numbers, tag-there, arity-room, arity-read (the tag, the number behind it and the number of children of the
 -- tree that stands somewhere);
 -- hop-here, hop-more, hop-none; fill-start, fill-root, fill-hops, fill-turn, fill-done; placed-root, tag-done, children-done;
@@ -15,19 +15,19 @@ use borrow.Author.Tests.{eqb-true, eqb-false}
 use Rattle.frame.specs.Types.{Ty}
 use Rattle.frame.specs.Trees.{head, Tree, node, Forest, count, tagOf, nodes}
 use Rattle.frame.specs.Tags.{Sort, Form, classOf, formOf, width, sortsOf}
-use Rattle.frame.specs.TagCodes.{formAtCode, formCode}
+use Rattle.tags.specs.TagCodes.{formAtCode, formCode}
 use Rattle.frame.specs.Encoding.{encNumber, encTys, encHead, enc, encs}
 use Rattle.frame.specs.Reading.{numberAt}
 use Rattle.frame.specs.WellFormed.{numberIn}
 use Rattle.frame.specs.Places.{Ctx, found, find}
-use Rattle.frame.specs.Post.{tableSize}
+use Rattle.reading.specs.Post.{tableSize}
 use Rattle.frame.proofs.Spans.{span-left}
 use Rattle.frame.proofs.Numbers.{number-back}
-use Rattle.frame.proofs.TagTables.{code-form}
+use Rattle.tags.proofs.TagTables.{code-form}
 use Rattle.frame.proofs.Splices.{find-some, find-lt}
-use Rattle.nav.specs.Stands.{Stands}
+use Rattle.sameness.specs.Stands.{Stands}
 use Rattle.nav.specs.PlaceTables.{arity, Framed, NextsFrom, Table, Rooted, ArityPost, hops, HopsIn, NextsPre, NextsPost, Placed, PlacedIn, TagPost, ChildrenPost, EndAtPost}
-use Rattle.nav.proofs.View.{all-count}
+use Rattle.sameness.proofs.View.{all-count}
 use Rattle.nav.proofs.Hops.{framed-few, place-stands, place-sorted, place-end, hops-node, ends-inside, ends-last}
 
 -- ---- the numbers of a head

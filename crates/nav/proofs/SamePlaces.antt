@@ -10,24 +10,24 @@ use lib.ListN.{getD, replicate, List·getD-append}
 use Rattle.frame.specs.Types.{Ty}
 use Rattle.frame.specs.Trees.{head, Tree, node, nil, cons, tagOf, nodes}
 use Rattle.frame.specs.Tags.{Sort, predicate, expression, sameSort, Form, classOf, formOf}
-use Rattle.frame.specs.TagCodes.{formAtCode, formCode, isExpression, sortFor}
+use Rattle.tags.specs.TagCodes.{formAtCode, formCode, isExpression, sortFor}
 use Rattle.frame.specs.Encoding.{starts}
 use Rattle.frame.specs.Reading.{numberAt, tree, parse}
 use Rattle.frame.specs.WellFormed.{Wf}
 use Rattle.frame.specs.Spans.{Bytes}
 use Rattle.frame.specs.Places.{Ctx, under, found, find}
-use Rattle.frame.specs.Post.{tableSize, tableOf}
+use Rattle.reading.specs.Post.{tableSize, tableOf}
 use Rattle.frame.specs.Sameness.{sameTree}
-use Rattle.frame.proofs.TagTables.{code-form}
+use Rattle.tags.proofs.TagTables.{code-form}
 use Rattle.frame.proofs.Extents.{starts-length}
 use Rattle.frame.proofs.Frames.{parse-enc}
 use Rattle.frame.proofs.SameTrees.{same-tree, same-tree-refl}
 use Rattle.frame.proofs.Splices.{find-some}
-use Rattle.nav.specs.Stands.{Stands}
-use Rattle.nav.specs.Compared.{BothStand, SamePost}
+use Rattle.sameness.specs.Stands.{Stands}
+use Rattle.sameness.specs.Compared.{BothStand, SamePost}
 use Rattle.nav.specs.PlaceTables.{Framed, NextsFrom, TagPost, sortOf, SortPost, BothPlaced, EarlyPost, SameAtPost, isYes}
-use Rattle.nav.specs.declared.sameness.Same.{Same}
-use Rattle.nav.specs.declared.sameness.Same.the-variants.{Yes, No}
+use Rattle.sameness.specs.declared.Same.{Same}
+use Rattle.sameness.specs.declared.Same.the-variants.{Yes, No}
 use Rattle.nav.proofs.Hops.{Sorted, place-stands, place-sorted, child-first, child-next}
 use Rattle.nav.proofs.PlaceTurns.{tag-there}
 

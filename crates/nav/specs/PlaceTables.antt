@@ -8,16 +8,16 @@ use mathlib.Core.List.{List, []}
 use lib.ListN.{length, getD}
 use Rattle.frame.specs.Trees.{Tree, node, count, tagOf, nodes}
 use Rattle.frame.specs.Tags.{Sort, predicate, formOf}
-use Rattle.frame.specs.TagCodes.{isExpression}
+use Rattle.tags.specs.TagCodes.{isExpression}
 use Rattle.frame.specs.Encoding.{enc, starts}
 use Rattle.frame.specs.Reading.{numberAt, frameLimit}
 use Rattle.frame.specs.WellFormed.{Wf}
 use Rattle.frame.specs.Places.{Ctx, found, find}
-use Rattle.frame.specs.Post.{tableSize}
+use Rattle.reading.specs.Post.{tableSize}
 use Rattle.frame.specs.Sameness.{sameTree}
-use Rattle.nav.specs.Stands.{Stands}
-use Rattle.nav.specs.declared.sameness.Same.{Same}
-use Rattle.nav.specs.declared.sameness.Same.the-variants.{Yes, No}
+use Rattle.sameness.specs.Stands.{Stands}
+use Rattle.sameness.specs.declared.Same.{Same}
+use Rattle.sameness.specs.declared.Same.the-variants.{Yes, No}
 
 -- how many children the root has
 abbrev pub arity : Tree → ℕ
@@ -39,7 +39,7 @@ pub record Table (s : List ℕ) (t : Tree) (st nx : List ℕ) (n : ℕ) : Type 0
   pub framed : Framed s t st n
   pub follows : NextsFrom t 0 nx
 
--- ---- what the code of src/places.rt asks and answers
+-- ---- what the code of src/lib.rt asks and answers
 
 -- some tree stands there
 pub record Rooted (s : List ℕ) (at : ℕ) : Type 0 where

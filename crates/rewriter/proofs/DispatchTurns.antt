@@ -15,14 +15,14 @@ use Rattle.rules.specs.Simplify.{simplifyPredicateNode}
 use Rattle.rules.specs.Negation.{rewriteNot, rewriteNotInner, rewritePartition}
 use Rattle.rules.specs.Finite.{rewriteFinite}
 use Rattle.rules.specs.Dispatch.{equalRules, subsetRules, dispatch}
-use Rattle.rewriter.specs.Decides.{Decides, DecidesOne, DecidesPair, Unlike, isRests}
-use Rattle.rewriter.specs.RulesAt.{afterLogic, partitionOf}
-use Rattle.rewriter.specs.Dispatching.{NodePost, DispatchPost}
-use Rattle.rewriter.specs.declared.decision.Decision.{Decision}
-use Rattle.rewriter.specs.declared.decision.Decision.the-variants as D
-use Rattle.rewriter.proofs.Shapes.{or-same, by-rest, by-both}
-use Rattle.rewriter.proofs.Descents.{by-child}
-use Rattle.rewriter.proofs.Series.{or-first, none-first}
+use Rattle.decision.specs.Decides.{Decides, DecidesOne, DecidesPair, Unlike, isRests}
+use Rattle.decision.specs.RulesAt.{afterLogic, partitionOf}
+use Rattle.decision.specs.Dispatching.{NodePost, DispatchPost}
+use Rattle.decision.specs.declared.Decision.{Decision}
+use Rattle.decision.specs.declared.Decision.the-variants as D
+use Rattle.decision.proofs.Shapes.{or-same, by-rest, by-both}
+use Rattle.decision.proofs.Descents.{by-child}
+use Rattle.decision.proofs.Series.{or-first, none-first}
 use Rattle.rewriter.proofs.NodeTurns.{by-tag}
 
 -- ---- logic first

@@ -15,15 +15,15 @@ use Rattle.frame.specs.Places.{Ctx, found, find}
 use Rattle.nav.specs.PlaceTables.{Table, TagPost}
 use Rattle.rules.specs.Change.{Change, same, onTag, with1}
 use Rattle.rules.specs.Simplify.{simplifyAssocPred, simplifyImp, simplifyEqv, simplifyNot, simplifyForall, simplifyPredicateNode}
-use Rattle.rewriter.specs.Decision.{Means}
-use Rattle.rewriter.specs.Decides.{Here, Decides, DecidesOne, DecidesTwo, Unlike}
-use Rattle.rewriter.specs.RulesAt.{forallOf, existsOf}
-use Rattle.rewriter.specs.Junction.{JunctionPre, JunctionPost}
-use Rattle.rewriter.specs.Dispatching.{DecidesInto, NodePost}
-use Rattle.rewriter.specs.declared.decision.Decision.{Decision}
-use Rattle.rewriter.specs.declared.decision.Decision.the-variants as D
-use Rattle.rewriter.proofs.Shapes.{any, or-same, by-rest, by-both}
-use Rattle.rewriter.proofs.Descents.{by-child}
+use Rattle.decision.specs.Decision.{Means}
+use Rattle.decision.specs.Decides.{Here, Decides, DecidesOne, DecidesTwo, Unlike}
+use Rattle.decision.specs.RulesAt.{forallOf, existsOf}
+use Rattle.junction.specs.Junction.{JunctionPre, JunctionPost}
+use Rattle.decision.specs.Dispatching.{DecidesInto, NodePost}
+use Rattle.decision.specs.declared.Decision.{Decision}
+use Rattle.decision.specs.declared.Decision.the-variants as D
+use Rattle.decision.proofs.Shapes.{any, or-same, by-rest, by-both}
+use Rattle.decision.proofs.Descents.{by-child}
 
 -- ---- any rule
 pub into : (rule : Ctx → Tree → Change) (s st nx : List ℕ) (k : ℕ) (lent : List ℕ) → length lent ≡ 256 → (r : Decision) → Decides rule s st nx k r

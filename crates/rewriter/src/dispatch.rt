@@ -1,6 +1,6 @@
 // Which rules a node goes to: logic first, then those of its tag.
-use crate::decision::Decision;
-ghost use Rattle.rewriter.specs.Dispatching.{DispatchPre, DispatchPost};
+use decision::Decision;
+ghost use Rattle.decision.specs.Dispatching.{DispatchPre, DispatchPost};
 
 // What the rules decide at place k. The places of the children that an ∧ or an ∨ keeps go into the lent list.
 pub fn decide(
@@ -14,18 +14,18 @@ pub fn decide(
     ensures { λ r. ⌜ DispatchPost (now (s .entry)) (now (starts .entry)) (now (nexts .entry)) k (now (kept .exit)) r ⌝ }
 {
     let logic = crate::node::simplify_predicate_node(s, starts, nexts, k, kept);
-    if !crate::contains::rests(logic) {
+    if !decision::contains::rests(logic) {
         return logic;
     }
-    let tag = nav::places::tag_at(s, starts, k);
+    let tag = nav::tag_at(s, starts, k);
     let a = k + 1;
-    let b = crate::operands::second_of(nexts, k);
+    let b = decision::operands::second_of(nexts, k);
     match tag {
-        701 => crate::negation::rewrite_not(s, starts, nexts, k),
-        620 => crate::finite::rewrite_finite(s, starts, nexts, a),
-        901 => crate::quantified::rewrite_partition(s, starts, nexts, k),
-        101 => crate::equality::equal_at(s, starts, nexts, a, b),
-        111 => crate::equality::subset_at(s, starts, nexts, a, b),
+        701 => predicates::negation::rewrite_not(s, starts, nexts, k),
+        620 => predicates::finite::rewrite_finite(s, starts, nexts, a),
+        901 => predicates::partition::rewrite_partition(s, starts, nexts, k),
+        101 => equals::equality::equal_at(s, starts, nexts, a, b),
+        111 => equals::equality::subset_at(s, starts, nexts, a, b),
         _ => Decision::Rests,
     }
 }

@@ -1,6 +1,6 @@
 // Logic, by a predicate node's tag (62 to 87): the arms of the source's `simplify_predicate_node`, in its order.
-use crate::decision::Decision;
-ghost use Rattle.rewriter.specs.Dispatching.{DispatchPre, NodePost};
+use decision::Decision;
+ghost use Rattle.decision.specs.Dispatching.{DispatchPre, NodePost};
 
 // What logic decides at place k. The places of the children that an ∧ or an ∨ keeps go into the lent list.
 pub fn simplify_predicate_node(
@@ -13,17 +13,17 @@ pub fn simplify_predicate_node(
     requires { ⌜ DispatchPre (now s) (now starts) (now nexts) k (now kept) ⌝ }
     ensures { λ r. ⌜ NodePost (now (s .entry)) (now (starts .entry)) (now (nexts .entry)) k (now (kept .exit)) r ⌝ }
 {
-    let tag = nav::places::tag_at(s, starts, k);
+    let tag = nav::tag_at(s, starts, k);
     let a = k + 1;
-    let b = crate::operands::second_of(nexts, k);
+    let b = decision::operands::second_of(nexts, k);
     match tag {
-        351 => crate::junction::simplify_assoc_pred(s, starts, nexts, k, kept),
-        352 => crate::junction::simplify_assoc_pred(s, starts, nexts, k, kept),
-        251 => crate::implication::implication_at(s, starts, nexts, a, b),
-        252 => crate::logic::equivalence_at(s, starts, nexts, a, b),
-        701 => crate::logic::negation_at(s, starts, nexts, a),
-        851 => crate::quantified::forall_at(s, starts, nexts, k),
-        852 => crate::quantified::exists_at(s, starts, nexts, k),
+        351 => junction::simplify_assoc_pred(s, starts, nexts, k, kept),
+        352 => junction::simplify_assoc_pred(s, starts, nexts, k, kept),
+        251 => implication::implication_at(s, starts, nexts, a, b),
+        252 => logic::equivalence_at(s, starts, nexts, a, b),
+        701 => logic::negation_at(s, starts, nexts, a),
+        851 => logic::quantified::forall_at(s, starts, nexts, k),
+        852 => logic::quantified::exists_at(s, starts, nexts, k),
         _ => Decision::Rests,
     }
 }

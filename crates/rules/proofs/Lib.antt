@@ -1,6 +1,7 @@
 pub mod Shapes
 pub mod EmptyInstance
 pub mod TypeInstance
+pub mod Recovery
 pub mod NotFiniteInstance
 pub mod JunctionInstance
 pub mod SimplifyInstance

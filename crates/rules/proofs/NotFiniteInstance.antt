@@ -21,6 +21,7 @@ use Rattle.rules.specs.Negation.{rewriteNotInner, rewriteNot, rewritePar
 use Rattle.rules.specs.Finite.{uses, recovers, functionalCheck, finiteLambda, isProjection, rewriteFinite}
 use Rattle.rules.specs.Equations
 use Rattle.rules.specs.Equations.{Equation, fin, ¬ᵖ, _≐_}
+use Rattle.rules.proofs.Recovery.{occurs-used, recovered-leaf}
 use Rattle.rules.proofs.Shapes.{Is, gives, nothing, or-else, by-test, either, Ok, on-many, on-two, on-one, on-typed, on-bodied, is-leaf, is-many, is-two, is-typed}
 
 -- ---- ¬
@@ -98,7 +99,7 @@ finite-lambda : {σ : ℕ → Ty} {Γ : Ctx} (us : List Ty) (x : Tree) {e : Tree
     → Is (λ p u. Equation Γ p (fin (bodied #CSet us x e)) u) (finiteLambda us x e)
 unfolding classOf lookup formAt
 finite-lambda us x {e} a = on-two _ #Mapsto a refl (λ l r q v w. rw q (by-test (functionalCheck l r (length us))
-    (λ h. gives (Equations.«SIMP_FINITE_LAMBDA» us x l r (checked l r (length us) h)))))
+    (λ h. gives (Equations.«SIMP_FINITE_LAMBDA» us x l r (λ i k o. recovered-leaf l i (checked l r (length us) h i k (occurs-used o)))))))
 
 pub finite-instance : {σ : ℕ → Ty} {Γ : Ctx} {e : Tree} → Ok σ Γ e → Is (λ p u. Equation Γ p (fin e) u) (rewriteFinite Γ e)
 unfolding rewriteFinite classOf lookup formAt

@@ -2,9 +2,8 @@
 -- evaluation of `dispatch`: each predicate with the place that answers and the tree that it builds.
 use mathlib.Core.Path.{_≡_, refl}
 use mathlib.Core.List.{List, [], _∷_, map}
-use Prim.Native.Nat.{ℕ}
-use Rattle.frame.specs.Types.{Ty, bool, pow}
-use Rattle.frame.specs.Trees.{Head, head, Tree, node, Forest, nil, cons, leaf, one, two, many, typed, sole, pair, bodied}
+use Rattle.frame.specs.Types.{bool, pow}
+use Rattle.frame.specs.Trees.{head, Tree, node, nil, leaf, one, two, many, typed, sole, pair, bodied}
 use Rattle.frame.specs.Tags.{lookup, classOf, formAt}
 use Rattle.frame.specs.Operators.{#FreeIdent, #BoundIdent, #SetExt, #Equal, #In, #Mapsto, #SetMinus, #BInter, #True, #False, #EmptySet, #LImp, #LEqv, #LAnd, #BTrue, #BFalse, #Not, #Finite, #CSet}
 use Rattle.frame.specs.Sameness.{sameTy, sameTys, sameTree}

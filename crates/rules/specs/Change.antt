@@ -1,14 +1,16 @@
--- What a rule answers, and the shapes of trees that rules look for.
+-- What a rule answers, and the shapes of trees that rules look for. Definitions carry the names of the source's functions in
+-- camel case: `simplify_assoc_pred` is `simplifyAssocPred`.
 --
+-- "Their answers are the reference, `None` being "unchanged"; they are private, so the oracle is a built copy that opens them."
 -- The source's functions answer `None` or a tree. Here a tree comes with the number of the place that built it: the
 -- places at which the taken functions return a changed tree that they didn't get from another of them, from 1, in the
 -- order of the source documents and their text (docs/RULES.md lists them).
 use Prim.Native.Nat.{ℕ}
-use mathlib.Core.Bool.{Bool, true, false, _||_}
-use mathlib.Core.List.{List, [], _∷_}
+use mathlib.Core.Bool.{Bool, false, _||_}
+use mathlib.Core.List.{List}
 use lib.Dec.{eqb}
 use Rattle.frame.specs.Types.{Ty}
-use Rattle.frame.specs.Trees.{Head, head, Tree, node, Forest, nil, cons, tagOf, many}
+use Rattle.frame.specs.Trees.{head, Tree, node, Forest, nil, cons, tagOf, many}
 use Rattle.frame.specs.Tags.{pick}
 use Rattle.frame.specs.Sameness.{sameTree}
 
@@ -27,6 +29,7 @@ same orElse d = d
 abbrev pub when : Bool → Change → Change
 when b c = pick b c same
 
+-- `is_atomic` (document 000) and `is_literal` (document 002): the node has this tag
 abbrev pub isTag : ℕ → Tree → Bool
 isTag g t = eqb (tagOf t) g
 
@@ -58,12 +61,13 @@ quantifier g t k = onTag g t (λ ts ks. with1 ks (k ts))
 abbrev pub binderSet : ℕ → Tree → (List Ty → Tree → Tree → Change) → Change
 binderSet g t k = onTag g t (λ ts ks. with2 ks (k ts))
 
--- `contains`: a child is the same as t
+-- `contains`: a child is the same as t. In the code "`out.contains` becomes a search over kept children that leaves both loops
+-- once a child meets its opposite."
 unfoldable pub contains : Tree → Forest → Bool
 contains t nil = false
 contains t (cons k ks) = sameTree k t || contains t ks
 
--- `conj`, `disj` and the source's other ways to join a list: one is itself
+-- `conj`, `disj`, the closure `make` of `rewrite_equals_empty_set` and the source's other ways to join a list: one is itself
 abbrev pub joined : ℕ → Forest → Tree
 joined g nil = many g nil
 joined g (cons a nil) = a

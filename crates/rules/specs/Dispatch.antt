@@ -1,13 +1,12 @@
--- Which function a predicate node goes to (document 01, "The answer record").
-use Prim.Native.Nat.{ℕ}
+-- Which function a predicate node goes to (document 01, "The answer record"). "Taken: `simplify_predicate_node` (source document
+-- 002), `rewrite_not`, `rewrite_finite`, `rewrite_partition`, `rewrite_equals_empty_set`, `rewrite_equals_type` (000)."
 use mathlib.Core.Bool.{Bool}
-use mathlib.Core.List.{List, []}
 use Rattle.frame.specs.Trees.{Tree}
 use Rattle.frame.specs.Tags.{pick}
 use Rattle.frame.specs.Operators.{#Equal, #SubsetEq, #EmptySet, #Finite, #Partition}
 use Rattle.frame.specs.Places.{Ctx}
 use Rattle.frame.specs.Sameness.{sameTree}
-use Rattle.rules.specs.Change.{Change, to, same, _orElse_, when, isTag, onTag, with1, with2, unary, binary}
+use Rattle.rules.specs.Change.{Change, _orElse_, when, isTag, onTag, unary, binary}
 use Rattle.rules.specs.Simplify.{simplifyPredicateNode}
 use Rattle.rules.specs.Negation.{rewriteNot, rewritePartition}
 use Rattle.rules.specs.Finite.{rewriteFinite}
@@ -37,7 +36,13 @@ equalRules Γ left right = emptyRules Γ left right orElse typeRules Γ left rig
 abbrev pub subsetRules : Ctx → Tree → Tree → Change
 subsetRules Γ left right = when (isTag #EmptySet right) (rewriteEqualsEmptySet Γ left)
 
+-- The source's `AutoRewriter::predicate` (document 000), but that = and ⊆ go to the rules that document 01 adds.
 -- "Dispatch by tag: 351, 352, 251, 252, 851, 852 logic; 701 logic, then negation; 620; 901."
+-- "Left out: `batch2_relational`, `one_point`, the rest of `rewrite_relational`, the driver's walk, `Ascription`, `Application`,
+-- `Extended`, predicate variables, parametric types."
+-- "Should a place in the source build, for some operator, a tree that differs in truth from what it replaces in a frame and an
+-- interpretation that demand 3 covers, its premise on integers included, that place is left out for that operator: it counts as
+-- giving nothing there and dispatch goes on." None is left out: `equation-keeps` (crates/meaning/proofs/EquationKeeps.antt).
 unfoldable pub dispatch : Ctx → Tree → Change
 dispatch Γ t =
     simplifyPredicateNode t

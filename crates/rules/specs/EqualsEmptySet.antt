@@ -1,15 +1,12 @@
 -- `rewrite_equals_empty_set` (document 000), in the source's order: a set equated to ∅.
-use Prim.Native.Nat.{ℕ}
 use mathlib.Core.Bool.{Bool, true, false, not, _||_}
-use mathlib.Core.List.{List, []}
 use lib.Dec.{eqb}
-use Rattle.frame.specs.Types.{Ty}
-use Rattle.frame.specs.Trees.{Head, head, Tree, node, Forest, nil, cons, count, leaf, one, two, many, typed, sole, pair, quantified, mapF}
+use Rattle.frame.specs.Trees.{head, Tree, node, Forest, nil, cons, count, leaf, one, two, many, typed, sole, pair, quantified, mapF}
 use Rattle.frame.specs.Tags.{pick}
 use Rattle.frame.specs.Operators.{#SetExt, #In, #Gt, #SubsetEq, #SRel, #STRel, #SetMinus, #CProd, #DProd, #PProd, #DomRes, #DomSub, #RanRes, #RanSub, #UpTo, #RelImage, #LImp, #LEqv, #BUnion, #BInter, #BComp, #FComp, #Ovr, #LAnd, #LOr, #Natural, #Natural1, #EmptySet, #KPrj1Gen, #KPrj2Gen, #KIdGen, #BFalse, #Not, #Pow, #Pow1, #KUnion, #KDom, #KRan, #Converse, #QUnion, #Forall}
 use Rattle.frame.specs.Places.{Ctx, push}
 use Rattle.typing.specs.Typing.{typeOf}
-use Rattle.rules.specs.Change.{Change, to, same, _orElse_, when, isTag, onTag, with1, with2, unary, binary, binderSet, joined}
+use Rattle.rules.specs.Change.{Change, to, same, _orElse_, when, isTag, onTag, unary, binary, binderSet, joined}
 use Rattle.rules.specs.Negation.{isEmpty}
 
 -- `is_not_empty`
@@ -99,6 +96,7 @@ unfoldable pub subtrahends : Forest → Forest
 subtrahends nil = nil
 subtrahends (cons k ks) = withSubtrahend (minusOf k) (subtrahends ks)
 
+-- 37 is built by `not` of `rel`; 38 by `rel`, with the closure `make` on either side
 unfoldable pub interEmpty : Forest → Change
 interEmpty children =
     interSingle (firstSingle children)
@@ -109,6 +107,9 @@ interEmpty children =
 abbrev pub inter : Tree → Tree → Tree
 inter a b = many #BInter (pair a b)
 
+-- "A surjective relation set (204) is empty when A = ∅ and B ≠ ∅, not the reverse.": place 43.
+-- "BComp p, q tests ran(q) ∩ dom(p); FComp tests ran(p) ∩ dom(q).": places 57 and 56.
+-- `rel` builds what 40, 42, 46, 48 and 54 answer, `bfalse` the ⊥ of 36, 52, 60 and 61.
 unfoldable pub rewriteEqualsEmptySet : Ctx → Tree → Change
 rewriteEqualsEmptySet Γ expr =
     when (isTag #SetExt expr) (to 36 (leaf #BFalse))

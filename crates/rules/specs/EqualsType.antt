@@ -1,13 +1,10 @@
 -- `rewrite_equals_type` (document 000), in the source's order: a set equated to the type expression of its elements.
-use Prim.Native.Nat.{ℕ}
-use mathlib.Core.List.{List, []}
-use Rattle.frame.specs.Types.{Ty}
-use Rattle.frame.specs.Trees.{Tree, Forest, nil, cons, leaf, one, two, many, sole, pair, quantified, mapF}
+use Rattle.frame.specs.Trees.{Tree, leaf, two, many, sole, pair, quantified, mapF}
 use Rattle.frame.specs.Operators.{#SetExt, #Equal, #SetMinus, #CProd, #DProd, #PProd, #DomRes, #DomSub, #RanRes, #RanSub, #UpTo, #LImp, #BInter, #LAnd, #BFalse, #KInter, #Converse, #QInter, #Forall}
 use Rattle.frame.specs.Places.{Ctx, push}
 use Rattle.typing.specs.Typing.{typeOf, element}
 use Rattle.typing.specs.TypeExpression.{toExpression}
-use Rattle.rules.specs.Change.{Change, to, same, _orElse_, onTag, with1, with2, unary, binary, binderSet, joined}
+use Rattle.rules.specs.Change.{Change, to, _orElse_, onTag, unary, binary, binderSet, joined}
 use Rattle.rules.specs.Negation.{isEmpty}
 
 -- `ty_base_expression`: "the element type of a set-typed expression, as an expression"
@@ -18,9 +15,11 @@ baseExpression Γ e = toExpression (element (typeOf e Γ))
 abbrev pub isType : Ctx → Tree → Tree
 isType Γ e = two #Equal e (baseExpression Γ e)
 
+-- `conj` of two: with `isType` of two operands, as with `isType` of each child of ∩ (24), it is the closure `are_all_type`
 abbrev pub both : Tree → Tree → Tree
 both a b = joined #LAnd (pair a b)
 
+-- `bfalse` builds the ⊥ of 27, `rel` what 33 answers
 unfoldable pub rewriteEqualsType : Ctx → Tree → Change
 rewriteEqualsType Γ expr =
     onTag #BInter expr (λ ts children. to 24 (joined #LAnd (mapF (isType Γ) children)))

@@ -1,23 +1,22 @@
 -- The equations that a step may be an instance of: for every place of the taken functions that builds a tree, the
--- equation under its catalogue name, left side, right side and side condition. They are written from the Rodin
--- rewrite-rule pages as recalled and the Event-B Mathematical Language, not from the rules (docs/DIFFERENCES.md says where
--- a page states a step otherwise, and that the pages were not at hand). rules/proofs shows that whatever `dispatch`
--- gives is such an instance.
+-- equation under its catalogue name, left side, right side and side condition. They are written from the catalogue's
+-- statements as the source's comments have them, the Rodin rewrite-rule pages as recalled and the Event-B Mathematical
+-- Language, not from the rules (docs/DIFFERENCES.md says where a page states a step otherwise, and that the pages were not
+-- at hand). Nothing of the rules' definitions is used here. rules/proofs shows that whatever `dispatch` gives is such an instance.
 --
 -- Γ has the types of the binders around the predicate. An equation's number is the place of the source (docs/RULES.md).
 use mathlib.Core.Path.{_≡_}
-use mathlib.Core.Bool.{Bool, true}
 use mathlib.Core.Logic.{_⊎_}
-use mathlib.Core.List.{List, [], _∷_}
-use Prim.Native.Nat.{ℕ, _<_}
+use mathlib.Core.List.{List}
+use Prim.Native.Nat.{ℕ, _+_, _<_}
 use lib.ListN.{length}
-use Rattle.frame.specs.Types.{Ty, pow, prod}
-use Rattle.frame.specs.Trees.{Tree, Forest, nil, cons, count, leaf, one, two, many, typed, sole, pair, quantified, bodied, append, mapF}
-use Rattle.frame.specs.Operators.{#SetExt, #Equal, #Lt, #Le, #Gt, #Ge, #In, #SubsetEq, #Mapsto, #SRel, #STRel, #SetMinus, #CProd, #DProd, #PProd, #DomRes, #DomSub, #RanRes, #RanSub, #UpTo, #RelImage, #LImp, #LEqv, #BUnion, #BInter, #BComp, #FComp, #Ovr, #LAnd, #LOr, #Integer, #Natural, #Natural1, #Bool, #True, #False, #EmptySet, #KPrj1Gen, #KPrj2Gen, #KIdGen, #BTrue, #BFalse, #Finite, #Not, #Pow, #Pow1, #KUnion, #KInter, #KDom, #KRan, #Converse, #QUnion, #QInter, #CSet, #Forall, #Exists, #Partition}
+use Rattle.frame.specs.Types.{Ty, prod}
+use Rattle.frame.specs.Trees.{head, Tree, node, Forest, nil, cons, count, leaf, one, two, many, typed, sole, pair, quantified, bodied, append, mapF}
+use Rattle.frame.specs.Tags.{formOf, bindersOf}
+use Rattle.frame.specs.Operators.{#BoundIdent, #SetExt, #Equal, #Lt, #Le, #Gt, #Ge, #In, #SubsetEq, #Mapsto, #SRel, #STRel, #SetMinus, #CProd, #DProd, #PProd, #DomRes, #DomSub, #RanRes, #RanSub, #UpTo, #RelImage, #LImp, #LEqv, #BUnion, #BInter, #BComp, #FComp, #Ovr, #LAnd, #LOr, #Integer, #Natural, #Natural1, #Bool, #True, #False, #EmptySet, #KPrj1Gen, #KPrj2Gen, #KIdGen, #BTrue, #BFalse, #Finite, #Not, #Pow, #Pow1, #KUnion, #KInter, #KDom, #KRan, #Converse, #QUnion, #QInter, #CSet, #Forall, #Exists, #Partition}
 use Rattle.frame.specs.Places.{Ctx, push}
 use Rattle.typing.specs.Typing.{typeOf, element, relation}
 use Rattle.typing.specs.TypeExpression.{toExpression}
-use Rattle.rules.specs.Finite.{uses, recovers}
 
 -- ---- notation
 abbrev pub ⊤ : Tree
@@ -64,7 +63,7 @@ s ⊆ t = two #SubsetEq s t
 abbrev pub fin : Tree → Tree
 fin s = one #Finite s
 
--- {a, …, b}, and {a}
+-- {a, …, b}
 abbrev pub ext : Forest → Tree
 ext as′ = many #SetExt as′
 
@@ -125,6 +124,17 @@ pub data Subtracted : Forest → Forest → Forest → Type 0 where
   none : Subtracted nil nil nil
   minus : (a b : Tree) (ks ls ms : Forest) → Subtracted ks ls ms → Subtracted (cons (two #SetMinus a b) ks) (cons a ls) (cons b ms)
   other : (k : Tree) (ks ls ms : Forest) → Subtracted ks ls ms → Subtracted (cons k ks) (cons k ls) ms
+
+-- ---- binders: i counts back from the nearest list around a tree, as its index does
+-- it occurs in t; below a node with binders it is counted past these
+pub data Occurs : ℕ → Tree → Type 0 where
+  named : (i : ℕ) (us : List Ty) (ks : Forest) → Occurs i (node (head #BoundIdent i us) ks)
+  below : (i g n : ℕ) (us : List Ty) (ks : Forest) (k : Tree) → Among k ks → Occurs (i + length (bindersOf (formOf g .layout) us)) k → Occurs i (node (head g n us) ks)
+
+-- it is t, or a part of t that is reached through maplets only
+pub data Leaf : ℕ → Tree → Type 0 where
+  alone : (i : ℕ) (us : List Ty) (ks : Forest) → Leaf i (node (head #BoundIdent i us) ks)
+  side : (i n : ℕ) (us : List Ty) (ks : Forest) (k : Tree) → Among k ks → Leaf i k → Leaf i (node (head #Mapsto n us) ks)
 
 -- ---- E = ∅ == new, and E = Ty == new
 pub data Empties (Γ : Ctx) : ℕ → Tree → Tree → Type 0 where
@@ -203,8 +213,8 @@ pub data Equation (Γ : Ctx) : ℕ → Tree → Tree → Type 0 where
       → Equation Γ 8 (fin (two #CProd s t)) (⋁ (cons (_≐∅ Γ s) (pair (_≐∅ Γ t) (⋀ (pair (fin s) (fin t))))))
   «SIMP_FINITE_CONVERSE» : (r : Tree) → Equation Γ 9 (fin (one #Converse r)) (fin r)
   «SIMP_FINITE_UPTO» : (i j : Tree) → Equation Γ 10 (fin (two #UpTo i j)) ⊤
-  -- the binders that F uses are leaves of maplets in E
-  «SIMP_FINITE_LAMBDA» : (xs : List Ty) (p e f : Tree) → ((i : ℕ) → i < length xs → uses f i ≡ true → recovers e i ≡ true)
+  -- each of the binders xs that occurs in F is a leaf of maplets in E
+  «SIMP_FINITE_LAMBDA» : (xs : List Ty) (p e f : Tree) → ((i : ℕ) → i < length xs → Occurs i f → Leaf i e)
       → Equation Γ 11 (fin (bodied #CSet xs p (two #Mapsto e f))) (fin (bodied #CSet xs p e))
   «SIMP_FINITE_ID_DOMRES» : (e : Tree) (t : Ty) → Equation Γ 12 (fin (two #DomRes e (typed #KIdGen t))) (fin e)
   «SIMP_FINITE_PRJ1_DOMRES» : (e : Tree) (t : Ty) → Equation Γ 12 (fin (two #DomRes e (typed #KPrj1Gen t))) (fin e)
@@ -229,11 +239,11 @@ pub data Equation (Γ : Ctx) : ℕ → Tree → Tree → Type 0 where
   -- simplify_assoc_pred; SIMP_SPECIAL_AND_BFALSE is P ∧ … ∧ ⊥ ∧ … ∧ Q == ⊥, and so on
   «SIMP_SPECIAL_AND_BFALSE/OR_BTRUE» : (g n d : ℕ) (ps : Forest) → Junction g n d → Among (leaf d) ps → Equation Γ 62 (many g ps) (leaf d)
   «SIMP_MULTI_AND_NOT/OR_NOT» : (g n d : ℕ) (ps : Forest) (q : Tree) → Junction g n d → Among q ps → Among (¬ᵖ q) ps → Equation Γ 62 (many g ps) (leaf d)
-  -- SIMP_SPECIAL_AND_BTRUE, SIMP_MULTI_AND, SIMP_SPECIAL_OR_BFALSE, SIMP_MULTI_OR: nothing is left, one, or more; some
+  -- SIMP_SPECIAL_AND_BTRUE and SIMP_MULTI_AND, SIMP_SPECIAL_OR_BFALSE and SIMP_MULTI_OR: nothing is left, one, or more; some
   -- operand is dropped
   «SIMP_SPECIAL_AND_BTRUE/OR_BFALSE/none» : (g n d : ℕ) (ps : Forest) → Junction g n d → Dropped n ps nil → Equation Γ 63 (many g ps) (leaf n)
-  «SIMP_SPECIAL_AND_BTRUE/MULTI_AND/one» : (g n d : ℕ) (ps : Forest) (p : Tree) → Junction g n d → Dropped n ps (sole p) → Equation Γ 64 (many g ps) p
-  «SIMP_SPECIAL_AND_BTRUE/MULTI_AND» : (g n d : ℕ) (ps : Forest) (p q : Tree) (qs : Forest) → Junction g n d → Dropped n ps (cons p (cons q qs))
+  «SIMP_SPECIAL_AND_BTRUE/OR_BFALSE/MULTI_AND/OR/one» : (g n d : ℕ) (ps : Forest) (p : Tree) → Junction g n d → Dropped n ps (sole p) → Equation Γ 64 (many g ps) p
+  «SIMP_SPECIAL_AND_BTRUE/OR_BFALSE/MULTI_AND/OR» : (g n d : ℕ) (ps : Forest) (p q : Tree) (qs : Forest) → Junction g n d → Dropped n ps (cons p (cons q qs))
       → (count (cons p (cons q qs)) ≡ count ps → ⊥)
       → Equation Γ 65 (many g ps) (many g (cons p (cons q qs)))
   -- simplify_predicate_node: ⇒

@@ -1,17 +1,17 @@
 -- `rewrite_finite` and `functional_check` (document 000), in the source's order.
 use Prim.Native.Nat.{ℕ, zero, suc, _+_}
 use mathlib.Core.Bool.{Bool, true, false, not, _&&_, _||_}
-use mathlib.Core.List.{List, [], _∷_}
+use mathlib.Core.List.{List}
 use lib.ListN.{length}
 use lib.Dec.{eqb}
 use Rattle.frame.specs.Types.{Ty}
-use Rattle.frame.specs.Trees.{Head, head, Tree, node, Forest, nil, cons, leaf, one, two, many, typed, pair, bodied, mapF}
-use Rattle.frame.specs.Tags.{pick, formOf, bindersOf}
+use Rattle.frame.specs.Trees.{head, Tree, node, Forest, nil, cons, leaf, one, many, pair, bodied, mapF}
+use Rattle.frame.specs.Tags.{formOf, bindersOf}
 use Rattle.frame.specs.Operators.{#BoundIdent, #SetExt, #Mapsto, #CProd, #DomRes, #UpTo, #BUnion, #LAnd, #LOr, #Integer, #Natural, #Natural1, #Bool, #EmptySet, #KPrj1Gen, #KPrj2Gen, #KIdGen, #BTrue, #BFalse, #Finite, #Pow, #Converse, #CSet}
 use Rattle.frame.specs.Places.{Ctx}
 use Rattle.typing.specs.Typing.{carriedTy, source}
 use Rattle.typing.specs.TypeExpression.{toExpression}
-use Rattle.rules.specs.Change.{Change, to, same, _orElse_, when, isTag, onTag, with1, with2, unary, binary, binderSet}
+use Rattle.rules.specs.Change.{Change, to, _orElse_, when, isTag, onTag, unary, binary, binderSet}
 use Rattle.rules.specs.Negation.{isEmpty}
 
 -- `finite`
@@ -38,6 +38,7 @@ unfoldable mutual
   recoversIn (cons t ts) i = recovers t i || recoversIn ts i
 
 -- "every locally bound identifier the maplet's right side uses must occur in the left side at a pattern position"
+-- "In the finite-set-of-pairs rule, a binder of the right side counts as recovered only if it is a leaf of maplets on the left."
 unfoldable pub functionalCheck : Tree → Tree → ℕ → Bool
 functionalCheck left right zero = true
 functionalCheck left right (suc i) = (not (uses right i) || recovers left i) && functionalCheck left right i
@@ -56,6 +57,8 @@ finiteSource place ts = to place (finite (toExpression (source (carriedTy ts))))
 abbrev pub isProjection : Tree → Bool
 isProjection e = isTag #KIdGen e || (isTag #KPrj1Gen e || isTag #KPrj2Gen e)
 
+-- "finite(A × B) is A = ∅ or B = ∅ or both finite, in that nesting.": place 8. `btrue` and `bfalse` build the ⊤ and ⊥ of 1 to 3,
+-- 5 and 10.
 unfoldable pub rewriteFinite : Ctx → Tree → Change
 rewriteFinite Γ child =
     when (isTag #EmptySet child) (to 1 (leaf #BTrue))

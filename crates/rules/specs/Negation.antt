@@ -1,15 +1,16 @@
 -- `rewrite_not` and `rewrite_partition` (document 000), in the source's order.
-use Prim.Native.Nat.{ℕ}
 use Rattle.frame.specs.Trees.{Tree, Forest, nil, cons, leaf, two, typed}
 use Rattle.frame.specs.Operators.{#Equal, #Lt, #Le, #Gt, #Ge, #True, #False, #EmptySet, #Not}
 use Rattle.frame.specs.Places.{Ctx}
 use Rattle.typing.specs.Typing.{typeOf}
-use Rattle.rules.specs.Change.{Change, to, same, _orElse_, when, isTag, onTag, with1, with2, unary, binary}
+use Rattle.rules.specs.Change.{Change, to, same, _orElse_, when, isTag, unary, binary}
 
 -- `is_empty`: "`E = ∅` with the empty set typed like `E`"
 abbrev pub isEmpty : Ctx → Tree → Tree
 isEmpty Γ e = two #Equal e (typed #EmptySet (typeOf e Γ))
 
+-- "¬(a ≤ b) is a > b." The closure `flip` builds what 16 to 19 answer; `bool_atom` builds the TRUE and FALSE of 20 to 23, and
+-- `is_atomic` is `isTag`.
 abbrev pub rewriteNotInner : Tree → Change
 rewriteNotInner inner =
     binary #Le inner (λ left right. to 16 (two #Gt left right))

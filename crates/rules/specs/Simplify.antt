@@ -1,16 +1,17 @@
--- `make_neg` (document 003), `simplify_assoc_pred` and `simplify_predicate_node` (document 002), in the source's order.
+-- `make_neg` (document 003), `simplify_assoc_pred` and `simplify_predicate_node` (document 002), in the source's order: "Source
+-- decides on rule order and built tree; the Event-B Mathematical Language on meaning and typing."
 use Prim.Native.Nat.{ℕ}
-use mathlib.Core.Bool.{Bool, true, false, not, _||_}
-use mathlib.Core.List.{List, []}
+use mathlib.Core.Bool.{Bool, not, _||_}
+use mathlib.Core.List.{List}
 use lib.Dec.{eqb}
 use Rattle.frame.specs.Types.{Ty}
-use Rattle.frame.specs.Trees.{Head, head, Tree, node, Forest, nil, cons, count, leaf, one, two, many, quantified, append, mapF}
+use Rattle.frame.specs.Trees.{head, Tree, node, Forest, nil, cons, count, leaf, one, two, many, quantified, append, mapF}
 use Rattle.frame.specs.Tags.{pick}
 use Rattle.frame.specs.Operators.{#LImp, #LEqv, #LAnd, #LOr, #BTrue, #BFalse, #Not, #Forall, #Exists}
 use Rattle.frame.specs.Sameness.{sameTree}
-use Rattle.rules.specs.Change.{Change, to, same, _orElse_, when, isTag, onTag, with1, unary, binary, quantifier, contains}
+use Rattle.rules.specs.Change.{Change, to, _orElse_, when, isTag, onTag, unary, binary, quantifier, contains}
 
--- `is_literal`
+-- `is_literal`; what `literal` builds is `leaf`
 abbrev pub isLiteral : ℕ → Tree → Bool
 isLiteral g t = isTag g t
 
@@ -19,13 +20,14 @@ soleOr d nil = d
 soleOr d (cons p nil) = p
 soleOr d (cons p (cons q ks)) = d
 
--- "Negate, removing an existing negation."
+-- `make_neg`: "Negate, removing an existing negation."
 unfoldable pub makeNeg : Tree → Tree
 makeNeg (node (head g n ts) ks) =
     let t = node (head g n ts) ks in pick (eqb g #Not) (soleOr (one #Not t) ks) (one #Not t)
 
 -- ---- `simplify_assoc_pred`
--- what becomes of a child, given the children kept before it
+-- what becomes of a child, given the children kept before it: it decides all where it is the determinant literal or meets its
+-- opposite among them
 pub data Verdict : Type 0 where
   drops keeps decides : Verdict
 
@@ -45,6 +47,8 @@ afterVerdict drops child out go = go out
 afterVerdict keeps child out go = go (append out (cons child nil))
 afterVerdict decides child out go = decided
 
+-- "leaves both loops once a child meets its opposite": where a child decides, those after it are not looked at. In the code
+-- "`out.contains` becomes a search over kept children that leaves both loops once a child meets its opposite."
 unfoldable pub scan : ℕ → ℕ → Forest → Forest → Kept
 scan neutral determinant nil out = kept out
 scan neutral determinant (cons child children) out =

@@ -22,7 +22,8 @@ use Rattle.step.proofs.Steps.{step-accepted, fit-wrote}
 use Rattle.run.specs.Run as R
 use Rattle.run.specs.Run.{Ran, ran, endedBy, runTree, run}
 use Rattle.run.specs.Series.{Call, stepAt, runWith, heldAfterStep, heldAfterRun, heldAfter, stepCount, runCount, changesOf, heldAfterAll, changingSteps}
-use Rattle.run.proofs.Runs.{Steps, none, more, steps-join, run-steps}
+use Rattle.run.specs.Steps.{Steps, none, more}
+use Rattle.run.proofs.Runs.{steps-join, run-steps}
 
 -- accepted trees stay accepted over steps
 pub steps-accepted : (σ : ℕ → Ty) {t u : Tree} {n : ℕ} → Steps t n u → Accepted σ t [] predicate → Accepted σ u [] predicate

@@ -1,6 +1,6 @@
 -- A run is a row of steps.
--- Main results: Steps (trees that lie some changing steps apart), first-step (what a run does next is a step), run-steps (a
--- run's last tree lies as many steps from the first as the run counts, and its frame is within the limit).
+-- Main results: steps-join; first-step (what a run does next is a step), run-steps (a run's last tree lies as many steps from the
+-- first as the run counts, and its frame is within the limit).
 use mathlib.Core.Path.{_≡_, refl, ap, _∙_}
 use mathlib.Core.Bool.{Bool, true, false}
 use Prim.Native.Nat.{ℕ, zero, suc, _+_, _≤_}
@@ -13,12 +13,8 @@ use Rattle.frame.specs.Tags.{pick}
 use Rattle.frame.specs.Encoding.{enc}
 use Rattle.frame.specs.Reading.{frameLimit}
 use Rattle.step.specs.Step.{Stepped, changed, unchanged, noPlace, stepTree}
+use Rattle.run.specs.Steps.{Steps, none, more}
 use Rattle.run.specs.Run.{First, next, nowhere, orNext, firstFrom, firstStep, Word, FULL, ran, atEnd, goOn, runTree}
-
--- u lies n changing steps after t, at any places
-pub data Steps : Tree → ℕ → Tree → Type 0 where
-  none : (t : Tree) → Steps t 0 t
-  more : (t u v : Tree) (k place n : ℕ) → stepTree t k ≡ changed place u → Steps u n v → Steps t (suc n) v
 
 pub steps-join : {t u v : Tree} {m n : ℕ} → Steps t m u → Steps u n v → Steps t (m + n) v
 steps-join {n = n} (none t) s = let z : n ≡ 0 + n = omega arith in rw (← z) s

@@ -1,6 +1,6 @@
 -- The figure for finite of a union (document 01: "On finite of a union of k pairwise different set extensions, a run that
 -- ends in REST takes at most 2 × k steps.").
--- Main results: union-figure (it takes exactly 2 × k), union-bound and frame-bound (the sentence, on trees and on frames).
+-- Main results: union-figure (it takes exactly 2 × k), union-bound (the sentence on trees), union-frames (on frames: UnionBound).
 --
 -- The first step gives the conjunction of all finite(S). While two or more are left, no rule applies to the conjunction; its
 -- first child, at place 1, becomes ⊤, and the next step drops that ⊤. The last finite(S), alone, becomes ⊤. A member of an
@@ -35,18 +35,8 @@ use Rattle.rules.specs.Dispatch.{dispatch}
 use Rattle.rules.specs.Equations.{Among, ⊤}
 use Rattle.rules.proofs.Operands.{append-nil, append-assoc}
 use Rattle.step.specs.Step.{changed, unchanged, stepTree}
+use Rattle.run.specs.UnionFigure.{Extensions, Different, UnionBound}
 use Rattle.run.specs.Run.{next, nowhere, firstFrom, firstStep, REST, SPENT, FULL, Ran, ran, runTree, ended, turnedDown, endedBy, run}
-
--- ---- the premises
--- set extensions
-abbrev pub Extensions : Forest → Type 0
-Extensions nil = Unit {0}
-Extensions (cons k ks) = (tagOf k ≡ #SetExt) × Extensions ks
-
--- pairwise different: none stands again among the later ones
-abbrev pub Different : Forest → Type 0
-Different nil = Unit {0}
-Different (cons k ks) = (Among k ks → ⊥) × Different ks
 
 -- ---- lists
 abbrev finites : Forest → Forest
@@ -235,10 +225,9 @@ two-members s b ks e =
     let a = check-accepts s b (one #Finite (many #BUnion ks)) e .accepted in
     ltb-true 1 (count ks) (both-true (leb 2 (count ks)) (leb (count ks) 255) (a .kids .0 .top .formed .range) .0)
 
-pub frame-bound : (s : List ℕ) → Bytes s → (ks : Forest) → check s ≡ accepted (one #Finite (many #BUnion ks)) → Extensions ks → Different ks
-    → (budget c m : ℕ) (xs : List ℕ) → run s budget c ≡ ended REST m xs → m ≤ 2 * count ks
+pub union-frames : UnionBound
 unfolding run
-frame-bound s b ks a x d budget c m xs e =
+union-frames s b ks a x d budget c m xs e =
     let never : turnedDown 12 ≡ ended REST m xs → ⊥ = (λ w. let z : _≡_ {A = ℕ} 0 1 = cc in omega arith) in
     go (runTree budget 0 (one #Finite (many #BUnion ks))) refl (else-of (ltb c frameLimit) _ _ _ never (rw a at e) .1)
   where

@@ -1,2 +1,4 @@
 pub mod Run
+pub mod Steps
+pub mod UnionFigure
 pub mod Series

@@ -37,6 +37,7 @@ firstStep t = firstFrom (nodes t) t 0
 pub data Word : Type 0 where
   REST SPENT FULL : Word
 
+-- "It answers with the count of changing steps"; "The run takes a budget and returns a count equal to the steps of its definition."
 pub data Ran : Type 0 where
   -- the word, the count of changing steps, the last tree
   ran : Word → ℕ → Tree → Ran
@@ -72,7 +73,8 @@ runOn budget c (refused n) = turnedDown n
 unfoldable pub run : List ℕ → ℕ → ℕ → RunOutcome
 run s budget c = runOn budget c (check s)
 
--- the answer's case, number and values: "Its answer, and a run's, gives the frame's length."
+-- "Where an answer is an enum, a definition gives this paper's number and values for each case of the enum. The promises use that
+-- definition." "Its answer, and a run's, gives the frame's length."
 abbrev pub wordAnswer : Word → ℕ → ℕ → RunAnswer
 wordAnswer REST n l = Rest n l
 wordAnswer SPENT n l = Spent n l
@@ -82,7 +84,8 @@ abbrev pub runAnswer : RunOutcome → RunAnswer
 runAnswer (ended w n xs) = wordAnswer w n (length xs)
 runAnswer (turnedDown c) = Refused c
 
--- "The output then holds the last tree from byte 0, and each byte after it is as before the run."
+-- "The output then holds the last tree from byte 0, and each byte after it is as before the run."; of a number: "Each answers its number
+-- alone and leaves the output's old bytes."
 abbrev pub runOutput : RunOutcome → List ℕ → List ℕ
 runOutput (ended w n xs) d = xs ++ drop (length xs) d
 runOutput (turnedDown c) d = d

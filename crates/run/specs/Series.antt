@@ -1,5 +1,5 @@
 -- A series of calls (document 01, "The answer record", last paragraph).
-use Prim.Native.Nat.{ℕ, zero, suc, _+_}
+use Prim.Native.Nat.{ℕ, _+_}
 use mathlib.Core.List.{List, [], _∷_}
 use lib.ListN.{length, take}
 use Rattle.step.specs.Step.{Outcome, wrote, kept, turnedDown, step, stepOutput}
@@ -42,7 +42,8 @@ unfoldable pub changesOf : List ℕ → Call → ℕ
 changesOf held (stepAt k d) = stepCount (step held k (length d))
 changesOf held (runWith b d) = runCount (run held b (length d))
 
--- the frame held after all the calls, and the number of changing steps
+-- the frame held after all the calls, and the number of changing steps. "Between calls nobody writes it": what one call leaves is what
+-- the next reads.
 unfoldable pub heldAfterAll : List ℕ → List Call → List ℕ
 heldAfterAll held [] = held
 heldAfterAll held (c ∷ cs) = heldAfterAll (heldAfter held c) cs

@@ -1,2 +1,1 @@
-pub mod SearchTurns
 pub mod Turns

@@ -12,26 +12,25 @@ use borrow.Author.Tests.{lt-ltb, le-ltb, ltb-true, ltb-false}
 use Rattle.frame.specs.Trees.{Tree}
 use Rattle.frame.specs.Tags.{pick}
 use Rattle.frame.specs.Encoding.{enc}
-use Rattle.frame.specs.Reading.{tree}
 use Rattle.frame.specs.Spans.{Bytes}
 use Rattle.typing.specs.Check.{Checked, accepted, refused, check}
-use Rattle.typing.specs.Buffers.{Copied}
+use Rattle.type_bytes.specs.Buffers.{Copied}
 use Rattle.typing.specs.Signature.{signature}
 use Rattle.typing.proofs.Checked.{check-accepts, check-back}
-use Rattle.rules.specs.Change.{to}
-use Rattle.emit.specs.Out.{Wrote}
-use Rattle.emit.proofs.Puts.{wrote-held, wrote-full}
+use Rattle.put.specs.Out.{Wrote}
+use Rattle.put.proofs.Puts.{wrote-held, wrote-full}
 use Rattle.step.proofs.Steps.{step-accepted}
-use Rattle.stepping.proofs.Turns.{copied-front}
+use Rattle.output.proofs.OutTurns.{copied-front}
 use Rattle.checking.specs.Posts.{checkAnswer}
 use Rattle.checking.specs.declared.CheckAnswer.{CheckAnswer}
 use Rattle.checking.specs.declared.CheckAnswer.the-variants as C
 use Rattle.run.specs.Run.{First, next, nowhere, firstStep, Word, REST, SPENT, FULL, ran, atEnd, goOn, runTree, RunOutcome, ended, turnedDown, endedBy, runOn, run, wordAnswer, runAnswer, runOutput}
 use Rattle.run.proofs.Runs.{first-step}
 use Rattle.run.specs.declared.RunAnswer.the-variants as A
-use Rattle.running.specs.Posts.{Gives, FirstPre, FirstPost, RoundsPre, RunEnded, RoundsPost, CheckedPre, RunPost}
-use Rattle.running.specs.declared.Next.{Next}
-use Rattle.running.specs.declared.Next.the-variants as N
+use Rattle.searching.specs.SearchPosts.{Gives, FirstPre, FirstPost}
+use Rattle.running.specs.Posts.{RoundsPre, RunEnded, RoundsPost, CheckedPre, RunPost}
+use Rattle.searching.specs.declared.Next.{Next}
+use Rattle.searching.specs.declared.Next.the-variants as N
 use Rattle.running.specs.declared.Ended.{Ended}
 
 -- ---- `rounds`

@@ -1,6 +1,7 @@
--- The starred cases of document 01, "Frames to try", in one table proved by one evaluation of the definitions: the whole
--- step on bytes, at place 0, with an output of 4,096 bytes. `b` is identifier 7 of type BOOL, P is b = TRUE, `a` is
--- identifier 8 of type BOOL; S and T are 1 and 2 of type ℙ(BOOL); p, q, r are 3, 4, 5 of type ℙ(BOOL×BOOL).
+-- "The starred cases form one table, proved by one evaluation of the definitions": those of document 01, "Frames to try", each by
+-- the whole step on bytes, at place 0, with an output of 4,096 bytes. "`b` is identifier 7 of type BOOL; P is b = TRUE,
+-- 006500010007000195. `a` is identifier 8 of type BOOL; S and T are 1 and 2 of type ℙ(BOOL); p, q, r are 3, 4, 5 of type
+-- ℙ(BOOL×BOOL)."
 use mathlib.Core.Path.{_≡_, refl}
 use mathlib.Core.List.{List, [], _∷_, map}
 use Prim.Native.Nat.{ℕ}
@@ -22,7 +23,7 @@ use Rattle.rules.specs.Finite.{uses, recovers, functionalCheck, rewriteFinite}
 use Rattle.rules.specs.EqualsEmptySet.{anySingle, firstSingle, anyMinus, minuends, subtrahends, interEmpty, rewriteEqualsEmptySet}
 use Rattle.rules.specs.EqualsType.{rewriteEqualsType}
 use Rattle.rules.specs.Dispatch.{dispatch}
-use Rattle.step.specs.Step.{Outcome, wrote, kept, turnedDown, stepTree, fit, step}
+use Rattle.step.specs.Step.{Outcome, wrote, kept, stepTree, fit, step}
 
 pub data Case : Type 0 where
   -- a frame, and what becomes of it

@@ -8,7 +8,7 @@ use Rattle.frame.specs.Trees.{Tree, tagOf}
 use Rattle.frame.specs.Tags.{pick, predicate, sameSort, formOf}
 use Rattle.frame.specs.Encoding.{enc}
 use Rattle.frame.specs.Reading.{frameLimit}
-use Rattle.frame.specs.Places.{Ctx, Found, found, absent, find, replace}
+use Rattle.frame.specs.Places.{Found, found, absent, find, replace}
 use Rattle.typing.specs.Check.{Checked, accepted, refused, check}
 use Rattle.rules.specs.Change.{Change, to, same}
 use Rattle.rules.specs.Dispatch.{dispatch}
@@ -61,8 +61,8 @@ outcomeOn k c (refused n) = turnedDown n
 unfoldable pub step : List ℕ → ℕ → ℕ → Outcome
 step s k c = outcomeOn k c (check s)
 
--- "Where an answer is an enum, a definition gives this paper's number and values for each case of the enum."
--- "Its answer [..] gives the frame's length."
+-- "Where an answer is an enum, a definition gives this paper's number and values for each case of the enum. The promises use that
+-- definition." "Its answer [..] gives the frame's length."
 abbrev pub stepAnswer : Outcome → StepAnswer
 stepAnswer (wrote xs) = Changed (length xs)
 stepAnswer kept = Unchanged

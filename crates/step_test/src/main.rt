@@ -1,11 +1,11 @@
 // Reads lines `PLACE LENT FRAME` from standard input, numbers in decimal and the frame in capital hexadecimal, and prints
 // what a step at that place answers that is lent so many bytes: CHANGED and the new frame, UNCHANGED, or REFUSED and the
 // number. Where a byte was written that must stay as it was, TOUCHED follows. A line of another form is REFUSED 1.
-use frame::lines::LineAnswer;
-use frame::lines::LineState;
 use frame::refusals::BAD_LINE;
 use libc::STDIN_FILENO;
 use libc::STDOUT_FILENO;
+use lines::LineAnswer;
+use lines::LineState;
 use step::StepAnswer;
 
 // The most that a line may lend.
@@ -57,7 +57,7 @@ fn print_part(s: &[u8], n: usize) {
 
 fn print_text(frame: &[u8]) {
     let mut text = [0u8; 8192];
-    let n = frame::lines::write_line(frame, &mut text);
+    let n = lines::write_line(frame, &mut text);
     print_part(&text, n)
 }
 
@@ -115,7 +115,7 @@ struct Line {
 }
 
 fn line_in(part: u8, place: usize, lent: usize) -> Line {
-    let text = frame::lines::line_start();
+    let text = lines::line_start();
     Line {
         part: part,
         place: place,
@@ -185,7 +185,7 @@ fn print_frame(buf: &[u8], n: usize, place: usize, lent: usize) {
 
 fn print_line(line: Line, buf: &[u8; 4096]) {
     if line.part == FRAME {
-        let answer = frame::lines::line_end(line.text);
+        let answer = lines::line_end(line.text);
         match answer {
             LineAnswer::Frame(n) => print_frame(buf, n, line.place, line.lent),
             LineAnswer::Refused(c) => print_refused(c),
@@ -204,7 +204,7 @@ fn take(line: Line, c: u8, buf: &mut [u8; 4096]) -> Line {
     }
     if line.part == FRAME {
         let piece = [c];
-        let text = frame::lines::line_piece(line.text, &piece, buf);
+        let text = lines::line_piece(line.text, &piece, buf);
         return Line {
             part: FRAME,
             place: line.place,

@@ -1,59 +1,17 @@
 // One step at a place of a frame: the frame is checked, the rules decide at the place, the new frame is written.
-use build::subtree::build;
 use checking::CheckAnswer;
-use emit::put::put_copy;
-use frame::reading::FrameAnswer;
-use nav::places::end_at;
-use nav::places::is_expression_at;
-use nav::places::nexts;
-use nav::places::start_at;
-use rewriter::contains::rests;
-use rewriter::decision::Decision;
+use decision::contains::rests;
+use nav::is_expression_at;
+use nav::nexts;
+use reading::FrameAnswer;
 use rewriter::dispatch::decide;
 use step::StepAnswer;
-use typing::type_bytes::copy_in;
 ghost use mathlib.Core.Path.{_≡_};
 ghost use lib.ListN.{length};
 ghost use Rattle.step.specs.Step.{step as stepped, stepAnswer, stepOutput};
-ghost use Rattle.stepping.specs.Posts.{SplicePre, SplicePost, OutPre, OutPost, HeldPre, ReadPre, StepPost};
-
-// The frame's bytes with those of the decision's subtree in the place of the subtree at place k, in the scratch buffer. The
-// answer is how many they are; 4,097 if they don't fit.
-pub fn splice(
-    s: &[u8],
-    n: usize,
-    starts: &[u16; 2048],
-    nexts: &[u16; 2048],
-    leaves: &[u16; 2048],
-    k: usize,
-    kept: &[u16; 256],
-    d: Decision,
-    out: &mut [u8; 4096],
-) -> usize
-    requires { ⌜ SplicePre (now s) n (now starts) (now nexts) (now leaves) k (now kept) d (now out) ⌝ }
-    ensures { λ r. ⌜ SplicePost (now (s .entry)) n (now (starts .entry)) (now (nexts .entry)) (now (leaves .entry)) k (now (kept .entry)) d (now (out .exit)) r ⌝ }
-{
-    let from = start_at(starts, k);
-    let to = end_at(s, n, starts, nexts, k);
-    let q = put_copy(out, 0, s, 0, from);
-    let q = build(s, n, starts, nexts, leaves, k, kept, d, out, q);
-    put_copy(out, q, s, to, s.len())
-}
-
-// The m bytes in the scratch buffer go to the output, if they fit both.
-fn write_out(scratch: &[u8; 4096], m: usize, out: &mut [u8]) -> StepAnswer
-    requires { ⌜ OutPre (now scratch) m ⌝ }
-    ensures { λ r. ⌜ OutPost (now (scratch .entry)) m (now (out .entry)) (now (out .exit)) r ⌝ }
-{
-    if 4096 < m {
-        return StepAnswer::Refused(12);
-    }
-    if out.len() < m {
-        return StepAnswer::Refused(12);
-    }
-    copy_in(scratch, 0, m, out, 0);
-    StepAnswer::Changed(m)
-}
+ghost use Rattle.stepping.specs.Posts.{HeldPre, ReadPre, StepPost};
+use output::write_out;
+use splicing::splice;
 
 // The step at place k of an accepted frame with n nodes.
 fn step_held(
@@ -102,7 +60,7 @@ fn step_read(s: &[u8], n: usize, starts: &[u16; 2048], k: usize, out: &mut [u8])
 pub fn step(frame: &[u8], place: usize, out: &mut [u8]) -> StepAnswer
     ensures { λ r. ⌜ (r ≡ stepAnswer (stepped (now (frame .entry)) place (length (now (out .entry))))) × (now (out .exit) ≡ stepOutput (stepped (now (frame .entry)) place (length (now (out .entry)))) (now (out .entry))) ⌝ }
 {
-    let read = frame::reading::read(frame);
+    let read = reading::read(frame);
     let answer = read.answer;
     match answer {
         FrameAnswer::Refused(c) => StepAnswer::Refused(c),

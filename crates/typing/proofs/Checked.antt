@@ -1,7 +1,6 @@
 -- Frames that are checked, and trees that are accepted.
 -- Main results: check-accepts (what an accepted frame's tree is), check-back (an accepted tree's bytes are an accepted frame).
-use mathlib.Core.Path.{_≡_, refl, sym, ap, _∙_}
-use mathlib.Core.Bool.{Bool, true, false}
+use mathlib.Core.Path.{_≡_, refl, ap, _∙_}
 use mathlib.Core.List.{List, []}
 use Prim.Native.Nat.{ℕ, _≤_}
 use native.Mathlib.Omega.{arith}
@@ -12,10 +11,10 @@ use Rattle.frame.specs.Tags.{predicate}
 use Rattle.frame.specs.Encoding.{enc}
 use Rattle.frame.specs.Reading.{Parsed, tree, bad, parse, frameLimit}
 use Rattle.frame.specs.Spans.{Bytes}
-use Rattle.frame.proofs.Frames.{ParseEnc, parse-enc, parse-back}
+use Rattle.frame.proofs.Frames.{parse-enc, parse-back}
 use Rattle.typing.specs.Accepted.{Accepted}
 use Rattle.typing.specs.Signature.{signature}
-use Rattle.typing.specs.Check.{Checked, accepted, refused, checkTree, checkParsed, check}
+use Rattle.typing.specs.Check.{accepted, refused, checkParsed, check}
 use Rattle.typing.proofs.Decides.{check-accepted, accepted-check, accepted-wf}
 
 pub refused-not {ℓ} : {X : Type ℓ} (c : ℕ) (t : Tree) → refused c ≡ accepted t → X

@@ -10,7 +10,7 @@ use lib.ListN.{length}
 use lib.Dec.{leb}
 use borrow.Author.Tests.{leb-true, le-leb}
 use Rattle.frame.specs.Types.{Ty}
-use Rattle.frame.specs.Trees.{Head, head, Tree, node, Forest, nil, cons, count}
+use Rattle.frame.specs.Trees.{head, Tree, node, Forest, nil, cons, count}
 use Rattle.frame.specs.Tags.{pick, Sort, predicate, classOf, formOf, sortsOf}
 use Rattle.frame.specs.Encoding.{encTy}
 use Rattle.frame.specs.Reading.{typeLimit}
@@ -20,9 +20,9 @@ use Rattle.frame.specs.WellFormed.{HeadWf, Wf, Wfs, numberIn}
 use Rattle.typing.specs.Typing.{wants, result, shape, carriedTy, typesIn, nodeTyped, typedTree, typedForest}
 use Rattle.typing.specs.Binding.{indexBound, closedTree, closedForest}
 use Rattle.typing.specs.Identifiers.{namesAgree}
-use Rattle.typing.specs.Check.{Checked, accepted, refused, checkTree}
+use Rattle.typing.specs.Check.{accepted, refused, checkTree}
 use Rattle.typing.specs.Signature.{signature}
-use Rattle.typing.specs.Accepted.{Node, HeadOk, Accepted, AcceptedAll}
+use Rattle.typing.specs.Accepted.{Accepted, AcceptedAll}
 use Rattle.frame.proofs.SameTrees.{both-true, same-ty, same-tys}
 use Rattle.typing.proofs.Same.{and-both, same-ty-of, same-tys-of}
 use Rattle.typing.proofs.Names.{Signed, SignedAll, signed-kids, signed-first, signed-rest, node-named, node-types, names-signed, accepted-names}

@@ -1,17 +1,16 @@
 -- Derived types hold no other given sets than the types that a tree carries.
 -- Main results: derived-ok, derived-all-ok (the types of accepted trees are signed by σ), result-ok (one node),
 -- push-ok (contexts), short-of (an accepted tree's type has at most 64 bytes).
-use mathlib.Core.Path.{_≡_, refl}
 use mathlib.Core.List.{List, [], _∷_}
 use Prim.Native.Nat.{ℕ, zero, suc, _≤_}
 use lib.ListN.{length}
 use Rattle.frame.specs.Types.{Ty, bool, int, given, pow, prod}
-use Rattle.frame.specs.Trees.{Head, head, Tree, node, Forest, nil, cons}
+use Rattle.frame.specs.Trees.{head, Tree, node, Forest, nil, cons}
 use Rattle.frame.specs.Tags.{Sort, Layout, these, payload, counted, binding, bindersOf, classOf, formOf, Class, literalPred, equality, order, membership, inclusion, binaryPred, associativePred, negation, quantifiedPred, finite, partition, identifier, bound, literal, setExtension, maplet, relationSet, setMinus, cartesian, directProduct, parallelProduct, domainRestriction, rangeRestriction, upTo, arithmetic, functionImage, relationalImage, setOperation, backwardComposition, forwardComposition, override, sum, integerSet, boolSet, truthValue, integerRelation, emptySet, projection1, projection2, identity, boolExpr, cardinal, powerset, generalised, domain, range, extremum, converse, unaryMinus, quantifiedSet, comprehension, unlisted}
 use Rattle.frame.specs.Encoding.{encTy}
 use Rattle.frame.specs.Places.{Ctx, push, under}
 use Rattle.typing.specs.Typing.{element, first, second, source, target, ty, lastTy, typeAt, carriedTy, result, typeOf, typesIn}
-use Rattle.typing.specs.Accepted.{TyOk, TysOk, HeadOk, Accepted, AcceptedAll}
+use Rattle.typing.specs.Accepted.{TyOk, TysOk, Accepted, AcceptedAll}
 
 module _ (σ : ℕ → Ty) where
   -- ---- parts of types

@@ -3,15 +3,15 @@
 -- node-named, node-types (HeadOk's fields `named` and `types` at a node that is signed), signed-kids, signed-first,
 -- signed-rest (what is signed goes down), accepted-signed, accepted-names; derived-signed (a signed tree's derived types
 -- hold no other given sets, well typed or not: number 9 need not look at them).
-use mathlib.Core.Path.{_≡_, refl, sym, ap, subst, _∙_}
-use mathlib.Core.Logic.{_⊎_, inl, inr}
+use mathlib.Core.Path.{_≡_, refl, sym, ap, _∙_}
+use mathlib.Core.Logic.{inl, inr}
 use mathlib.Core.Bool.{Bool, true, false, not, _&&_, _||_, false≢true}
 use mathlib.Core.List.{List, [], _∷_, _++_}
-use Prim.Native.Nat.{ℕ, _<_}
+use Prim.Native.Nat.{ℕ}
 use lib.Dec.{eqb}
 use borrow.Author.Tests.{eqb-true, eqb-false, eq-eqb}
 use Rattle.frame.specs.Types.{Ty, bool, int, given, pow, prod}
-use Rattle.frame.specs.Trees.{Head, head, Tree, node, Forest, nil, cons, count}
+use Rattle.frame.specs.Trees.{head, Tree, node, Forest, nil, cons, count}
 use Rattle.frame.specs.Tags.{pick, Sort, classOf, formOf, sortsOf}
 use Rattle.frame.specs.Places.{Ctx, under}
 use Rattle.frame.specs.Sameness.{sameTy}

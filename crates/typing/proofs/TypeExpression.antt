@@ -1,19 +1,19 @@
 -- A type's expression stands for the whole type, and is accepted.
 -- Main result: type-expression.
 use mathlib.Core.Path.{_≡_, refl, sym, ap}
-use mathlib.Core.List.{List, [], _∷_, _++_}
-use Prim.Native.Nat.{ℕ, zero, suc, _+_, _≤_, _<_}
+use mathlib.Core.List.{[], _∷_}
+use Prim.Native.Nat.{ℕ, _≤_, _<_}
 use native.Mathlib.Omega.{arith}
 use lib.ListN.{length, length-append}
 use Rattle.frame.specs.Types.{Ty, bool, int, given, pow, prod}
-use Rattle.frame.specs.Trees.{Head, head, Tree, node, Forest, nil, cons}
-use Rattle.frame.specs.Tags.{Sort, expression, classOf, lookup, formAt}
+use Rattle.frame.specs.Trees.{head, Tree, node, nil, cons}
+use Rattle.frame.specs.Tags.{expression, classOf, lookup, formAt}
 use Rattle.frame.specs.Encoding.{encTy, encNumber}
 use Rattle.frame.specs.Places.{Ctx}
 use Rattle.frame.specs.WellFormed.{HeadWf}
-use Rattle.typing.specs.Typing.{typeOf, typesIn}
+use Rattle.typing.specs.Typing.{typeOf}
 use Rattle.typing.specs.TypeExpression.{toExpression}
-use Rattle.typing.specs.Accepted.{TyOk, Accepted, HeadOk, Node}
+use Rattle.typing.specs.Accepted.{TyOk, Accepted}
 
 -- the bytes of the parts of a type that has few
 pub short-pow : (t : Ty) → length (encTy (pow (pow t))) ≤ 64 → length (encTy (pow t)) ≤ 64

@@ -3,13 +3,13 @@
 --
 -- σ gives each identifier number its type. Number 9 is turned down exactly where there is no such σ.
 use mathlib.Core.Path.{_≡_}
-use mathlib.Core.Bool.{Bool, true}
+use mathlib.Core.Bool.{true}
 use mathlib.Core.List.{List, [], _∷_}
 use Prim.Native.Nat.{ℕ, _≤_, _<_}
 use lib.ListN.{length}
 use lib.Dec.{eqb}
 use Rattle.frame.specs.Types.{Ty, bool, int, given, pow, prod}
-use Rattle.frame.specs.Trees.{Head, head, Tree, node, Forest, nil, cons, count}
+use Rattle.frame.specs.Trees.{head, Tree, node, Forest, nil, cons, count}
 use Rattle.frame.specs.Tags.{pick, Sort, classOf, formOf, sortsOf}
 use Rattle.frame.specs.Encoding.{encTy}
 use Rattle.frame.specs.Reading.{typeLimit}

@@ -1,10 +1,9 @@
 -- Number 8 (document 01: "A bound index has no binder, anywhere in the tree.").
 use Prim.Native.Nat.{ℕ}
-use mathlib.Core.Bool.{Bool, true, false, _&&_}
-use mathlib.Core.List.{List}
+use mathlib.Core.Bool.{Bool, true, _&&_}
 use lib.ListN.{length}
 use lib.Dec.{eqb, ltb}
-use Rattle.frame.specs.Trees.{Head, head, Tree, node, Forest, nil, cons}
+use Rattle.frame.specs.Trees.{head, Tree, node, Forest, nil, cons}
 use Rattle.frame.specs.Tags.{pick}
 use Rattle.frame.specs.Places.{Ctx, under}
 

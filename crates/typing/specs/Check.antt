@@ -1,6 +1,5 @@
 -- A frame checked: numbers 2 to 10 in their order (document 01, "Numbers of what is turned down, in checking order").
 use Prim.Native.Nat.{ℕ}
-use mathlib.Core.Bool.{Bool, true, false}
 use mathlib.Core.List.{List, []}
 use Rattle.frame.specs.Trees.{Tree}
 use Rattle.frame.specs.Tags.{pick}

@@ -1,11 +1,11 @@
 -- Number 9 (document 01: "One identifier number has two types, or is the number of a given set in some type of the tree
 -- and its type isn't the power of that set.").
 use Prim.Native.Nat.{ℕ}
-use mathlib.Core.Bool.{Bool, true, false, not, _&&_, _||_}
+use mathlib.Core.Bool.{Bool, true, not, _&&_, _||_}
 use mathlib.Core.List.{List, [], _∷_, _++_}
 use lib.Dec.{eqb}
 use Rattle.frame.specs.Types.{Ty, bool, int, given, pow, prod}
-use Rattle.frame.specs.Trees.{Head, head, Tree, node, Forest, nil, cons}
+use Rattle.frame.specs.Trees.{head, Tree, node, Forest, nil, cons}
 use Rattle.frame.specs.Tags.{pick}
 use Rattle.frame.specs.Sameness.{sameTy}
 use Rattle.typing.specs.Typing.{carriedTy}

@@ -4,7 +4,7 @@ use Prim.Native.Nat.{ℕ, suc, _+_}
 use mathlib.Core.List.{List}
 use lib.ListN.{length, getD}
 use lib.Dec.{eqb}
-use Rattle.frame.specs.Trees.{Head, head, Tree, node, Forest, nil, cons, nodes}
+use Rattle.frame.specs.Trees.{head, Tree, node, Forest, nil, cons, nodes}
 use Rattle.frame.specs.Tags.{pick}
 use Rattle.frame.specs.Encoding.{encTy}
 use Rattle.frame.specs.Places.{Ctx, under}

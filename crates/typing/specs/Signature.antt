@@ -1,7 +1,6 @@
 -- The types of the identifier numbers of a tree. The first identifier of a number decides: where a tree passes number 9
 -- the others of that number have the same type.
 use Prim.Native.Nat.{ℕ}
-use mathlib.Core.Bool.{Bool, true, false}
 use mathlib.Core.List.{List, [], _∷_}
 use lib.Dec.{eqb}
 use Rattle.frame.specs.Types.{Ty, given, pow}

@@ -1,10 +1,10 @@
 -- Types as expressions (document 01, "The type record": "A type is turned into an expression as `to_expression` does:
 -- BOOL 404, integers 401, a given set its identifier typed as its power, ℙ 752, product 214.").
-use Prim.Native.Nat.{ℕ}
-use mathlib.Core.List.{List, [], _∷_}
+use mathlib.Core.List.{[], _∷_}
 use Rattle.frame.specs.Types.{Ty, bool, int, given, pow, prod}
-use Rattle.frame.specs.Trees.{Head, head, Tree, node, Forest, nil, cons, leaf, one, two}
+use Rattle.frame.specs.Trees.{head, Tree, node, nil, leaf, one, two}
 
+-- "`to_expression` calls itself on the smaller type."
 unfoldable pub toExpression : Ty → Tree
 toExpression bool = leaf 404
 toExpression int = leaf 401

@@ -1,15 +1,15 @@
--- Typing (document 01, number 10: "A node breaks a typing rule or its type passes 64 bytes."; the Event-B Mathematical
--- Language decides the rules). An operator's rule is two lines: `wants`, the operand types that it asks for, as far as
--- the operands themselves don't leave them open, and `result`, the type of the node. A node is well typed if its
--- operands have the types that it wants. Where an operand has not the form that a rule looks for (`element` of no
--- power, `first` of no product) BOOL stands in: then `wants` asks for a type that the operand has not.
+-- Typing (document 01, number 10: "A node breaks a typing rule or its type passes 64 bytes."; "Source decides on rule order and
+-- built tree; the Event-B Mathematical Language on meaning and typing."). An operator's rule is two lines: `wants`, the operand
+-- types that it asks for, as far as the operands themselves don't leave them open, and `result`, the type of the node. A node is
+-- well typed if its operands have the types that it wants. Where an operand has not the form that a rule looks for (`element` of
+-- no power, `first` of no product) BOOL stands in: then `wants` asks for a type that the operand has not.
 use Prim.Native.Nat.{ℕ, zero, suc}
-use mathlib.Core.Bool.{Bool, true, false, _&&_}
+use mathlib.Core.Bool.{Bool, true, _&&_}
 use mathlib.Core.List.{List, [], _∷_}
 use lib.ListN.{length}
 use lib.Dec.{leb, eqb}
 use Rattle.frame.specs.Types.{Ty, bool, int, given, pow, prod}
-use Rattle.frame.specs.Trees.{Head, head, Tree, node, Forest, nil, cons}
+use Rattle.frame.specs.Trees.{head, Tree, node, Forest, nil, cons}
 use Rattle.frame.specs.Tags.{Class, literalPred, equality, order, membership, inclusion, binaryPred, associativePred, negation, quantifiedPred, finite, partition, identifier, bound, literal, setExtension, maplet, relationSet, setMinus, cartesian, directProduct, parallelProduct, domainRestriction, rangeRestriction, upTo, arithmetic, functionImage, relationalImage, setOperation, backwardComposition, forwardComposition, override, sum, integerSet, boolSet, truthValue, integerRelation, emptySet, projection1, projection2, identity, boolExpr, cardinal, powerset, generalised, domain, range, extremum, converse, unaryMinus, quantifiedSet, comprehension, unlisted, classOf, pick}
 use Rattle.frame.specs.Encoding.{encTy}
 use Rattle.frame.specs.Reading.{typeLimit}
@@ -82,6 +82,9 @@ typeAt (t ∷ Γ) zero = t
 typeAt (t ∷ Γ) (suc i) = typeAt Γ i
 
 -- ---- the rules, by the class of the tag. A predicate has no type: bool stands for it on either side.
+-- In the source `synthesize_type` of expression.rs (document 008), by `atomic_fixed_type`, `synthesize_binary`,
+-- `synthesize_associative` and `synthesize_unary`, has `wants` and `result` in one for expressions, but for those that carry their
+-- type and bound identifiers: `None` where operands are not as wanted.
 abbrev pub wants : Class → List Ty → List Ty
 wants literalPred ts = []
 -- = and ≠ take two of one type; < ≤ > ≥ integers; ∈ and ∉ a member and a power of its type; ⊂ ⊄ ⊆ ⊈ two of one power type
@@ -142,7 +145,7 @@ abbrev pub carriedTy : List Ty → Ty
 carriedTy [] = bool
 carriedTy (t ∷ ts) = t
 
--- n is the payload, us the types carried, ts the operands'
+-- n is the payload, us the types carried, ts the operands'. This is what `synthesize_type` answers where it answers a type.
 abbrev pub result : Class → ℕ → List Ty → Ctx → List Ty → Ty
 result literalPred n us Γ ts = bool
 result equality n us Γ ts = bool
@@ -197,7 +200,8 @@ result quantifiedSet n us Γ ts = ty 1 ts
 result comprehension n us Γ ts = pow (ty 1 ts)
 result unlisted n us Γ ts = bool
 
--- "Required shapes, else number 10: ℙ(t); ℙ((t×u)×t); ℙ((t×u)×u); ℙ(t×t)." The shape, filled from the type itself.
+-- "Required shapes, else number 10: ℙ(t); ℙ((t×u)×t); ℙ((t×u)×u); ℙ(t×t)." The shape, filled from the type itself: a type that is
+-- its own shape passes `verify_atomic_type` of expression.rs.
 abbrev pub shape : ℕ → Ty → Ty
 shape g t =
     pick (eqb g 407) (pow (element t))

@@ -12,8 +12,8 @@ use Rattle.frame.specs.Tags.{expression, classOf, lookup, formAt}
 use Rattle.frame.specs.Operators.{#SRel, #STRel, #CProd, #DomRes, #RanRes, #DProd, #FComp, #BComp, #PProd, #BUnion, #BInter, #Ovr, #QUnion}
 use Rattle.frame.specs.Places.{Ctx}
 use Rattle.typing.specs.Accepted.{Accepted}
-use Rattle.rules.specs.Equations.{over, Subtracted, ext, _≐∅, _∈ᵖ_, ¬ᵖ, _⊆_, ⋂, ⋀, dom, ran}
-use Rattle.rules.specs.Equations.{Empties, «SIMP_SETENUM_EQUAL_EMPTY», «SIMP_BINTER_SING_EQUAL_EMPTY», «SIMP_BINTER_SETMINUS_EQUAL_EMPTY», «SIMP_BUNION_EQUAL_EMPTY», «SIMP_SETMINUS_EQUAL_EMPTY», «SIMP_CPROD_EQUAL_EMPTY», «SIMP_UPTO_EQUAL_EMPTY», «SIMP_SREL_EQUAL_EMPTY», «SIMP_STREL_EQUAL_EMPTY», «SIMP_DOMRES_EQUAL_EMPTY», «SIMP_DOMSUB_EQUAL_EMPTY», «SIMP_RANRES_EQUAL_EMPTY», «SIMP_RANSUB_EQUAL_EMPTY», «SIMP_RELIMAGE_EQUAL_EMPTY», «SIMP_DPROD_EQUAL_EMPTY», «SIMP_PPROD_EQUAL_EMPTY», «SIMP_POW_EQUAL_EMPTY», «SIMP_POW1_EQUAL_EMPTY», «SIMP_KUNION_EQUAL_EMPTY», «SIMP_DOM_EQUAL_EMPTY», «SIMP_RAN_EQUAL_EMPTY», «SIMP_CONVERSE_EQUAL_EMPTY», «SIMP_FCOMP_EQUAL_EMPTY», «SIMP_BCOMP_EQUAL_EMPTY», «SIMP_OVERL_EQUAL_EMPTY», «SIMP_QUNION_EQUAL_EMPTY», «SIMP_NATURAL_EQUAL_EMPTY», «SIMP_NATURAL1_EQUAL_EMPTY», «SIMP_ID_EQUAL_EMPTY», «SIMP_PRJ1_EQUAL_EMPTY», «SIMP_PRJ2_EQUAL_EMPTY»}
+use Rattle.rules.specs.Equations.{over, Subtracted, ext, _∈ᵖ_, ¬ᵖ, _⊆_, ⋂, ⋀, dom, ran, _≐∅, «SIMP_SETENUM_EQUAL_EMPTY», «SIMP_BINTER_SING_EQUAL_EMPTY», «SIMP_BINTER_SETMINUS_EQUAL_EMPTY», «SIMP_BUNION_EQUAL_EMPTY», «SIMP_SETMINUS_EQUAL_EMPTY», «SIMP_CPROD_EQUAL_EMPTY», «SIMP_UPTO_EQUAL_EMPTY», «SIMP_SREL_EQUAL_EMPTY», «SIMP_STREL_EQUAL_EMPTY», «SIMP_DOMRES_EQUAL_EMPTY», «SIMP_DOMSUB_EQUAL_EMPTY», «SIMP_RANRES_EQUAL_EMPTY», «SIMP_RANSUB_EQUAL_EMPTY», «SIMP_RELIMAGE_EQUAL_EMPTY», «SIMP_DPROD_EQUAL_EMPTY», «SIMP_PPROD_EQUAL_EMPTY», «SIMP_POW_EQUAL_EMPTY», «SIMP_POW1_EQUAL_EMPTY», «SIMP_KUNION_EQUAL_EMPTY», «SIMP_DOM_EQUAL_EMPTY», «SIMP_RAN_EQUAL_EMPTY», «SIMP_CONVERSE_EQUAL_EMPTY», «SIMP_FCOMP_EQUAL_EMPTY», «SIMP_BCOMP_EQUAL_EMPTY», «SIMP_OVERL_EQUAL_EMPTY», «SIMP_QUNION_EQUAL_EMPTY», «SIMP_NATURAL_EQUAL_EMPTY», «SIMP_NATURAL1_EQUAL_EMPTY», «SIMP_ID_EQUAL_EMPTY», «SIMP_PRJ1_EQUAL_EMPTY», «SIMP_PRJ2_EQUAL_EMPTY»}
+use Rattle.rules.specs.Equations.{Empties}
 use Rattle.weight.specs.Weight.{scaleIn, scaleOf, weigh, weight, sumOf, productOf}
 use Rattle.weight.proofs.Positive.{both-positive, weight-positive, product-positive}
 use Rattle.weight.proofs.Forests.{Twos, least-kids, pair-two, least-twos, sum-map, twos-sum, product-at, over-light, subtracted-light, sum-product}

@@ -13,8 +13,8 @@ use Rattle.frame.specs.Operators.{#SetMinus, #CProd, #DomRes, #DomSub, #RanRes,
 use Rattle.frame.specs.Places.{Ctx, push}
 use Rattle.typing.specs.Typing.{typeOf, typesIn, element, source, target, ty, alike, relation}
 use Rattle.typing.specs.Accepted.{Accepted}
-use Rattle.rules.specs.Equations.{_≐Ty, _≐∅, ⋀}
-use Rattle.rules.specs.Equations.{Fills, «SIMP_BINTER_EQUAL_TYPE», «SIMP_SETMINUS_EQUAL_TYPE», «SIMP_CPROD_EQUAL_TYPE», «SIMP_UPTO_EQUAL_INTEGER», «SIMP_DOMRES_EQUAL_TYPE», «SIMP_DOMSUB_EQUAL_TYPE», «SIMP_RANRES_EQUAL_TYPE», «SIMP_RANSUB_EQUAL_TYPE», «SIMP_DPROD_EQUAL_TYPE», «SIMP_PPROD_EQUAL_TYPE», «SIMP_KINTER_EQUAL_TYPE», «SIMP_CONVERSE_EQUAL_TYPE», «SIMP_QINTER_EQUAL_TYPE»}
+use Rattle.rules.specs.Equations.{⋀, _≐Ty, _≐∅, «SIMP_BINTER_EQUAL_TYPE», «SIMP_SETMINUS_EQUAL_TYPE», «SIMP_CPROD_EQUAL_TYPE», «SIMP_UPTO_EQUAL_INTEGER», «SIMP_DOMRES_EQUAL_TYPE», «SIMP_DOMSUB_EQUAL_TYPE», «SIMP_RANRES_EQUAL_TYPE», «SIMP_RANSUB_EQUAL_TYPE», «SIMP_DPROD_EQUAL_TYPE», «SIMP_PPROD_EQUAL_TYPE», «SIMP_KINTER_EQUAL_TYPE», «SIMP_CONVERSE_EQUAL_TYPE», «SIMP_QINTER_EQUAL_TYPE»}
+use Rattle.rules.specs.Equations.{Fills}
 use Rattle.weight.specs.Weight.{typeWeight, scaleIn, scaleOf, weigh, weight, sumOf, productOf}
 use Rattle.weight.proofs.Positive.{times-one, both-positive, type-two, type-weight, weight-positive}
 use Rattle.weight.proofs.Forests.{Twos, least-kids, pair-two, least-twos, twos-sum, fits-kids}

@@ -2,13 +2,13 @@
 -- makes no steps, doesn't use the 4,096 limit, and holds as well if results may be of any length."). A weight: one line
 -- for each operator; each equation's right side weighs less than its left side (weight/proofs), so a series makes fewer
 -- changing steps than its first tree weighs.
-use Prim.Native.Nat.{ℕ, zero, suc, _+_, _*_}
-use mathlib.Core.Bool.{Bool, true, false, _&&_}
+use Prim.Native.Nat.{ℕ, suc, _+_, _*_}
+use mathlib.Core.Bool.{_&&_}
 use mathlib.Core.List.{List, [], _∷_}
 use lib.ListN.{length}
 use lib.Dec.{leb}
 use Rattle.frame.specs.Types.{Ty, bool, int, given, pow, prod}
-use Rattle.frame.specs.Trees.{Head, head, Tree, node, Forest, nil, cons}
+use Rattle.frame.specs.Trees.{head, Tree, node, Forest, nil, cons}
 use Rattle.frame.specs.Tags.{pick}
 use Rattle.typing.specs.Typing.{carriedTy, source}
 

@@ -1,12 +1,8 @@
 use Rattle.checking.proofs.Turns.{read-pre, refused-read}
-use mathlib.Core.Path.{_≡_, refl, sym, _∙_}
+use mathlib.Core.Path.{refl, sym, _∙_}
 use borrow.Author.Needs.{needs}
 use Rattle.checking.proofs.check.Statement.{statement}
 use Rattle.checking.proofs.check.Tie as tie
-use Rattle.checking.proofs.check.Reads as reads
-use Rattle.checking.proofs.check.Lts as lts
-use Rattle.checking.proofs.check_tree.Reads as check-tree-reads
-use Rattle.frame.proofs.reading.read.Reads as read-reads
 
 -- src/lib.rt:70:9
 read-requires : tie.Need-read-requires

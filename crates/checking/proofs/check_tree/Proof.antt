@@ -1,14 +1,8 @@
 use Rattle.checking.proofs.Turns.{read-stands, read-fits, bound-out, names-out, typed-out, accepted-out, refused-post, accepted-post}
-use native.Mathlib.Omega.{arith}
-use mathlib.Core.Path.{_≡_, refl, sym, _∙_}
+use mathlib.Core.Path.{sym, _∙_}
 use borrow.Author.Tests.{not-true, not-false}
 use Rattle.checking.proofs.check_tree.Statement.{statement}
 use Rattle.checking.proofs.check_tree.Tie as tie
-use Rattle.checking.proofs.check_tree.Reads as reads
-use Rattle.checking.proofs.check_tree.Lts as lts
-use Rattle.checking.proofs.typing_ok.Reads as typing-ok-reads
-use Rattle.typing.proofs.binding.binding_ok.Reads as binding-ok-reads
-use Rattle.typing.proofs.identifiers.names_ok.Reads as names-ok-reads
 
 -- src/lib.rt:51:9
 binding-ok-requires : tie.Need-binding-ok-requires

@@ -1,13 +1,10 @@
 use Rattle.checking.proofs.Turns.{type-pre, typed-by, isTyped}
 use mathlib.Core.Bool.{true, false}
-use mathlib.Core.Path.{sym, ap, _∙_}
+use mathlib.Core.Path.{sym, ap}
 use native.Mathlib.Omega.{arith}
 use borrow.Author.Needs.{needs}
 use Rattle.checking.proofs.typed_with.Statement.{statement}
 use Rattle.checking.proofs.typed_with.Tie as tie
-use Rattle.checking.proofs.typed_with.Reads as reads
-use Rattle.checking.proofs.typed_with.Lts as lts
-use Rattle.typing.proofs.typing.type_tree.Reads as type-tree-reads
 
 -- src/lib.rt:26:9
 type-tree-requires : tie.Need-type-tree-requires

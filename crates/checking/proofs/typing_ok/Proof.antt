@@ -2,9 +2,6 @@ use native.Mathlib.Omega.{arith}
 use borrow.Author.Needs.{needs}
 use Rattle.checking.proofs.typing_ok.Statement.{statement}
 use Rattle.checking.proofs.typing_ok.Tie as tie
-use Rattle.checking.proofs.typing_ok.Reads as reads
-use Rattle.checking.proofs.typing_ok.Lts as lts
-use Rattle.checking.proofs.typed_with.Reads as typed-with-reads
 
 -- src/lib.rt:40:38
 slice-aggregate-typed-with : tie.Need-slice-aggregate-typed-with

@@ -3,10 +3,6 @@ use lib.ListN.{length}
 use mathlib.Core.Path.{_≡_, refl}
 use Rattle.console.proofs.read_all.Statement.{statement}
 use Rattle.console.proofs.read_all.Tie as tie
-use Rattle.console.proofs.read_all.Reads as reads
-use Rattle.console.proofs.read_all.Lts as lts
-use Rattle.console.proofs.read_piece.Reads as read-piece-reads
-use Rattle.frame.proofs.lines.line_start.Reads as line-start-reads
 
 abbrev Inv-loop : tie.InvT-loop
 Inv-loop input₀ buf₀ out₀ line₀ turns₀ input buf out line turns = (length input ≡ length input₀) × (length out ≡ length out₀)

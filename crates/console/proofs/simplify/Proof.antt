@@ -3,59 +3,52 @@ use mathlib.Core.Path.{sym}
 use borrow.Author.Needs.{needs}
 use Rattle.console.proofs.simplify.Statement.{statement}
 use Rattle.console.proofs.simplify.Tie as tie
-use Rattle.console.proofs.simplify.Reads as reads
-use Rattle.console.proofs.simplify.Lts as lts
-use Rattle.answers.proofs.stream.finish.Reads as finish-reads
-use Rattle.console.proofs.read_all.Reads as read-all-reads
-use Rattle.io.proofs.buffer.Reads as buffer-reads
-use Rattle.io.proofs.large_buffer.Reads as large-buffer-reads
-use Rattle.io.proofs.write_all.Reads as write-all-reads
 
--- src/lib.rt:87:21
+-- src/lib.rt
 large-buffer-requires : tie.Need-large-buffer-requires
 large-buffer-requires c κs = search needs
 
--- src/lib.rt:88:19
+-- src/lib.rt
 large-buffer-requires-2 : tie.Need-large-buffer-requires-2
 large-buffer-requires-2 c κs = search needs
 
--- src/lib.rt:89:19
+-- src/lib.rt
 buffer-requires : tie.Need-buffer-requires
 buffer-requires c κs = search needs
 
--- src/lib.rt:90:25
+-- src/lib.rt
 slice-aggregate-read-all : tie.Need-slice-aggregate-read-all
 slice-aggregate-read-all c = search needs
 
--- src/lib.rt:90:47
+-- src/lib.rt
 slice-aggregate-read-all-2 : tie.Need-slice-aggregate-read-all-2
 slice-aggregate-read-all-2 c = search needs
 
--- src/lib.rt:90:9
+-- src/lib.rt
 read-all-requires : tie.Need-read-all-requires
 read-all-requires c κs = search needs
 
--- src/lib.rt:91:32
+-- src/lib.rt
 slice-aggregate-finish : tie.Need-slice-aggregate-finish
 slice-aggregate-finish c = search needs
 
--- src/lib.rt:91:9
+-- src/lib.rt
 finish-requires : tie.Need-finish-requires
 finish-requires c κs = search needs
 
--- src/lib.rt:92:34
+-- src/lib.rt
 array-share-prefix-out : tie.Need-array-share-prefix-out
 array-share-prefix-out c = search needs
 
--- src/lib.rt:92:34
+-- src/lib.rt
 slice-aggregate-write-all : tie.Need-slice-aggregate-write-all
 slice-aggregate-write-all c = sym (length-take-le _ _ (c .before .before .finish .ensures .room))
 
--- src/lib.rt:92:5
+-- src/lib.rt
 write-all-requires : tie.Need-write-all-requires
 write-all-requires c κs = search needs
 
--- src/lib.rt:86:1
+-- src/lib.rt
 returns : tie.Need-returns
 returns c = search needs
 

@@ -7,11 +7,6 @@ use denote.Ref.{now}
 use Prim.Native.Nat.{_-_, _≤_}
 use Rattle.console.proofs.write_answers.Statement.{statement}
 use Rattle.console.proofs.write_answers.Tie as tie
-use Rattle.console.proofs.write_answers.Reads as reads
-use Rattle.console.proofs.write_answers.Lts as lts
-use Rattle.answers.proofs.stream.feed.Reads as feed-reads
-use Rattle.frame.proofs.lines.line_start.Reads as line-start-reads
-use Rattle.io.proofs.write_all.Reads as write-all-reads
 
 abbrev Inv-loop : tie.InvT-loop
 Inv-loop piece buf₀ out₀ line₀ at₀ buf out line at = (at ≤ length piece) × (length out ≡ length out₀)

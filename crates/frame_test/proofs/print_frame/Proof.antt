@@ -3,9 +3,6 @@ use mathlib.Core.Path.{sym}
 use borrow.Author.Needs.{needs}
 use Rattle.frame_test.proofs.print_frame.Statement.{statement}
 use Rattle.frame_test.proofs.print_frame.Tie as tie
-use Rattle.frame_test.proofs.print_frame.Reads as reads
-use Rattle.frame_test.proofs.print_frame.Lts as lts
-use Rattle.frame_test.proofs.print_answers.Reads as print-answers-reads
 
 -- src/main.rt:46:9
 returns : tie.Need-returns

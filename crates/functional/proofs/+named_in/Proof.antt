@@ -9,7 +9,7 @@ use Rattle.functional.proofs.+named_in.Lts-named_in as named-in-lts
 use Rattle.functional.proofs.binders_at.Reads as binders-at-reads
 use Rattle.functional.proofs.kids_at.Reads as kids-at-reads
 use Rattle.functional.proofs.own_at.Reads as own-at-reads
-use Rattle.nav.proofs.places.next_at.Reads as next-at-reads
+use Rattle.nav.proofs.next_at.Reads as next-at-reads
 use Rattle.functional.proofs.+named_in.{statement}
 use Rattle.functional.proofs.+named_in.Tie.{close}
 

@@ -3,9 +3,6 @@ use mathlib.Core.Path.{sym, _∙_, ap}
 use borrow.Author.Needs.{needs}
 use Rattle.lustrejasper.proofs.lustrejasper_check.Statement.{statement}
 use Rattle.lustrejasper.proofs.lustrejasper_check.Tie as tie
-use Rattle.lustrejasper.proofs.lustrejasper_check.Reads as reads
-use Rattle.lustrejasper.proofs.lustrejasper_check.Lts as lts
-use Rattle.checking.proofs.check.Reads as check-reads
 
 -- src/lib.rt:58:9
 check-requires : tie.Need-check-requires

@@ -4,10 +4,6 @@ use mathlib.Core.Path.{_∙_, ap}
 use borrow.Author.Needs.{needs}
 use Rattle.lustrejasper.proofs.lustrejasper_run.Statement.{statement}
 use Rattle.lustrejasper.proofs.lustrejasper_run.Tie as tie
-use Rattle.lustrejasper.proofs.lustrejasper_run.Reads as reads
-use Rattle.lustrejasper.proofs.lustrejasper_run.Lts as lts
-use Rattle.lustrejasper.proofs.run_word.Reads as run-word-reads
-use Rattle.running.proofs.run.Reads as run-reads
 
 -- src/lib.rt:79:9
 run-requires : tie.Need-run-requires

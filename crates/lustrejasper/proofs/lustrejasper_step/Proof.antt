@@ -4,10 +4,6 @@ use mathlib.Core.Path.{_∙_, ap}
 use borrow.Author.Needs.{needs}
 use Rattle.lustrejasper.proofs.lustrejasper_step.Statement.{statement}
 use Rattle.lustrejasper.proofs.lustrejasper_step.Tie as tie
-use Rattle.lustrejasper.proofs.lustrejasper_step.Reads as reads
-use Rattle.lustrejasper.proofs.lustrejasper_step.Lts as lts
-use Rattle.lustrejasper.proofs.step_word.Reads as step-word-reads
-use Rattle.stepping.proofs.step.Reads as step-reads
 
 -- src/lib.rt:70:9
 step-requires : tie.Need-step-requires

@@ -5,9 +5,6 @@ use mathlib.Core.Path.{sym, _∙_, ap, subst}
 use borrow.Author.Needs.{needs}
 use Rattle.lustrejasper.proofs.run_word.Statement.{statement}
 use Rattle.lustrejasper.proofs.run_word.Tie as tie
-use Rattle.lustrejasper.proofs.run_word.Reads as reads
-use Rattle.lustrejasper.proofs.run_word.Lts as lts
-use Rattle.lustrejasper.proofs.ended_word.Reads as ended-word-reads
 
 -- src/lib.rt:46:25
 enum-known-a : tie.Need-enum-known-a

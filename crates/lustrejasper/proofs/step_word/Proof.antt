@@ -5,8 +5,6 @@ use mathlib.Core.Path.{sym, ap, subst}
 use borrow.Author.Needs.{needs}
 use Rattle.lustrejasper.proofs.step_word.Statement.{statement}
 use Rattle.lustrejasper.proofs.step_word.Tie as tie
-use Rattle.lustrejasper.proofs.step_word.Reads as reads
-use Rattle.lustrejasper.proofs.step_word.Lts as lts
 
 -- src/lib.rt:27:34
 enum-told : tie.Need-enum-told

@@ -1,6 +1,6 @@
 -- `step_test::kept` meets its contract.
 use lib.ListN.{length}
-use Prim.Native.Nat.{_-_, _≤_}
+use Prim.Native.Nat.{_-_}
 use native.Mathlib.Omega.{arith}
 use Rattle.step_test.proofs.kept.Statement.{statement}
 use Rattle.step_test.proofs.kept.Tie as tie

@@ -1,39 +1,35 @@
 use Rattle.stepping.proofs.Turns.{step-refused}
 use Rattle.checking.proofs.Turns.{read-pre, refused-read}
-use mathlib.Core.Path.{_≡_, refl, sym, _∙_}
+use mathlib.Core.Path.{sym, _∙_}
 use borrow.Author.Needs.{needs}
 use Rattle.stepping.proofs.step.Statement.{statement}
 use Rattle.stepping.proofs.step.Tie as tie
-use Rattle.stepping.proofs.step.Reads as reads
-use Rattle.stepping.proofs.step.Lts as lts
-use Rattle.frame.proofs.reading.read.Reads as read-reads
-use Rattle.stepping.proofs.step_read.Reads as step-read-reads
 
--- src/lib.rt:121:9
+-- src/lib.rt
 read-requires : tie.Need-read-requires
 read-requires c κs = search needs
 
--- src/lib.rt:124:30
+-- src/lib.rt
 enum-known-answer : tie.Need-enum-known-answer
 enum-known-answer c = search needs
 
--- src/lib.rt:125:28
+-- src/lib.rt
 enum-known-answer-2 : tie.Need-enum-known-answer-2
 enum-known-answer-2 c = search needs
 
--- src/lib.rt:127:13
+-- src/lib.rt
 step-read-requires : tie.Need-step-read-requires
 step-read-requires c κs = record { was = read-pre _ (λ i. c .before .before .before .before .before .before .before .before .shared-slice-known .given i .fits) _ (sym (c .before .before .before .before .answer2 .given .1) ∙ c .before .before .before .before .before .before .read .ensures .0); starts = c .before .before .before .before .before .before .read .ensures .1 }
 
--- src/lib.rt:118:1
+-- src/lib.rt
 returns : tie.Need-returns
 returns c = let z = step-refused _ _ _ _ (refused-read _ _ (sym (c .before .answer .given .1) ∙ c .before .before .before .read .ensures .0)) in (z .answer, z .output)
 
--- src/lib.rt:118:1
+-- src/lib.rt
 same-length : tie.Need-same-length
 same-length c = search needs
 
--- src/lib.rt:118:1
+-- src/lib.rt
 returns-2 : tie.Need-returns-2
 returns-2 c = (c .before .before .step-read .ensures .answer, c .before .before .step-read .ensures .output)
 

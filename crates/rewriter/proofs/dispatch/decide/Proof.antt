@@ -2,23 +2,12 @@ use mathlib.Core.Path.{refl, sym, _∙_}
 use borrow.Author.Tests.{not-true, not-false}
 use native.Mathlib.Omega.{arith}
 use Rattle.frame.specs.Tags.{expression, lookup, classOf, formAt}
-use Rattle.rewriter.proofs.Shapes.{here-few, here-placed, two-here}
-use Rattle.rewriter.proofs.Descents.{here-child}
+use Rattle.decision.proofs.Shapes.{here-few, here-placed, two-here}
+use Rattle.decision.proofs.Descents.{here-child}
 use Rattle.rewriter.proofs.DispatchTurns.{by-logic, past-logic, to-rewrite-not, to-finite, to-partition, to-equal, to-subset, to-none}
 use borrow.Author.Needs.{needs}
 use Rattle.rewriter.proofs.dispatch.decide.Statement.{statement}
 use Rattle.rewriter.proofs.dispatch.decide.Tie as tie
-use Rattle.rewriter.proofs.dispatch.decide.Reads as reads
-use Rattle.rewriter.proofs.dispatch.decide.Lts as lts
-use Rattle.nav.proofs.places.tag_at.Reads as tag-at-reads
-use Rattle.rewriter.proofs.contains.rests.Reads as rests-reads
-use Rattle.rewriter.proofs.equality.equal_at.Reads as equal-at-reads
-use Rattle.rewriter.proofs.equality.subset_at.Reads as subset-at-reads
-use Rattle.rewriter.proofs.finite.rewrite_finite.Reads as rewrite-finite-reads
-use Rattle.rewriter.proofs.negation.rewrite_not.Reads as rewrite-not-reads
-use Rattle.rewriter.proofs.node.simplify_predicate_node.Reads as simplify-predicate-node-reads
-use Rattle.rewriter.proofs.operands.second_of.Reads as second-of-reads
-use Rattle.rewriter.proofs.quantified.rewrite_partition.Reads as rewrite-partition-reads
 
 -- src/dispatch.rt:16:9
 simplify-predicate-node-requires : tie.Need-simplify-predicate-node-requires

@@ -2,22 +2,12 @@ use mathlib.Core.Path.{refl}
 use mathlib.Core.Logic.{inl, inr}
 use native.Mathlib.Omega.{arith}
 use Rattle.frame.specs.Tags.{predicate, lookup, classOf, formAt}
-use Rattle.rewriter.proofs.Shapes.{here-few, here-placed, two-here}
-use Rattle.rewriter.proofs.Descents.{here-child}
+use Rattle.decision.proofs.Shapes.{here-few, here-placed, two-here}
+use Rattle.decision.proofs.Descents.{here-child}
 use Rattle.rewriter.proofs.NodeTurns.{into, junction-here, junction-done, to-imp, to-eqv, to-not, to-forall, to-exists, to-none}
 use borrow.Author.Needs.{needs}
 use Rattle.rewriter.proofs.node.simplify_predicate_node.Statement.{statement}
 use Rattle.rewriter.proofs.node.simplify_predicate_node.Tie as tie
-use Rattle.rewriter.proofs.node.simplify_predicate_node.Reads as reads
-use Rattle.rewriter.proofs.node.simplify_predicate_node.Lts as lts
-use Rattle.nav.proofs.places.tag_at.Reads as tag-at-reads
-use Rattle.rewriter.proofs.implication.implication_at.Reads as implication-at-reads
-use Rattle.rewriter.proofs.junction.simplify_assoc_pred.Reads as simplify-assoc-pred-reads
-use Rattle.rewriter.proofs.logic.equivalence_at.Reads as equivalence-at-reads
-use Rattle.rewriter.proofs.logic.negation_at.Reads as negation-at-reads
-use Rattle.rewriter.proofs.operands.second_of.Reads as second-of-reads
-use Rattle.rewriter.proofs.quantified.exists_at.Reads as exists-at-reads
-use Rattle.rewriter.proofs.quantified.forall_at.Reads as forall-at-reads
 
 -- src/node.rt:16:9
 tag-at-requires : tie.Need-tag-at-requires

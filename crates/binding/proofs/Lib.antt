@@ -1,0 +1,4 @@
+pub mod OpenBinders
+pub mod BinderTags
+pub mod BoundWalk
+pub mod BoundRows

@@ -1,0 +1,9 @@
+pub mod Shapes
+pub mod TagRows
+pub mod TwoPlaces
+pub mod Children
+pub mod Opposites
+pub mod RowTurns
+pub mod Bridges
+pub mod Series
+pub mod Descents

@@ -1,0 +1,4 @@
+pub mod Decision
+pub mod Decides
+pub mod RulesAt
+pub mod Dispatching

@@ -1,0 +1,3 @@
+pub mod Subtrees
+pub mod Types
+pub mod Fills

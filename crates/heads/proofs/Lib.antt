@@ -1,0 +1,5 @@
+pub mod TypeTurns
+pub mod HeadTurns
+pub mod KnownTurns
+pub mod HeadSays
+pub mod View

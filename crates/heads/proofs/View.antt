@@ -1,0 +1,208 @@
+-- Going over a frame that was read: from a tree that stands somewhere, and the head that `read_head` answers there, to the
+-- tree's own head and its children.
+-- Main results: at-span, at-wf, at-end, at-unique, stands-at, parse-at, at-parse, frame-at (what it is to stand somewhere);
+-- kids-span, kids-wf, kids-end, kids-count, kids-unique, stand-all (the same of trees in a row); kids-none, kids-some (the
+-- first child and the others); head-of, view, no-view (by a head that was read).
+use mathlib.Core.Path.{_≡_, sym, ap, ap₂, _∙_, subst}
+use mathlib.Core.Bool.{Bool}
+use mathlib.Core.List.{List, []}
+use Prim.Native.Nat.{ℕ, zero, suc, _+_, _-_, _≤_}
+use native.Mathlib.Omega.{arith}
+use lib.ListN.{length}
+use borrow.Author.Tests.{ne-eqb, le-ltb}
+use Rattle.frame.specs.Types.{Ty}
+use Rattle.frame.specs.Trees.{Head, head, Tree, node, Forest, nil, cons, count}
+use Rattle.frame.specs.Tags.{Sort, predicate, formOf, width, sortsOf}
+use Rattle.tags.specs.TagCodes.{sortFor, kindsFor}
+use Rattle.frame.specs.Encoding.{encTys, enc, encs}
+use Rattle.frame.specs.Reading.{okH, readHead, ok, okF, readMany, readNode, frameLimit, tree, parse}
+use Rattle.frame.specs.WellFormed.{numberIn, HeadWf, Wf, Wfs}
+use Rattle.frame.specs.Spans.{Bytes, Spans}
+use Rattle.frame.specs.At.{IsAt, KidsAt}
+use Rattle.heads.specs.HeadPost.{headAnswer}
+use Rattle.heads.specs.declared.HeadAnswer.{HeadAnswer}
+use Rattle.heads.specs.declared.HeadAnswer.the-variants as H
+use Rattle.frame.proofs.Inversion.{noH-not, no-not, many-inv, many-count, NodeInv, node-inv, head-inv, tagAt}
+use Rattle.frame.proofs.ReadTrees.{head-read, node-enc, node-wf, many-enc, many-wf}
+use Rattle.frame.proofs.ReadBack.{enc-long, node-back, many-back}
+use Rattle.frame.proofs.Frames.{parse-inv}
+use Rattle.heads.proofs.HeadSays.{head-no, HeadSaid, head-yes, head-kinds}
+use Rattle.tags.proofs.FormTables.{kinds-rest}
+
+-- ---- a tree that stands somewhere
+module _ (s : List ℕ) (bs : Bytes s) (e : Sort) (at : ℕ) (t : Tree) (q : ℕ) (a : IsAt s e at t q) where
+  pub at-span : Spans s at q (enc t)
+  at-span = node-enc (a .0) s bs e at t q (a .1)
+
+  pub at-wf : Wf t e
+  at-wf = node-wf (a .0) s bs e at t q (a .1)
+
+  pub at-end : (at + 2 ≤ q) × (q ≤ length s)
+  at-end = (omega (arith, at-span .long, enc-long t), at-span .within)
+
+pub stands-at : (s : List ℕ) (e : Sort) (at : ℕ) (t : Tree) (q : ℕ) → Spans s at q (enc t) → Wf t e → IsAt s e at t q
+stands-at s e at t q a w = (suc q, node-back t (suc q) s e at q a w (omega arith))
+
+pub at-unique : (s : List ℕ) → Bytes s → (e : Sort) (at : ℕ) (t : Tree) (q : ℕ) → IsAt s e at t q → (u : Tree) (r : ℕ) → IsAt s e at u r → (t ≡ u) × (q ≡ r)
+at-unique s bs e at t q a u r b =
+    let f : ℕ = suc (q + r) in
+    let x : readNode f s e at ≡ ok t q = node-back t f s e at q (at-span s bs e at t q a) (at-wf s bs e at t q a) (omega arith) in
+    let y : readNode f s e at ≡ ok u r = node-back u f s e at r (at-span s bs e at u r b) (at-wf s bs e at u r b) (omega arith) in
+    (cc, cc)
+
+-- a frame that parses is its tree, from its first byte to its last
+pub parse-at : (s : List ℕ) → Bytes s → (t : Tree) → parse s ≡ tree t → IsAt s predicate 0 t (length s)
+parse-at s bs t e =
+    let v = parse-inv s t e in
+    let z : v .end ≡ length s = omega (arith, v .all, node-enc (suc (length s)) s bs predicate 0 t (v .end) (v .root) .within) in
+    subst (IsAt s predicate 0 t) z (suc (length s), v .root)
+
+pub at-parse : (s : List ℕ) → Bytes s → (t : Tree) → IsAt s predicate 0 t (length s) → length s ≤ frameLimit → parse s ≡ tree t
+unfolding parse
+at-parse s bs t a l =
+    let n : ℕ = length s in
+    let h : 2 ≤ n = at-end s bs predicate 0 t n a .0 in
+    let r : readNode (suc n) s predicate 0 ≡ ok t n = node-back t (suc n) s predicate 0 n (at-span s bs predicate 0 t n a) (at-wf s bs predicate 0 t n a) (omega arith) in
+    let z : n ≡ 0 → ⊥ = omega arith in
+    rw (ne-eqb n 0 z, le-ltb frameLimit n l, r, le-ltb n n (omega arith))
+
+-- ---- trees in a row
+module _ (s : List ℕ) (bs : Bytes s) (es : List Sort) (at : ℕ) (h : at ≤ length s) (ts : Forest) (q : ℕ) (a : KidsAt s es at ts q) where
+  pub kids-span : Spans s at q (encs ts)
+  kids-span = many-enc (a .0) s bs es at ts q h (a .1)
+
+  pub kids-wf : Wfs ts es
+  kids-wf = many-wf (a .0) s bs es at ts q h (a .1)
+
+  pub kids-end : (at ≤ q) × (q ≤ length s)
+  kids-end = (omega (arith, kids-span .long), kids-span .within)
+
+pub kids-count : (s : List ℕ) (es : List Sort) (at : ℕ) (ts : Forest) (q : ℕ) → KidsAt s es at ts q → count ts ≡ length es
+kids-count s es at ts q a = many-count es (readNode (a .0) s) at ts q (a .1)
+
+pub stand-all : (s : List ℕ) (es : List Sort) (at : ℕ) (ts : Forest) (q : ℕ) → Spans s at q (encs ts) → Wfs ts es → KidsAt s es at ts q
+stand-all s es at ts q a w = (suc q, many-back ts (suc q) s es at q a w (omega arith))
+
+pub kids-unique : (s : List ℕ) → Bytes s → (es : List Sort) (at : ℕ) → at ≤ length s → (ts : Forest) (q : ℕ) → KidsAt s es at ts q → (us : Forest) (r : ℕ) → KidsAt s es at us r
+    → (ts ≡ us) × (q ≡ r)
+kids-unique s bs es at h ts q a us r b =
+    let f : ℕ = suc (q + r) in
+    let x : readMany es (readNode f s) at ≡ okF ts q = many-back ts f s es at q (kids-span s bs es at h ts q a) (kids-wf s bs es at h ts q a) (omega arith) in
+    let y : readMany es (readNode f s) at ≡ okF us r = many-back us f s es at r (kids-span s bs es at h us r b) (kids-wf s bs es at h us r b) (omega arith) in
+    (cc, cc)
+
+-- no child, or a first and the others
+pub record KidsView (s : List ℕ) (n : ℕ) (a b : Bool) (at : ℕ) (ks : Forest) (q : ℕ) : Type 0 where
+  pub first : Tree
+  pub rest : Forest
+  pub mid : ℕ
+  pub one : IsAt s (sortFor a) at first mid
+  pub others : KidsAt s (kindsFor (n - 1) b b) mid rest q
+  pub is : ks ≡ cons first rest
+
+module _ (s : List ℕ) (n : ℕ) (a b : Bool) (at : ℕ) (ks : Forest) (q : ℕ) (h : KidsAt s (kindsFor n a b) at ks q) where
+  pub kids-none : n ≡ 0 → (ks ≡ nil) × (at ≡ q)
+  unfolding readMany
+  kids-none z = let e : readMany [] (readNode (h .0) s) at ≡ okF ks q = rw z at (h .1) in (cc, cc)
+
+  pub kids-some : (n ≡ 0 → ⊥) → KidsView s n a b at ks q
+  kids-some d =
+      let z : n ≡ suc (n - 1) = omega arith in
+      let e : readMany (kindsFor (suc (n - 1)) a b) (readNode (h .0) s) at ≡ okF ks q = subst (λ (i : ℕ). readMany (kindsFor i a b) (readNode (h .0) s) at ≡ okF ks q) z (h .1) in
+      let v = many-inv (sortFor a) _ (readNode (h .0) s) at ks q e in record {
+        first = v .first;
+        rest = v .rest;
+        mid = v .mid;
+        one = (h .0, v .one);
+        others = (h .0, subst (λ (es : List Sort). readMany es (readNode (h .0) s) (v .mid) ≡ okF (v .rest) q) (kinds-rest (n - 1) b) (v .others));
+        is = v .is;
+      }
+
+-- ---- a head that was read, of a node with k children
+pub record HeadOf (s : List ℕ) (at : ℕ) (e : Sort) (g n : ℕ) (us : List Ty) (tp p : ℕ) (es : List Sort) (k : ℕ) : Type 0 where
+  -- its types, from their start up to its children
+  pub types : Spans s tp p (encTys us)
+  pub starts : tp ≡ at + 2 + width (formOf g .layout)
+  pub wf : HeadWf e g n us k
+  pub sorts : es ≡ sortsOf (formOf g .layout) (numberIn g n us k)
+
+pub head-of : (s : List ℕ) → Bytes s → (at : ℕ) (e : Sort) (g n : ℕ) (us : List Ty) (tp p : ℕ) (es : List Sort) → readHead s at e ≡ okH (head g n us) tp p es
+    → (k : ℕ) → k ≡ length es → HeadOf s at e g n us tp p es k
+head-of s bs at e g n us tp p es eq k ek =
+    let r = head-read s bs at e (head g n us) tp p es eq k ek in
+    let v = head-inv s at e (head g n us) tp p es eq in
+    let i = r .is in
+    let j = v .is in
+    let eg : r .tag ≡ g = cc in
+    let en : r .own ≡ n = cc in
+    let eu : r .ts ≡ us = cc in
+    let et : tagAt s at ≡ g = cc in
+    record {
+      types = rw eu at (r .types);
+      starts = v .starts ∙ ap (λ (i : ℕ). at + 2 + width (formOf i .layout)) et;
+      wf = rw (eg, en, eu) at (r .wf);
+      sorts = rw (eg, en, eu) at (r .sorts);
+    }
+
+-- ---- a tree by the head that was read: its tag, payload, where its types and its children start, how many these are, and
+-- whether the first and the later ones are expressions
+pub record View (s : List ℕ) (e : Sort) (at : ℕ) (t : Tree) (q : ℕ) (g n tp p k : ℕ) (a b : Bool) : Type 0 where
+  pub us : List Ty
+  pub ks : Forest
+  pub is : t ≡ node (head g n us) ks
+  pub headed : readHead s at e ≡ okH (head g n us) tp p (kindsFor k a b)
+  pub top : HeadOf s at e g n us tp p (kindsFor k a b) (count ks)
+  -- its children, up to its end
+  pub below : KidsAt s (kindsFor k a b) p ks q
+  pub many : count ks ≡ k
+  pub within : (at + 2 ≤ tp) × (tp ≤ p) × (p ≤ q) × (q ≤ length s)
+
+-- the sorts that an answer says are those of the children
+said-kinds : (s : List ℕ) (at : ℕ) (e : Sort) (g n tp p k : ℕ) (a b : Bool) (y : HeadSaid (readHead s at e) g n tp p k a b) → kindsFor k a b ≡ y .es
+said-kinds s at e g n tp p k a b y =
+    ap (λ (i : ℕ). kindsFor i a b) (y .many)
+    ∙ ap₂ (λ (i j : Bool). kindsFor (length (y .es)) i j) (y .first) (y .later)
+    ∙ head-kinds s at e (head g n (y .ts)) tp p (y .es) (y .is)
+
+-- a node whose head was read, and its children
+view-node : (s : List ℕ) → Bytes s → (f : ℕ) (e : Sort) (at : ℕ) (t : Tree) (q g n : ℕ) (us : List Ty) (tp p k : ℕ) (a b : Bool)
+    → readHead s at e ≡ okH (head g n us) tp p (kindsFor k a b) → length (kindsFor k a b) ≡ k → NodeInv f s e at t q → View s e at t q g n tp p k a b
+view-node s bs f e at t q g n us tp p k a b eq el d =
+    let i = d .headed in
+    let top : d .top ≡ head g n us = cc in
+    let from : d .from ≡ p = cc in
+    let sorts : d .sorts ≡ kindsFor k a b = cc in
+    let below : readMany (kindsFor k a b) (readNode f s) p ≡ okF (d .kids) q = rw (sorts, from) at (d .below) in
+    let many : count (d .kids) ≡ length (kindsFor k a b) = many-count (kindsFor k a b) (readNode f s) p (d .kids) q below in
+    let h = head-of s bs at e g n us tp p (kindsFor k a b) eq (count (d .kids)) many in
+    let c = kids-end s bs (kindsFor k a b) p (h .types .within) (d .kids) q (f, below) in
+    record {
+      us = us;
+      ks = d .kids;
+      is = d .is ∙ ap (λ (z : Head). node z (d .kids)) top;
+      headed = eq;
+      top = h;
+      below = (f, below);
+      many = many ∙ el;
+      within = (omega (arith, h .starts), omega (arith, h .types .long), c .0, c .1);
+    }
+
+module _ (s : List ℕ) (e : Sort) (at : ℕ) (t : Tree) (q : ℕ) (h : IsAt s e at t q) (x : HeadAnswer) (ex : x ≡ headAnswer (readHead s at e)) where
+  pub view : Bytes s → (g n tp p k : ℕ) (a b : Bool) → x ≡ H.Is g n tp p k a b → View s e at t q g n tp p k a b
+  unfolding readNode
+  view bs g n tp p k a b ei = go (h .0) (h .1)
+    where
+      go : (f : ℕ) → readNode f s e at ≡ ok t q → View s e at t q g n tp p k a b
+      go zero eq = no-not eq
+      go (suc f) eq =
+          let y = head-yes (readHead s at e) g n tp p k a b (sym ei ∙ ex) in
+          let z = said-kinds s at e g n tp p k a b y in
+          view-node s bs f e at t q g n (y .ts) tp p k a b (y .is ∙ ap (okH (head g n (y .ts)) tp p) (sym z)) (ap length z ∙ sym (y .many)) (node-inv f s e at t q eq)
+
+  pub no-view {ℓ} : {X : Type ℓ} (c : ℕ) → x ≡ H.Refused c → X
+  unfolding readNode
+  no-view c ec = go (h .0) (h .1)
+    where
+      go : {X : Type ℓ} (f : ℕ) → readNode f s e at ≡ ok t q → X
+      go zero eq = no-not eq
+      go (suc f) eq = noH-not (sym (head-no (readHead s at e) c (sym ec ∙ ex)) ∙ node-inv f s e at t q eq .headed)

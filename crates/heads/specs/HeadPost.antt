@@ -1,0 +1,65 @@
+-- What the code of types and heads answers, by the definitions of frame/specs/Reading.antt: each enum as a function of a result.
+use Prim.Native.Nat.{ℕ, _+_, _*_, _-_}
+use mathlib.Core.Path.{_≡_}
+use mathlib.Core.List.{List}
+use lib.ListN.{length}
+use lib.Dec.{eqb, ltb}
+use Rattle.frame.specs.Types.{Ty, given}
+use Rattle.frame.specs.Trees.{Head, head, Tree}
+use Rattle.frame.specs.Tags.{pick, Sort}
+use Rattle.tags.specs.TagCodes.{firstSort, laterSort}
+use Rattle.frame.specs.Encoding.{encTys}
+use Rattle.frame.specs.Reading.{TyRes, okT, noT, byteOf, TysRes, okTs, noTs, HeadRes, okH, noH, readHead}
+use Rattle.frame.specs.Spans.{Spans}
+use Rattle.frame.specs.At.{IsAt}
+use Rattle.heads.specs.declared.TypeAnswer.{TypeAnswer}
+use Rattle.heads.specs.declared.TypeAnswer.the-variants as T
+use Rattle.heads.specs.declared.HeadAnswer.{HeadAnswer}
+use Rattle.heads.specs.declared.HeadAnswer.the-variants as H
+
+-- ---- types
+abbrev pub typeAnswer : TyRes → TypeAnswer
+typeAnswer (okT t p) = T.Ends p
+typeAnswer (noT c) = T.Refused c
+
+-- the given set whose type byte stands at `at`
+abbrev pub givenAt : ℕ → List ℕ → ℕ → TyRes
+givenAt lim s at = byteOf lim s (at + 1) (λ h. byteOf lim s (at + 2) (λ l. okT (given (h * 256 + l)) (at + 3)))
+
+abbrev pub typesAnswer : TysRes → TypeAnswer
+typesAnswer (okTs ts p) = T.Ends p
+typesAnswer (noTs c) = T.Refused c
+
+-- ---- heads
+-- the sorts of the children by how many they are, the first and the later ones
+abbrev pub headAnswer : HeadRes → HeadAnswer
+headAnswer (okH (head g n ts) tp p es) = H.Is g n tp p (length es) (firstSort es) (laterSort es)
+headAnswer (noH c) = H.Refused c
+
+-- ---- what was read before
+-- m types stand in a row from `at` on
+abbrev pub TypesStand : List ℕ → ℕ → ℕ → Type 0
+TypesStand s at m = (us : List Ty) × (q : ℕ) × (length us ≡ m) × Spans s at q (encTys us)
+
+-- r is where they end
+pub record SkipPost (s : List ℕ) (at m r : ℕ) : Type 0 where
+  pub ends : (us : List Ty) (q : ℕ) → length us ≡ m → Spans s at q (encTys us) → r ≡ q
+
+-- how many bytes of a type stand before its parts, and how many parts it has, by its first byte
+abbrev pub leadOf : ℕ → ℕ
+leadOf b = pick (eqb b 2) 3 1
+
+abbrev pub partsOf : ℕ → ℕ
+partsOf b = pick (ltb b 3) 0 (b - 2)
+
+-- a tree of some sort stands at `at`
+abbrev pub HeadStands : List ℕ → ℕ → Type 0
+HeadStands s at = (e : Sort) × (t : Tree) × (q : ℕ) × IsAt s e at t q
+
+-- r is where its head ends
+pub record HeadEnd (s : List ℕ) (at r : ℕ) : Type 0 where
+  pub by : (e : Sort) (t : Tree) (q : ℕ) → IsAt s e at t q → (h : Head) (tp p : ℕ) (es : List Sort) → readHead s at e ≡ okH h tp p es → r ≡ p
+
+-- r is the answer of the definition
+pub record KnownPost (s : List ℕ) (at : ℕ) (r : HeadAnswer) : Type 0 where
+  pub by : (e : Sort) (t : Tree) (q : ℕ) → IsAt s e at t q → r ≡ headAnswer (readHead s at e)

@@ -1,0 +1,219 @@
+// Types and heads of a frame, read from left to right (document 01, "Numbers of what is turned down", 3 to 6), and passed over again once
+// they were read. Positions count bytes from the frame's start. A sort is a bool: true for an expression.
+ghost use mathlib.Core.Path.{_≡_};
+ghost use Prim.Native.Nat.{ℕ, _+_, _≤_, _<_};
+ghost use lib.ListN.{length};
+ghost use mathlib.Core.Bool.{true};
+ghost use mathlib.Core.List.{List};
+ghost use Rattle.frame.specs.Types.{Ty};
+ghost use Rattle.frame.specs.Tags.{inRange};
+ghost use Rattle.tags.specs.TagCodes.{formAtCode, sortFor};
+ghost use Rattle.frame.specs.Reading.{numberAt, readTy, readTys, okTs, withTys, readHead, tree};
+ghost use Rattle.heads.specs.HeadPost.{typeAnswer, givenAt, typesAnswer, headAnswer, TypesStand, SkipPost, leadOf, partsOf, HeadStands, HeadEnd, KnownPost};
+use frame::refusals::BAD_COUNT;
+use frame::refusals::BAD_TAG;
+use frame::refusals::BAD_TYPE;
+use frame::refusals::ENDS_INSIDE;
+
+// "A type has at most 64 bytes."
+const TYPE_LIMIT: usize = 64;
+
+// What reading a type, or several in a row, finds: where they end, or the number of what is turned down.
+pub enum TypeAnswer {
+    Ends(usize),
+    Refused(u8),
+}
+
+// What reading a head finds: its tag and payload, where its types start, where its children start, how many they are, and
+// whether the first and the later ones are expressions.
+pub enum HeadAnswer {
+    Is {
+        tag: usize,
+        payload: usize,
+        types: usize,
+        children: usize,
+        count: usize,
+        first: bool,
+        later: bool,
+    },
+    Refused(u8),
+}
+
+// The number in the w bytes at `at`, high byte first.
+pub fn number(s: &[u8], at: usize, w: usize) -> usize
+    requires { ⌜ (at + w ≤ length (now s)) × (w ≤ 8) ⌝ }
+    ensures { λ r. ⌜ r ≡ numberAt w (now (s .entry)) at ⌝ }
+{
+    let mut x: usize = 0;
+    let mut i: usize = 0;
+    while i < w {
+        x = x * 256 + octets::wide(s[at + i]);
+        i += 1;
+    }
+    x
+}
+
+// The type at `at`, which has to end by lim. The byte past the limit is not looked at, so 6 comes before 3.
+pub fn read_type(s: &[u8], at: usize, lim: usize) -> TypeAnswer
+    requires { ⌜ (at ≤ length (now s)) × (at ≤ lim) × (lim ≤ length (now s) + 64) ⌝ }
+    ensures { λ r. ⌜ ((f : ℕ) → lim < at + f → r ≡ typeAnswer (readTy f lim (now (s .entry)) at)) ⌝ }
+{
+    if lim <= at {
+        return TypeAnswer::Refused(BAD_TYPE);
+    }
+    if s.len() <= at {
+        return TypeAnswer::Refused(ENDS_INSIDE);
+    }
+    let b = s[at];
+    match b {
+        0 => TypeAnswer::Ends(at + 1),
+        1 => TypeAnswer::Ends(at + 1),
+        2 => given_number(s, at, lim),
+        3 => read_type(s, at + 1, lim),
+        4 => {
+            let a = read_type(s, at + 1, lim);
+            match a {
+                TypeAnswer::Ends(p) => read_type(s, p, lim),
+                TypeAnswer::Refused(c) => TypeAnswer::Refused(c),
+            }
+        }
+        _ => TypeAnswer::Refused(BAD_TYPE),
+    }
+}
+
+// The two-byte number of the given set whose type byte stands at `at`: its bytes are met one after the other.
+fn given_number(s: &[u8], at: usize, lim: usize) -> TypeAnswer
+    requires { ⌜ (at < length (now s)) × (at < lim) × (lim ≤ length (now s) + 64) ⌝ }
+    ensures { λ r. ⌜ r ≡ typeAnswer (givenAt lim (now (s .entry)) at) ⌝ }
+{
+    if lim <= at + 1 {
+        return TypeAnswer::Refused(BAD_TYPE);
+    }
+    if s.len() <= at + 1 {
+        return TypeAnswer::Refused(ENDS_INSIDE);
+    }
+    if lim <= at + 2 {
+        return TypeAnswer::Refused(BAD_TYPE);
+    }
+    if s.len() <= at + 2 {
+        return TypeAnswer::Refused(ENDS_INSIDE);
+    }
+    TypeAnswer::Ends(at + 3)
+}
+
+// n types in a row.
+pub fn read_types(s: &[u8], at: usize, n: usize) -> TypeAnswer
+    requires { ⌜ at ≤ length (now s) ⌝ }
+    ensures { λ r. ⌜ r ≡ typesAnswer (readTys n (now (s .entry)) at) ⌝ }
+{
+    if n == 0 {
+        return TypeAnswer::Ends(at);
+    }
+    let a = read_type(s, at, at + TYPE_LIMIT);
+    match a {
+        TypeAnswer::Ends(p) => read_types(s, p, n - 1),
+        TypeAnswer::Refused(c) => TypeAnswer::Refused(c),
+    }
+}
+
+// The head that has been read: a tag of this form, the number x, and types up to `children`.
+fn head_is(tag: usize, form: usize, x: usize, types: usize, children: usize) -> HeadAnswer
+    requires { ⌜ (form < 20) × (inRange (formAtCode form .layout) x ≡ true) ⌝ }
+    ensures { λ r. ⌜ ((ts : List Ty) → r ≡ headAnswer (withTys (formAtCode form) tag x types (okTs ts children))) ⌝ }
+{
+    HeadAnswer::Is {
+        tag: tag,
+        payload: tags::payload_of(form, x),
+        types: types,
+        children: children,
+        count: tags::children_of(form, x),
+        first: tags::first_of(form),
+        later: tags::later_of(form),
+    }
+}
+
+// The head at `at` of a tree that has to be an expression where e, else a predicate.
+pub fn read_head(s: &[u8], at: usize, e: bool) -> HeadAnswer
+    requires { ⌜ at ≤ length (now s) ⌝ }
+    ensures { λ r. ⌜ r ≡ headAnswer (readHead (now (s .entry)) at (sortFor e)) ⌝ }
+{
+    if s.len() < at + 2 {
+        return HeadAnswer::Refused(ENDS_INSIDE);
+    }
+    let tag = number(s, at, 2);
+    let form = tags::form_of(tag);
+    if form == 0 {
+        return HeadAnswer::Refused(BAD_TAG);
+    }
+    if !tags::is_sort(form, e) {
+        return HeadAnswer::Refused(BAD_TAG);
+    }
+    let w = tags::width_of(form);
+    if s.len() < at + 2 + w {
+        return HeadAnswer::Refused(ENDS_INSIDE);
+    }
+    let x = number(s, at + 2, w);
+    if !tags::in_range(form, x) {
+        return HeadAnswer::Refused(BAD_COUNT);
+    }
+    let types = at + 2 + w;
+    let a = read_types(s, types, tags::types_of(form, x));
+    match a {
+        TypeAnswer::Ends(q) => head_is(tag, form, x, types, q),
+        TypeAnswer::Refused(c) => HeadAnswer::Refused(c),
+    }
+}
+
+// How many bytes of a type stand before its parts: a given set has its number behind the type byte.
+fn type_bytes(b: u8) -> usize
+    ensures { λ r. ⌜ r ≡ leadOf b ⌝ }
+{
+    if b == 2 { 3 } else { 1 }
+}
+
+// How many parts a type has: a power one, a product two.
+fn type_parts(b: u8) -> usize
+    ensures { λ r. ⌜ r ≡ partsOf b ⌝ }
+{
+    if b < 3 { 0 } else { octets::wide(b) - 2 }
+}
+
+// Where m types in a row end that were read before.
+pub fn skip_types(s: &[u8], at: usize, m: usize) -> usize
+    requires { ⌜ TypesStand (now s) at m ⌝ }
+    ensures { λ r. ⌜ SkipPost (now (s .entry)) at m r ⌝ }
+{
+    let mut p = at;
+    let mut left = m;
+    while 0 < left {
+        let b = s[p];
+        p += type_bytes(b);
+        left = left - 1 + type_parts(b);
+    }
+    p
+}
+
+// Where the head ends of a tree that was read before.
+pub fn head_end(s: &[u8], at: usize) -> usize
+    requires { ⌜ HeadStands (now s) at ⌝ }
+    ensures { λ r. ⌜ HeadEnd (now (s .entry)) at r ⌝ }
+{
+    let form = tags::form_of(number(s, at, 2));
+    let w = tags::width_of(form);
+    let x = number(s, at + 2, w);
+    skip_types(s, at + 2 + w, tags::types_of(form, x))
+}
+
+// The head of a tree that was read before: nothing of it is checked again.
+pub fn known_head(s: &[u8], at: usize) -> HeadAnswer
+    requires { ⌜ HeadStands (now s) at ⌝ }
+    ensures { λ r. ⌜ KnownPost (now (s .entry)) at r ⌝ }
+{
+    let tag = number(s, at, 2);
+    let form = tags::form_of(tag);
+    let w = tags::width_of(form);
+    let x = number(s, at + 2, w);
+    let types = at + 2 + w;
+    let children = skip_types(s, types, tags::types_of(form, x));
+    head_is(tag, form, x, types, children)
+}

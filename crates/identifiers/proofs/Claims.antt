@@ -1,0 +1,150 @@
+-- The names of a tree agree exactly if no number has claims of two types.
+-- Main results: agree-told (a table that holds all the claims: the names agree), clash-disagree (two claims clash: they do
+-- not), type-unique (one place has one type).
+use mathlib.Core.Path.{_≡_, refl, sym, ap, _∙_, subst}
+use mathlib.Core.Logic.{_⊎_, inl, inr}
+use mathlib.Core.Bool.{Bool, true, false}
+use mathlib.Core.List.{List, [], _∷_, _++_}
+use Prim.Native.Nat.{ℕ, _+_}
+use native.Mathlib.Omega.{arith}
+use lib.ListN.{getD}
+use lib.Dec.{eqb}
+use borrow.Author.Tests.{eqb-true, eqb-false}
+use Rattle.frame.specs.Types.{Ty}
+use Rattle.frame.specs.Trees.{head, Tree, node, Forest, nil, cons}
+use Rattle.frame.specs.Tags.{pick}
+use Rattle.frame.proofs.ReadTypes.{ty-back}
+use Rattle.typing.specs.Members.{In, All}
+use Rattle.typing.specs.Identifiers.{Named, named, givensTys, identOf, idents, identsIn, givens, givensIn, namesAgree}
+use Rattle.identifiers.specs.Claims.{powers, claims, claimsIn, Clash, TypeAt, Says, by-mark, by-place, Told}
+use Rattle.typing.specs.Signature.{signed, signature}
+use Rattle.typing.proofs.Names.{all-join, all-left, all-right, all-of, NameOk, GivenOk, Signed, SignedAll, signed-agree, names-signed}
+
+-- ---- members of two lists joined
+module _ {A : Type 0} where
+  pub in-left : (x : A) (l m : List A) → In x l → In x (l ++ m)
+  in-left x [] m i = absurd i
+  in-left x (y ∷ l) m (inl e) = inl e
+  in-left x (y ∷ l) m (inr i) = inr (in-left x l m i)
+
+  pub in-right : (x : A) (l m : List A) → In x m → In x (l ++ m)
+  in-right x [] m i = i
+  in-right x (y ∷ l) m i = inr (in-right x l m i)
+
+  pub in-either : (x : A) (l m : List A) → In x (l ++ m) → In x l ⊎ In x m
+  in-either x [] m i = inr i
+  in-either x (y ∷ l) m (inl e) = inl (inl e)
+  in-either x (y ∷ l) m (inr i) = or-left (in-either x l m i)
+    where
+      or-left : In x l ⊎ In x m → In x (y ∷ l) ⊎ In x m
+      or-left (inl j) = inl (inr j)
+      or-left (inr j) = inr j
+
+  pub all-in : (P : A → Type 0) (l : List A) (x : A) → All P l → In x l → P x
+  all-in P [] x h i = absurd i
+  all-in P (y ∷ l) x h (inl e) = subst P (sym e) (h .0)
+  all-in P (y ∷ l) x h (inr i) = all-in P l x (h .1) i
+
+-- ---- a tree is signed exactly if its claims are
+module _ (σ : ℕ → Ty) where
+  powers-ok : (ns : List ℕ) → All (GivenOk σ) ns → All (NameOk σ) (powers ns)
+  unfolding powers
+  powers-ok [] h = tt
+  powers-ok (n ∷ ns) h = (sym (h .0), powers-ok ns (h .1))
+
+  ok-powers : (ns : List ℕ) → All (NameOk σ) (powers ns) → All (GivenOk σ) ns
+  unfolding powers
+  ok-powers [] h = tt
+  ok-powers (n ∷ ns) h = (sym (h .0), ok-powers ns (h .1))
+
+  mutual
+    unfolding claims idents givens
+
+    claims-of-signed : (t : Tree) → Signed σ t → All (NameOk σ) (claims t)
+    claims-of-signed (node (head g n us) ks) s =
+        let a = all-left (GivenOk σ) (givensTys us) (givensIn ks) (s .1) in
+        let b = all-right (GivenOk σ) (givensTys us) (givensIn ks) (s .1) in
+        let c = all-left (NameOk σ) (identOf g n us) (identsIn ks) (s .0) in
+        let d = all-right (NameOk σ) (identOf g n us) (identsIn ks) (s .0) in
+        all-join (NameOk σ) (powers (givensTys us)) (identOf g n us ++ claimsIn ks) (powers-ok (givensTys us) a)
+        (all-join (NameOk σ) (identOf g n us) (claimsIn ks) c (claims-of-signed-all ks (d, b)))
+
+    claims-of-signed-all : (ks : Forest) → SignedAll σ ks → All (NameOk σ) (claimsIn ks)
+    claims-of-signed-all nil s = tt
+    claims-of-signed-all (cons t ks) s =
+        let a = all-left (GivenOk σ) (givens t) (givensIn ks) (s .1) in
+        let b = all-right (GivenOk σ) (givens t) (givensIn ks) (s .1) in
+        let c = all-left (NameOk σ) (idents t) (identsIn ks) (s .0) in
+        let d = all-right (NameOk σ) (idents t) (identsIn ks) (s .0) in
+        all-join (NameOk σ) (claims t) (claimsIn ks) (claims-of-signed t (c, a)) (claims-of-signed-all ks (d, b))
+
+  mutual
+    unfolding claims idents givens
+
+    signed-of-claims : (t : Tree) → All (NameOk σ) (claims t) → Signed σ t
+    signed-of-claims (node (head g n us) ks) h =
+        let a = ok-powers (givensTys us) (all-left (NameOk σ) (powers (givensTys us)) (identOf g n us ++ claimsIn ks) h) in
+        let b = all-right (NameOk σ) (powers (givensTys us)) (identOf g n us ++ claimsIn ks) h in
+        let c = all-left (NameOk σ) (identOf g n us) (claimsIn ks) b in
+        let d = signed-of-claims-all ks (all-right (NameOk σ) (identOf g n us) (claimsIn ks) b) in
+        (all-join (NameOk σ) (identOf g n us) (identsIn ks) c (d .0), all-join (GivenOk σ) (givensTys us) (givensIn ks) a (d .1))
+
+    signed-of-claims-all : (ks : Forest) → All (NameOk σ) (claimsIn ks) → SignedAll σ ks
+    signed-of-claims-all nil h = (tt, tt)
+    signed-of-claims-all (cons t ks) h =
+        let a = signed-of-claims t (all-left (NameOk σ) (claims t) (claimsIn ks) h) in
+        let b = signed-of-claims-all ks (all-right (NameOk σ) (claims t) (claimsIn ks) h) in
+        (all-join (NameOk σ) (idents t) (identsIn ks) (a .0) (b .0), all-join (GivenOk σ) (givens t) (givensIn ks) (a .1) (b .1))
+
+-- ---- claims that agree with each other are signed by the first of each number
+first-in : (l : List Named) (n : ℕ) (t : Ty) → In (named n t) l → In (named n (signed l n)) l
+unfolding signed
+first-in [] n t i = i
+first-in (named m u ∷ l) n t i = go (λ j. first-in l n t j) (eqb n m) refl
+  where
+    later : In (named n t) (named m u ∷ l) → (n ≡ m → ⊥) → In (named n t) l
+    later (inl e) d = absurd (d (cc))
+    later (inr j) d = j
+
+    go : (In (named n t) l → In (named n (signed l n)) l) → (b : Bool) → eqb n m ≡ b → In (named n (pick b u (signed l n))) (named m u ∷ l)
+    go f true e = inl (ap (λ (x : ℕ). named x u) (eqb-true n m e))
+    go f false e = inr (f (later i (eqb-false n m e)))
+
+abbrev Functional : List Named → Type 0
+Functional l = (n : ℕ) (t u : Ty) → In (named n t) l → In (named n u) l → t ≡ u
+
+functional-signed : (l : List Named) → Functional l → All (NameOk (signed l)) l
+functional-signed l f = all-of (NameOk (signed l)) l each
+  where
+    each : (a : Named) → In a l → NameOk (signed l) a
+    each (named n t) i = f n t (signed l n) i (first-in l n t i)
+
+functional-agree : (t : Tree) → Functional (claims t) → namesAgree t ≡ true
+functional-agree t f = signed-agree (signed (claims t)) t (signed-of-claims (signed (claims t)) t (functional-signed (claims t) f))
+
+pub clash-disagree : (t : Tree) → Clash (claims t) → namesAgree t ≡ false
+clash-disagree t c = go (namesAgree t) refl
+  where
+    go : (b : Bool) → namesAgree t ≡ b → b ≡ false
+    go true e =
+        let σ : ℕ → Ty = signature t in
+        let h = claims-of-signed σ t (names-signed t e) in
+        absurd (c .differ (all-in (NameOk σ) (claims t) (named (c .number) (c .one)) h (c .first) ∙ sym (all-in (NameOk σ) (claims t) (named (c .number) (c .other)) h (c .second))))
+    go false e = refl
+
+-- ---- what an entry says
+pub type-unique : (s : List ℕ) (p q r : ℕ) (t u : Ty) → TypeAt s p q t → TypeAt s p r u → t ≡ u
+type-unique s p q r t u a b =
+    let k : ℕ = q + r in
+    cc (ty-back t k k s p q (a .span) (a .wf) (omega arith) (omega arith), ty-back u k k s p r (b .span) (b .wf) (omega arith) (omega arith))
+
+pub says-unique : (s : List ℕ) (n v : ℕ) (t u : Ty) → Says s n v t → Says s n v u → t ≡ u
+says-unique s n v t u (by-mark e f) (by-mark g h) = f ∙ sym h
+says-unique s n v t u (by-mark e f) (by-place p q g l a) = absurd (omega arith)
+says-unique s n v t u (by-place p q g l a) (by-mark e f) = absurd (omega arith)
+says-unique s n v t u (by-place p q g l a) (by-place p' q' g' l' a') =
+    let z : p' ≡ p = omega arith in
+    type-unique s p q q' t u a (subst (λ (i : ℕ). TypeAt s i q' u) z a')
+
+pub agree-told : (s table : List ℕ) (t : Tree) → Told s table (claims t) → namesAgree t ≡ true
+agree-told s table t h = functional-agree t (λ n u v i j. says-unique s n (getD table n 0) u v (h .all n u i) (h .all n v j))

@@ -1,0 +1,4 @@
+pub mod Claims
+pub mod NotedClaims
+pub mod NotingTypes
+pub mod NotingNodes

@@ -1,0 +1,188 @@
+// Number 9 (document 01: "One identifier number has two types, or is the number of a given set in some type of the tree and
+// its type isn't the power of that set."). Nodes stand in prefix order, and so do the parts of a type: the frame is gone
+// through once from left to right, and a table holds what has been claimed of each identifier number. A frame with a number
+// beyond the table is gone through again with a table of all numbers.
+use octets::same_bytes;
+use octets::wide16;
+ghost use mathlib.Core.Path.{_≡_};
+ghost use Prim.Native.Nat.{ℕ, _+_, _-_, _≤_, _<_};
+ghost use mathlib.Core.List.{List};
+ghost use lib.ListN.{length};
+ghost use Rattle.frame.specs.Types.{Ty};
+ghost use Rattle.frame.specs.Trees.{Tree, Forest};
+ghost use Rattle.frame.specs.Tags.{Sort, predicate};
+ghost use Rattle.frame.specs.At.{IsAt, Rest};
+ghost use Rattle.frame.specs.Reading.{frameLimit};
+ghost use Rattle.typing.specs.Identifiers.{namesAgree};
+ghost use Rattle.identifiers.specs.Claims.{PowerPost, SameType, Held, TypeAt, TypesAt, NamePost, GivenPost, TypesPost, NamesPost};
+
+const IDENTIFIER: usize = 1;
+
+// The entry of a number that a given set has claimed. Other entries are one more than the position of an identifier's type,
+// and 0 where nothing has been claimed.
+const GIVEN: u16 = 5000;
+
+// What noting the given sets of types finds: where the types end, that a number has been claimed with another type, or that
+// the table has no entry for a number.
+enum Noting {
+    Ends(usize),
+    Clashed,
+    Beyond,
+}
+
+// Whether the names agree; undecided if the table has no entry for a number.
+enum Names {
+    Agree,
+    Differ,
+    Undecided,
+}
+
+// Whether the type from p up to q stands at e as well.
+fn same_type(s: &[u8], p: usize, q: usize, e: usize) -> bool
+    requires { ⌜ (p ≤ q) × (q ≤ length (now s)) × (e ≤ length (now s)) × (length (now s) ≤ frameLimit) ⌝ }
+    ensures { λ r. ⌜ SameType (now (s .entry)) p q e r ⌝ }
+{
+    let n = q - p;
+    if s.len() < e + n {
+        return false;
+    }
+    same_bytes(s, p, e, n)
+}
+
+// Whether the type at p is the power of the given set n.
+pub fn is_power(s: &[u8], p: usize, n: usize) -> bool
+    requires { ⌜ (p ≤ length (now s)) × (length (now s) ≤ frameLimit) × (n < 65536) ⌝ }
+    ensures { λ r. ⌜ PowerPost (now (s .entry)) p n r ⌝ }
+{
+    if s.len() < p + 4 {
+        return false;
+    }
+    if s[p] != 3 {
+        return false;
+    }
+    if s[p + 1] != 2 {
+        return false;
+    }
+    octets::wide(s[p + 2]) * 256 + octets::wide(s[p + 3]) == n
+}
+
+// An identifier n whose type stands from p up to q.
+fn note_identifier(s: &[u8], n: usize, p: usize, q: usize, table: &mut [u16]) -> bool
+    requires { ⌜ (n < 65536) × (n < length (now table)) × Held (now s) (now table) × ((t : Ty) × TypeAt (now s) p q t) ⌝ }
+    ensures { λ r. ⌜ NamePost (now (s .entry)) n p q (now (table .entry)) (now (table .exit)) r ⌝ }
+{
+    let entry = table[n];
+    if entry == 0 {
+        table[n] = (p + 1) as u16;
+        return true;
+    }
+    if entry == GIVEN {
+        return is_power(s, p, n);
+    }
+    same_type(s, p, q, wide16(entry) - 1)
+}
+
+// A given set n in some type: its number is an identifier's of one type only, the power of that set.
+fn note_given(s: &[u8], n: usize, table: &mut [u16]) -> bool
+    requires { ⌜ (n < 65536) × (n < length (now table)) × Held (now s) (now table) ⌝ }
+    ensures { λ r. ⌜ GivenPost (now (s .entry)) n (now (table .entry)) (now (table .exit)) r ⌝ }
+{
+    let entry = table[n];
+    if entry == 0 {
+        table[n] = GIVEN;
+        return true;
+    }
+    if entry == GIVEN {
+        return true;
+    }
+    is_power(s, wide16(entry) - 1, n)
+}
+
+// The given sets in m types that stand at `at`.
+fn note_types(s: &[u8], at: usize, m: usize, table: &mut [u16]) -> Noting
+    requires { ⌜ Held (now s) (now table) × ((us : List Ty) × (q : ℕ) × TypesAt (now s) at m us q) ⌝ }
+    ensures { λ r. ⌜ TypesPost (now (s .entry)) at m (now (table .entry)) (now (table .exit)) r ⌝ }
+{
+    if m == 0 {
+        return Noting::Ends(at);
+    }
+    let b = s[at];
+    match b {
+        2 => {
+            let n = octets::wide(s[at + 1]) * 256 + octets::wide(s[at + 2]);
+            if table.len() <= n {
+                return Noting::Beyond;
+            }
+            let fits = note_given(s, n, table);
+            if !fits {
+                return Noting::Clashed;
+            }
+            note_types(s, at + 3, m - 1, table)
+        }
+        3 => note_types(s, at + 1, m, table),
+        4 => note_types(s, at + 1, m + 1, table),
+        _ => note_types(s, at + 1, m - 1, table),
+    }
+}
+
+// The nodes from `at` to the end of the frame. A node's children are the next nodes, so no list of open nodes is kept.
+fn note_nodes(s: &[u8], at: usize, table: &mut [u16]) -> Names
+    requires { ⌜ Held (now s) (now table) × ((ts : Forest) × (es : List Sort) × Rest (now s) at ts es) ⌝ }
+    ensures { λ r. ⌜ NamesPost (now (s .entry)) at (now (table .entry)) (now (table .exit)) r ⌝ }
+{
+    if s.len() <= at {
+        return Names::Agree;
+    }
+    let tag = heads::number(s, at, 2);
+    let form = tags::form_of(tag);
+    let w = tags::width_of(form);
+    let x = heads::number(s, at + 2, w);
+    let m = tags::types_of(form, x);
+    let a = note_types(s, at + 2 + w, m, table);
+    match a {
+        Noting::Clashed => Names::Differ,
+        Noting::Beyond => Names::Undecided,
+        Noting::Ends(p) => {
+            if tag != IDENTIFIER {
+                return note_nodes(s, p, table);
+            }
+            if table.len() <= x {
+                return Names::Undecided;
+            }
+            let fits = note_identifier(s, x, at + 2 + w, p, table);
+            if !fits {
+                return Names::Differ;
+            }
+            note_nodes(s, p, table)
+        }
+    }
+}
+
+// Whether the names of a frame's tree agree. The table has an entry for each two-byte number: so the time grows with the
+// frame alone, whichever numbers it has.
+fn names_in_full(s: &[u8]) -> bool
+    requires { ⌜ (length (now s) ≤ frameLimit) × ((t : Tree) × IsAt (now s) predicate 0 t (length (now s))) ⌝ }
+    ensures { λ r. ⌜ ((t : Tree) → IsAt (now (s .entry)) predicate 0 t (length (now (s .entry))) → r ≡ namesAgree t) ⌝ }
+{
+    let mut table = [0u16; 65536];
+    let a = note_nodes(s, 0, &mut table);
+    match a {
+        Names::Agree => true,
+        Names::Differ => false,
+        Names::Undecided => false,
+    }
+}
+
+// The same. Nearly all frames have small numbers only: those don't pay for clearing the table of all numbers.
+pub fn names_ok(s: &[u8]) -> bool
+    requires { ⌜ (length (now s) ≤ frameLimit) × ((t : Tree) × IsAt (now s) predicate 0 t (length (now s))) ⌝ }
+    ensures { λ r. ⌜ ((t : Tree) → IsAt (now (s .entry)) predicate 0 t (length (now (s .entry))) → r ≡ namesAgree t) ⌝ }
+{
+    let mut table = [0u16; 256];
+    let a = note_nodes(s, 0, &mut table);
+    match a {
+        Names::Agree => true,
+        Names::Differ => false,
+        Names::Undecided => names_in_full(s),
+    }
+}

@@ -1,0 +1,2 @@
+pub mod ImpTurns
+pub mod AndTurns

@@ -1,0 +1,67 @@
+use Rattle.decision.proofs.Shapes.{first-placed, second-placed}
+use Rattle.decision.proofs.TwoPlaces.{both-placed, two-few}
+use Rattle.implication.proofs.ImpTurns.{out-66, out-67, out-68, out-69, out-70, first-none}
+use borrow.Author.Needs.{needs}
+use Rattle.implication.proofs.implication_first_at.Statement.{statement}
+use Rattle.implication.proofs.implication_first_at.Tie as tie
+
+tag-at-requires : tie.Need-tag-at-requires
+tag-at-requires c κs = first-placed (c .before .pre)
+
+tag-at-requires-2 : tie.Need-tag-at-requires-2
+tag-at-requires-2 c κs = second-placed (c .before .before .pre)
+
+fixed-requires : tie.Need-fixed-requires
+fixed-requires c κs = search needs
+
+returns : tie.Need-returns
+returns c = out-66 _ _ _ _ _ _ _ (c .before .before .before .tag-at .ensures) (c .before .before .tag-at2 .ensures) (c .before .if1 .taken) _ (c .fixed .ensures)
+
+fixed-requires-2 : tie.Need-fixed-requires-2
+fixed-requires-2 c κs = search needs
+
+returns-2 : tie.Need-returns-2
+returns-2 c = out-67 _ _ _ _ _ _ _ (c .before .before .before .before .tag-at .ensures) (c .before .before .before .tag-at2 .ensures) (c .before .if2 .taken) _ (c .fixed2 .ensures)
+
+fixed-requires-3 : tie.Need-fixed-requires-3
+fixed-requires-3 c κs = search needs
+
+returns-3 : tie.Need-returns-3
+returns-3 c = out-68 _ _ _ _ _ _ _ (c .before .before .before .before .before .tag-at .ensures) (c .before .before .before .before .tag-at2 .ensures) (c .before .before .before .if1 .left) (c .before .before .if2 .left) (c .before .if3 .taken) _ (c .fixed3 .ensures)
+
+make-neg-requires : tie.Need-make-neg-requires
+make-neg-requires c κs = two-few (c .before .before .before .before .before .before .before .pre) .0
+
+returns-4 : tie.Need-returns-4
+returns-4 c = out-69 _ _ _ _ _ _ _ (c .before .before .before .before .before .before .tag-at .ensures) (c .before .before .before .before .before .tag-at2 .ensures) (c .before .before .before .before .if1 .left) (c .before .before .before .if2 .left) (c .before .if4 .taken) _ (c .make-neg .ensures)
+
+same-at-requires : tie.Need-same-at-requires
+same-at-requires c κs = both-placed (c .before .before .before .before .before .before .before .pre)
+
+fixed-requires-4 : tie.Need-fixed-requires-4
+fixed-requires-4 c κs = search needs
+
+returns-5 : tie.Need-returns-5
+returns-5 c = out-70 _ _ _ _ _ _ _ (c .before .before .before .before .before .before .before .before .tag-at .ensures) (c .before .before .before .before .before .before .before .tag-at2 .ensures) (c .before .before .before .before .before .before .if1 .left) (c .before .before .before .before .before .if2 .left) (c .before .before .before .before .if3 .left) (c .before .before .before .if4 .left) _ (c .before .before .same-at .ensures) (c .before .if5 .taken) _ (c .fixed4 .ensures)
+
+returns-6 : tie.Need-returns-6
+returns-6 c = first-none _ _ _ _ _ _ _ (c .before .before .before .before .before .before .before .tag-at .ensures) (c .before .before .before .before .before .before .tag-at2 .ensures) (c .before .before .before .before .before .if1 .left) (c .before .before .before .before .if2 .left) (c .before .before .before .if3 .left) (c .before .before .if4 .left) _ (c .before .same-at .ensures) (c .if5 .left)
+
+pub implication-first-at-spec : {M : Type 1} → statement M
+implication-first-at-spec =
+    tie.close
+    (tie.spec
+    tag-at-requires
+    tag-at-requires-2
+    fixed-requires
+    returns
+    fixed-requires-2
+    returns-2
+    fixed-requires-3
+    returns-3
+    make-neg-requires
+    returns-4
+    same-at-requires
+    fixed-requires-4
+    returns-5
+    returns-6)

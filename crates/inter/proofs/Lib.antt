@@ -1,0 +1,2 @@
+pub mod SingleTurns
+pub mod InterTurns

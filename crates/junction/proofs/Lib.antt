@@ -1,0 +1,2 @@
+pub mod JunctionTurns
+pub mod JunctionMeans

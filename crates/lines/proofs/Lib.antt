@@ -1,0 +1,2 @@
+pub mod LineTurns
+pub mod LineWrites

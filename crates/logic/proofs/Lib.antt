@@ -1,0 +1,2 @@
+pub mod LogicTurns
+pub mod QuantTurns

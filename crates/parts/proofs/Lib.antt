@@ -1,0 +1,2 @@
+pub mod MadeTypes
+pub mod Parts

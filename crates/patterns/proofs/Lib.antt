@@ -1,0 +1,4 @@
+pub mod MatchTurns
+pub mod PairTurns
+pub mod FillTurns
+pub mod JudgeTurns

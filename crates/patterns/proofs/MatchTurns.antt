@@ -1,0 +1,343 @@
+-- The ways out of `match_pattern`: at each, what the code found is what `matches` says.
+-- Main results: packed-end, by-symbol (the pattern of a word); row-none .. row-type (types in a row); the laws fit-end .. next-same
+-- (one for each way out).
+use Rattle.frame.proofs.ReadTypes.{ty-long}
+use mathlib.Core.Path.{_≡_, refl, sym, ap, _∙_, subst, subst₃}
+use mathlib.Core.Bool.{Bool, true, false}
+use mathlib.Core.List.{List, [], _∷_, _++_, append-assoc}
+use Prim.Native.Nat.{ℕ, zero, suc, _+_, _-_, _/_, _%_, _≤_, _<_}
+use native.Mathlib.Omega.{arith}
+use lib.ListN.{length, take, drop, getD, set, length-append, length-set, take-append-drop}
+use lib.Seq.{getD-set-same, getD-set-other, length-take-le}
+use borrow.Author.Count.{below-more}
+use lib.Dec.{eqb}
+use borrow.Author.Tests.{lt-ltb, le-ltb, eqb-true, eqb-false, eq-eqb, ne-eqb}
+use Rattle.frame.specs.Types.{Ty, bool, int, given, pow, prod}
+use Rattle.frame.specs.Tags.{pick}
+use Rattle.frame.specs.Encoding.{encTy, encTys}
+use Rattle.frame.specs.Sameness.{sameTy}
+use Rattle.frame.specs.WellFormed.{TyWf}
+use Rattle.frame.specs.Spans.{Spans}
+use Rattle.frame.proofs.Spans.{span-first, span-left, span-right}
+use Rattle.frame.proofs.ReadTypes.{ty-prefix}
+use Rattle.frame.proofs.SameTrees.{both-true, same-ty}
+use Rattle.frame.proofs.Inversion.{true-not}
+use Rattle.typing.specs.Typing.{ty}
+use Rattle.type_rules.specs.Patterns.{symbolOf, partsOf, Matched, differs, matches}
+use Rattle.type_rules.specs.RuleNumbers.{packs, Packed}
+use Rattle.type_bytes.specs.Buffers.{TypeAt, EndOf}
+use Rattle.octets.specs.Bytes.{SameBytes}
+use Rattle.patterns.specs.PatternPosts.{TysFit, RowAt, EnvAt, MatchPre, Matching, MatchPost}
+use Rattle.patterns.specs.declared.Fit.{Fit}
+use Rattle.patterns.specs.declared.Fit.the-variants as F
+use Rattle.type_bytes.proofs.BufferLaws.{span-get, span-by}
+use Rattle.typing.proofs.Same.{same-ty-of}
+
+-- ---- the pattern of a word
+none-else : (x y : Bool) → pick x false y ≡ true → (x ≡ false) × (y ≡ true)
+none-else true y e = true-not e
+none-else false y e = (refl, e)
+
+-- its first symbol, and the word of the others
+pub packed-cons : (b : ℕ) (ps : List ℕ) (p : ℕ) → Packed (b ∷ ps) p → (p % 16 ≡ b) × (b ≡ 2 → ⊥) × Packed ps (p / 16)
+packed-cons b ps p h =
+    let parts = both-true (eqb (p % 16) b) (pick (eqb b 2) false (packs ps (p / 16))) h in
+    let q = none-else (eqb b 2) (packs ps (p / 16)) (parts .1) in
+    (eqb-true (p % 16) b (parts .0), eqb-false b 2 (q .0), q .1)
+
+pub packed-end : (ps : List ℕ) (p : ℕ) → Packed ps p → p % 16 ≡ 2 → ps ≡ []
+packed-end [] p h z = refl
+packed-end (b ∷ ps) p h z = let c = packed-cons b ps p h in absurd (c .1 (sym (c .0) ∙ z))
+
+pub by-symbol : (p b : ℕ) → b ≡ p % 16 → (b ≡ 2 → ⊥) → (X : List ℕ → Type 0) → ((qs : List ℕ) → Packed qs (p / 16) → X (b ∷ qs)) → (ps : List ℕ) → Packed ps p → X ps
+by-symbol p b eb z X f [] h = absurd (z (eb ∙ eqb-true (p % 16) 2 h))
+by-symbol p b eb z X f (d ∷ ps) h = let c = packed-cons d ps p h in subst (λ (x : ℕ). X (x ∷ ps)) (eb ∙ c .0) (f ps (c .2))
+
+-- ---- types in a row
+pub row-none : (types : List ℕ) (at n : ℕ) (us : List Ty) → RowAt types at n us → n ≤ at → us ≡ []
+unfolding encTys
+row-none types at n [] r h = refl
+row-none types at n (t ∷ us) r h = absurd (omega (arith, r .span .long, length-append (encTy t) (encTys us), ty-long t))
+
+pub row-some : (types : List ℕ) (at n : ℕ) (us : List Ty) → RowAt types at n us → at < n → (t : Ty) × (vs : List Ty) × (us ≡ t ∷ vs)
+unfolding encTys
+row-some types at n [] r h = absurd (omega (arith, r .span .long))
+row-some types at n (t ∷ us) r h = (t, us, refl)
+
+-- the first of them, and the others
+module _ (types : List ℕ) (at n : ℕ) (t : Ty) (us : List Ty) (r : RowAt types at n (t ∷ us)) where
+  pub row-first : Spans types at (at + length (encTy t)) (encTy t)
+  unfolding encTys
+  row-first = span-left (encTy t) (encTys us) (r .span)
+
+  pub row-rest : RowAt types (at + length (encTy t)) n us
+  unfolding encTys
+  row-rest = record { span = span-right (encTy t) (encTys us) (r .span); fit = r .fit .1 }
+
+  pub row-within : (at + length (encTy t) ≤ n) × (n ≤ length types)
+  unfolding encTys
+  row-within = omega (arith, r .span .long, r .span .within, length-append (encTy t) (encTys us))
+
+  pub row-type : TypeAt types at
+  row-type = record { type = t; end = at + length (encTy t); span = row-first }
+
+-- a type whose first byte is a symbol of a pattern
+pub fixed-row : (types : List ℕ) (at n : ℕ) (t : Ty) (us : List Ty) → RowAt types at n (t ∷ us) → (b : ℕ) → b < 5 → (b ≡ 2 → ⊥) → getD types at 0 ≡ b
+    → (b ≡ symbolOf t) × RowAt types (at + 1) n (partsOf t ++ us)
+unfolding encTy encTys
+fixed-row types at n bool us r b l z e = (sym e ∙ span-first (r .span) .byte, record { span = span-first (r .span) .rest; fit = r .fit .1 })
+fixed-row types at n int us r b l z e = (sym e ∙ span-first (r .span) .byte, record { span = span-first (r .span) .rest; fit = r .fit .1 })
+fixed-row types at n (given m) us r b l z e = absurd (z (sym e ∙ span-first (r .span) .byte))
+fixed-row types at n (pow t) us r b l z e = (sym e ∙ span-first (r .span) .byte, record { span = span-first (r .span) .rest; fit = r .fit })
+fixed-row types at n (prod t u) us r b l z e = (
+  sym e ∙ span-first (r .span) .byte,
+  record {
+    span = subst (λ (xs : List ℕ). Spans types (at + 1) n xs) (append-assoc (encTy t) (encTy u) (encTys us)) (span-first (r .span) .rest);
+    fit = (r .fit .0 .0, (r .fit .0 .1, r .fit .1));
+  },
+)
+
+pub fixed-off : (types : List ℕ) (at n : ℕ) (t : Ty) (us : List Ty) → RowAt types at n (t ∷ us) → (b : ℕ) → b < 5 → (getD types at 0 ≡ b → ⊥) → b ≡ symbolOf t → ⊥
+unfolding encTy encTys
+fixed-off types at n bool us r b l f e = f (span-first (r .span) .byte ∙ sym e)
+fixed-off types at n int us r b l f e = f (span-first (r .span) .byte ∙ sym e)
+fixed-off types at n (given m) us r b l f e = omega arith
+fixed-off types at n (pow t) us r b l f e = f (span-first (r .span) .byte ∙ sym e)
+fixed-off types at n (prod t u) us r b l f e = f (span-first (r .span) .byte ∙ sym e)
+
+-- ---- what `matches` says at one symbol
+module _ (b : ℕ) (ps : List ℕ) (t : Ty) (us ρ : List Ty) where
+  on-fixed : b < 5 → b ≡ symbolOf t → matches (b ∷ ps) (t ∷ us) ρ ≡ matches ps (partsOf t ++ us) ρ
+  unfolding matches
+  on-fixed l e = rw (lt-ltb b 5 l, eq-eqb b (symbolOf t) e)
+
+  off-fixed : b < 5 → (b ≡ symbolOf t → ⊥) → matches (b ∷ ps) (t ∷ us) ρ ≡ differs
+  unfolding matches
+  off-fixed l e = rw (lt-ltb b 5 l, ne-eqb b (symbolOf t) e)
+
+  no-symbol : 9 ≤ b → matches (b ∷ ps) (t ∷ us) ρ ≡ differs
+  unfolding matches
+  no-symbol l = rw (le-ltb b 5 (omega arith), le-ltb b 9 l)
+
+  module _ (l : 5 ≤ b) (h : b < 9) where
+    on-bound : b - 5 < length ρ → t ≡ ty (b - 5) ρ → matches (b ∷ ps) (t ∷ us) ρ ≡ matches ps us ρ
+    unfolding matches
+    on-bound k e = rw (le-ltb b 5 l, lt-ltb b 9 h, lt-ltb (b - 5) (length ρ) k, same-ty-of t (ty (b - 5) ρ) e)
+
+    off-bound : b - 5 < length ρ → (t ≡ ty (b - 5) ρ → ⊥) → matches (b ∷ ps) (t ∷ us) ρ ≡ differs
+    unfolding matches
+    off-bound k e = rw (le-ltb b 5 l, lt-ltb b 9 h, lt-ltb (b - 5) (length ρ) k, not-same (sameTy t (ty (b - 5) ρ)) refl)
+      where
+        not-same : (x : Bool) → sameTy t (ty (b - 5) ρ) ≡ x → sameTy t (ty (b - 5) ρ) ≡ false
+        not-same true z = absurd (e (same-ty t (ty (b - 5) ρ) z))
+        not-same false z = z
+
+    on-new : b - 5 ≡ length ρ → matches (b ∷ ps) (t ∷ us) ρ ≡ matches ps us (ρ ++ (t ∷ []))
+    unfolding matches
+    on-new k = rw (le-ltb b 5 l, lt-ltb b 9 h, le-ltb (b - 5) (length ρ) (omega arith), eq-eqb (b - 5) (length ρ) k)
+
+    off-new : length ρ < b - 5 → matches (b ∷ ps) (t ∷ us) ρ ≡ differs
+    unfolding matches
+    off-new k = rw (le-ltb b 5 l, lt-ltb b 9 h, le-ltb (b - 5) (length ρ) (omega arith), ne-eqb (b - 5) (length ρ) (omega arith))
+
+-- ---- a type that stands at the start of a row is the first of the row
+pub same-row : (types : List ℕ) (at n : ℕ) (t : Ty) (us : List Ty) → RowAt types at n (t ∷ us) → (u : Ty) → TyWf u → (e : ℕ) → Spans types at e (encTy u) → e ≤ n → t ≡ u
+unfolding encTys
+same-row types at n t us r u w e a h =
+    let xs = encTy t ++ encTys us in
+    let k = length (encTy u) in
+    let l : length (take k xs) ≡ k = length-take-le k xs (omega (arith, a .long, r .span .long)) in
+    let b = span-left (take k xs) (drop k xs) (subst (λ (ys : List ℕ). Spans types at n ys) (sym (take-append-drop k xs)) (r .span)) in
+    let f : take k xs ≡ encTy u = sym (b .bytes) ∙ ap (λ (i : ℕ). take i (drop at types)) l ∙ a .bytes in
+    ty-prefix t u (encTys us) (drop k xs) (r .fit .0) w (sym (take-append-drop k xs) ∙ ap (λ (ys : List ℕ). ys ++ drop k xs) f) .0
+
+-- ---- the variables
+pub fit-at : (i : ℕ) (ρ : List Ty) → TysFit ρ → TyWf (ty i ρ)
+fit-at i [] f = tt
+fit-at zero (t ∷ ρ) f = f .0
+fit-at (suc i) (t ∷ ρ) f = fit-at i ρ (f .1)
+
+fit-snoc : (ρ : List Ty) (t : Ty) → TysFit ρ → TyWf t → TysFit (ρ ++ (t ∷ []))
+fit-snoc [] t f w = (w, tt)
+fit-snoc (u ∷ ρ) t f w = (f .0, fit-snoc ρ t (f .1) w)
+
+ty-before : (i : ℕ) (ρ : List Ty) (t : Ty) → i < length ρ → ty i (ρ ++ (t ∷ [])) ≡ ty i ρ
+ty-before i [] t h = absurd (omega arith)
+ty-before zero (u ∷ ρ) t h = refl
+ty-before (suc i) (u ∷ ρ) t h = ty-before i ρ t (omega arith)
+
+ty-last : (ρ : List Ty) (t : Ty) → ty (length ρ) (ρ ++ (t ∷ [])) ≡ t
+ty-last [] t = refl
+ty-last (u ∷ ρ) t = ty-last ρ t
+
+pub env-new : (types : List ℕ) (n : ℕ) (s e : List ℕ) (ρ : List Ty) → EnvAt types n s e ρ → (v : ℕ) → v ≡ length ρ → v < 4 → (t : Ty) → TyWf t
+    → (at p : ℕ) → Spans types at p (encTy t) → p ≤ n → EnvAt types n (set s v at) (set e v p) (ρ ++ (t ∷ []))
+env-new types n s e ρ m v ev h t w at p a l =
+    let z : length (ρ ++ (t ∷ [])) ≡ length ρ + 1 = length-append ρ (t ∷ []) in
+    let s₁ = set s v at in
+    let e₁ = set e v p in
+    let same₀ : getD s₁ (length ρ) 0 ≡ at = ap (λ (i : ℕ). getD s₁ i 0) (sym ev) ∙ getD-set-same s v at 0 (omega (arith, m .slots .from)) in
+    let same₁ : getD e₁ (length ρ) 0 ≡ p = ap (λ (i : ℕ). getD e₁ i 0) (sym ev) ∙ getD-set-same e v p 0 (omega (arith, m .slots .to)) in
+    let spans = below-more (λ i. Spans types (getD s₁ i 0) (getD e₁ i 0) (encTy (ty i (ρ ++ (t ∷ []))))) (length ρ)
+    (λ i k. subst₃ (λ (x y : ℕ) (u : Ty). Spans types x y (encTy u))
+    (sym (getD-set-other s v i at 0 (omega arith))) (sym (getD-set-other e v i p 0 (omega arith))) (sym (ty-before i ρ t k)) (m .spans i k))
+    (subst₃ (λ (x y : ℕ) (u : Ty). Spans types x y (encTy u)) (sym same₀) (sym same₁) (sym (ty-last ρ t)) a) in
+    let low = below-more (λ i. getD e₁ i 0 ≤ n) (length ρ)
+    (λ i k. subst (λ (x : ℕ). x ≤ n) (sym (getD-set-other e v i p 0 (omega arith))) (m .low i k))
+    (subst (λ (x : ℕ). x ≤ n) (sym same₁) l) in
+    record {
+      slots = record { from = length-set s v at ∙ m .slots .from; to = length-set e v p ∙ m .slots .to };
+      few = omega arith;
+      fit = fit-snoc ρ t (m .fit) w;
+      spans = λ i k. spans i (omega (arith, z, k));
+      low = λ i k. low i (omega (arith, z, k));
+    }
+
+-- ---- the ways out
+-- the rest of the pattern, at the rest of the types
+pub record Next (ps : List ℕ) (us ρ : List Ty) (qs types : List ℕ) (at n : ℕ) (s e : List ℕ) (k : ℕ) : Type 0 where
+  pub types-left : List Ty
+  pub bound : List Ty
+  pub same : matches ps us ρ ≡ matches qs types-left bound
+  pub row : RowAt types at n types-left
+  pub env : EnvAt types n s e bound
+  pub count : length bound ≡ k
+
+pub next-pre : {ps : List ℕ} {us ρ : List Ty} {qs types : List ℕ} {at n : ℕ} {s e : List ℕ} {k : ℕ} → Next ps us ρ qs types at n s e k → MatchPre types at n s e k
+next-pre x = record { us = x .types-left; ρ = x .bound; row = x .row; env = x .env; count = x .count }
+
+module _ (p : ℕ) (types : List ℕ) (at n : ℕ) (s e : List ℕ) (k : ℕ) where
+  abbrev Post : List ℕ → List ℕ → Fit → Type 0
+  Post s₁ e₁ r = (ps : List ℕ) → Packed ps p → MatchPost ps types at n s e k s₁ e₁ r
+
+  pub fit-end : p % 16 ≡ 2 → Post s e (F.Fits k)
+  unfolding matches
+  fit-end z ps pk =
+      record { answer = λ us ρ row env c. subst (λ (qs : List ℕ). Matching (matches qs us ρ) types n s e (F.Fits k)) (sym (packed-end ps p pk z)) (ap F.Fits (sym c), env) }
+
+  module _ (b : ℕ) (eb : b ≡ p % 16) (z : b ≡ 2 → ⊥) where
+    off : ((rest : List ℕ) (us ρ : List Ty) → RowAt types at n us → EnvAt types n s e ρ → length ρ ≡ k → matches (b ∷ rest) us ρ ≡ differs) → Post s e F.Differs
+    off f =
+        by-symbol p b eb z (λ ps. MatchPost ps types at n s e k s e F.Differs)
+        (λ rest pk. record { answer = λ us ρ row env c. subst (λ (m : Matched). Matching m types n s e F.Differs) (sym (f rest us ρ row env c)) refl })
+
+    pub fit-none : n ≤ at → Post s e F.Differs
+    unfolding matches
+    fit-none l = off (λ rest us ρ row env c. ap (λ (vs : List Ty). matches (b ∷ rest) vs ρ) (row-none types at n us row l))
+
+    module _ (l : at < n) where
+      -- the first type of the row
+      firstly : (X : List Ty → Type 0) → ((t : Ty) (vs : List Ty) → RowAt types at n (t ∷ vs) → X (t ∷ vs)) → (us : List Ty) → RowAt types at n us → X us
+      firstly X f us row =
+          let v = row-some types at n us row l in
+          subst X (sym (v .2)) (f (v .0) (v .1) (subst (RowAt types at n) (v .2) row))
+
+      pub first-type : (us ρ : List Ty) → RowAt types at n us → EnvAt types n s e ρ → length ρ ≡ k → TypeAt types at
+      first-type us ρ row env c = firstly (λ vs. TypeAt types at) (λ t vs r. row-type types at n t vs r) us row
+
+      pub first-past : (q : ℕ) → EndOf types at q → (us : List Ty) → RowAt types at n us → at < q
+      first-past q en us row =
+          firstly (λ vs. at < q) (λ t vs r. omega (arith, en .is t (at + length (encTy t)) (row-first types at n t vs r), ty-long t)) us row
+
+      off-first : ((rest : List ℕ) (t : Ty) (vs ρ : List Ty) → RowAt types at n (t ∷ vs) → EnvAt types n s e ρ → length ρ ≡ k → matches (b ∷ rest) (t ∷ vs) ρ ≡ differs) → Post s e F.Differs
+      off-first f = off (λ rest us ρ row env c. firstly (λ vs. matches (b ∷ rest) vs ρ ≡ differs) (λ t vs r. f rest t vs ρ r env c) us row)
+
+      pub fit-other : b < 5 → (getD types at 0 ≡ b → ⊥) → Post s e F.Differs
+      fit-other m ne = off-first (λ rest t vs ρ row env c. off-fixed b rest t vs ρ m (fixed-off types at n t vs row b m ne))
+
+      pub fit-large : 9 ≤ b → Post s e F.Differs
+      fit-large m = off-first (λ rest t vs ρ row env c. no-symbol b rest t vs ρ m)
+
+      -- what goes on
+      on-first : (at₁ : ℕ) (s₁ e₁ : List ℕ) (k₁ : ℕ)
+          → ((rest : List ℕ) (t : Ty) (vs ρ : List Ty) → RowAt types at n (t ∷ vs) → EnvAt types n s e ρ → length ρ ≡ k → Next (b ∷ rest) (t ∷ vs) ρ rest types at₁ n s₁ e₁ k₁)
+          → (rest : List ℕ) (us ρ : List Ty) → RowAt types at n us → EnvAt types n s e ρ → length ρ ≡ k → Next (b ∷ rest) us ρ rest types at₁ n s₁ e₁ k₁
+      on-first at₁ s₁ e₁ k₁ f rest us ρ row env c = firstly (λ vs. Next (b ∷ rest) vs ρ rest types at₁ n s₁ e₁ k₁) (λ t vs r. f rest t vs ρ r env c) us row
+
+      pub goes-on : (at₁ : ℕ) (s₁ e₁ : List ℕ) (k₁ : ℕ)
+          → ((rest : List ℕ) (us ρ : List Ty) → RowAt types at n us → EnvAt types n s e ρ → length ρ ≡ k → Next (b ∷ rest) us ρ rest types at₁ n s₁ e₁ k₁)
+          → (s₂ e₂ : List ℕ) (r : Fit) → ((rest : List ℕ) → Packed rest (p / 16) → MatchPost rest types at₁ n s₁ e₁ k₁ s₂ e₂ r) → Post s₂ e₂ r
+      goes-on at₁ s₁ e₁ k₁ f s₂ e₂ r after =
+          by-symbol p b eb z (λ ps. MatchPost ps types at n s e k s₂ e₂ r)
+          (λ rest pk. record {
+            answer = λ us ρ row env c. (let x = f rest us ρ row env c in
+                subst (λ (m : Matched). Matching m types n s₂ e₂ r) (sym (x .same)) (after rest pk .answer (x .types-left) (x .bound) (x .row) (x .env) (x .count)));
+          })
+
+      pub next-fixed : b < 5 → getD types at 0 ≡ b → (rest : List ℕ) (us ρ : List Ty) → RowAt types at n us → EnvAt types n s e ρ → length ρ ≡ k → Next (b ∷ rest) us ρ rest types (at + 1) n s e k
+      next-fixed m eq =
+          on-first (at + 1) s e k (λ rest t vs ρ row env c. (let f = fixed-row types at n t vs row b m z eq in
+          record { types-left = partsOf t ++ vs; bound = ρ; same = on-fixed b rest t vs ρ m (f .0); row = f .1; env = env; count = c }))
+
+      module _ (lo : 5 ≤ b) (hi : b < 9) where
+        pub fit-gap : k < b - 5 → Post s e F.Differs
+        fit-gap m = off-first (λ rest t vs ρ row env c. off-new b rest t vs ρ lo hi (omega arith))
+
+        module _ (v : ℕ) (ev : v ≡ b - 5) where
+          pub next-new : v ≡ k → (q : ℕ) → EndOf types at q → (rest : List ℕ) (us ρ : List Ty) → RowAt types at n us → EnvAt types n s e ρ → length ρ ≡ k
+              → Next (b ∷ rest) us ρ rest types q n (set s v at) (set e v q) (k + 1)
+          next-new m q en =
+              on-first q (set s v at) (set e v q) (k + 1) (λ rest t vs ρ row env c. (
+              let eq = en .is t (at + length (encTy t)) (row-first types at n t vs row) in
+              let w = row-within types at n t vs row in
+              record {
+                types-left = vs;
+                bound = ρ ++ (t ∷ []);
+                same = on-new b rest t vs ρ lo hi (omega arith);
+                row = subst (λ (x : ℕ). RowAt types x n vs) (sym eq) (row-rest types at n t vs row);
+                env = env-new types n s e ρ env v (omega arith) (omega arith) t (row .fit .0) at q (subst (λ (x : ℕ). Spans types at x (encTy t)) (sym eq) (row-first types at n t vs row)) (omega arith);
+                count = omega (arith, length-append ρ (t ∷ []), c);
+              }))
+
+          -- a variable that is bound
+          module _ (m : v < k) (from to : ℕ) (ef : from ≡ getD s v 0) (et : to ≡ getD e v 0) where
+            bound-span : (ρ : List Ty) → EnvAt types n s e ρ → length ρ ≡ k → Spans types from to (encTy (ty (b - 5) ρ)) × (to ≤ n)
+            bound-span ρ env c =
+                let a = env .spans v (omega (arith, c)) in
+                (subst₃ (λ (x y i : ℕ). Spans types x y (encTy (ty i ρ))) (sym ef) (sym et) ev a, omega (arith, et, env .low v (omega (arith, c))))
+
+            pub fit-long : n - at < to - from → Post s e F.Differs
+            fit-long q =
+                off-first (λ rest t vs ρ row env c. off-bound b rest t vs ρ lo hi (omega arith)
+                (λ eq. (let a = bound-span ρ env c .0 in
+                let w = row-within types at n t vs row in
+                let y = ap (λ (x : Ty). length (encTy x)) eq in
+                omega (arith, a .long))))
+
+            pub fit-differ : (x : Bool) → SameBytes types from at (to - from) x → x ≡ false → Post s e F.Differs
+            fit-differ x sb ex =
+                off-first (λ rest t vs ρ row env c. off-bound b rest t vs ρ lo hi (omega arith)
+                (λ eq. (let a = bound-span ρ env c .0 in
+                let f = row-first types at n t vs row in
+                sb .differ ex (λ j h₁. (let y : j < length (encTy (ty (b - 5) ρ)) = omega (arith, a .long) in
+                let y₂ : j < length (encTy t) = subst (λ (u : Ty). j < length (encTy u)) (sym eq) y in
+                span-get a j y ∙ ap (λ (u : Ty). getD (encTy u) j 0) (sym eq) ∙ sym (span-get f j y₂))))))
+
+            pub next-same : to - from ≤ n - at → (x : Bool) → SameBytes types from at (to - from) x → x ≡ true
+                → (rest : List ℕ) (us ρ : List Ty) → RowAt types at n us → EnvAt types n s e ρ → length ρ ≡ k → Next (b ∷ rest) us ρ rest types (at + (to - from)) n s e k
+            next-same q x sb ex =
+                on-first (at + (to - from)) s e k (λ rest t vs ρ row env c. (
+                let a = bound-span ρ env c .0 in
+                let u = ty (b - 5) ρ in
+                let w = row-within types at n t vs row in
+                let g : Spans types at (at + (to - from)) (encTy u) =
+                span-by types at (at + (to - from)) (encTy u) (omega (arith, a .long)) (omega arith)
+                (λ j h₁. sym (sb .same ex j (omega (arith, a .long))) ∙ span-get a j h₁) in
+                let eq : t ≡ u = same-row types at n t vs row u (fit-at (b - 5) ρ (env .fit)) (at + (to - from)) g (omega arith) in
+                let y = ap (λ (x : Ty). length (encTy x)) eq in
+                record {
+                  types-left = vs;
+                  bound = ρ;
+                  same = on-bound b rest t vs ρ lo hi (omega arith) eq;
+                  row = subst (λ (x : ℕ). RowAt types x n vs) (omega (arith, a .long)) (row-rest types at n t vs row);
+                  env = env;
+                  count = c;
+                }))
+
+-- a variable's bytes are in the buffer, below n
+pub slot-span : {types : List ℕ} {n : ℕ} {s e : List ℕ} {ρ : List Ty} {k : ℕ} → EnvAt types n s e ρ → length ρ ≡ k → (v : ℕ) → v < k → (getD s v 0 ≤ getD e v 0) × (getD e v 0 ≤ n) × (getD e v 0 ≤ length types)
+slot-span env c v h = let a = env .spans v (omega (arith, c)) in omega (arith, a .long, a .within, env .low v (omega (arith, c)))
+
+-- and are some
+pub slot-some : {types : List ℕ} {n : ℕ} {s e : List ℕ} {ρ : List Ty} {k : ℕ} → EnvAt types n s e ρ → length ρ ≡ k → (v : ℕ) → v < k → getD s v 0 < getD e v 0
+slot-some {ρ = ρ} env c v h = let a = env .spans v (omega (arith, c)) in omega (arith, a .long, ty-long (ty v ρ))

@@ -1,0 +1,109 @@
+-- What the code of patterns answers, by the definitions of type_rules/specs/Patterns.antt: each enum of src/lib.rt as a relation to
+-- a result (Matching, Pairing, Filling, Judging).
+use mathlib.Core.Path.{_≡_}
+use mathlib.Core.Bool.{Bool, true, false, _&&_}
+use mathlib.Core.List.{List, [], _∷_}
+use Prim.Native.Nat.{ℕ, _+_, _≤_, _<_}
+use lib.ListN.{length, getD}
+use lib.Dec.{leb}
+use Rattle.frame.specs.Types.{Ty}
+use Rattle.frame.specs.Encoding.{encTy, encTys}
+use Rattle.frame.specs.WellFormed.{TyWf}
+use Rattle.frame.specs.Spans.{Spans}
+use Rattle.frame.specs.Reading.{typeLimit}
+use Rattle.typing.specs.Typing.{ty}
+use Rattle.type_rules.specs.Patterns.{Matched, fits, differs, matches, allBound, filled, pairsFit, lastOnes, Rule, Judged, typed, wrong, judge}
+use Rattle.type_rules.specs.RuleNumbers.{Packed}
+use Rattle.patterns.specs.declared.Typed.{Typed}
+use Rattle.patterns.specs.declared.Typed.the-variants as T
+use Rattle.patterns.specs.declared.Fit.{Fit}
+use Rattle.patterns.specs.declared.Fit.the-variants as F
+use Rattle.patterns.specs.declared.Pairs.{Pairs}
+use Rattle.patterns.specs.declared.Pairs.the-variants as P
+use Rattle.patterns.specs.declared.Filled.{Filled}
+use Rattle.patterns.specs.declared.Filled.the-variants as L
+
+-- given sets have two-byte numbers
+abbrev pub TysFit : List Ty → Type 0
+TysFit [] = Unit {0}
+TysFit (t ∷ ts) = TyWf t × TysFit ts
+
+-- the types us stand in a row from `at` up to n
+pub record RowAt (types : List ℕ) (at n : ℕ) (us : List Ty) : Type 0 where
+  pub span : Spans types at n (encTys us)
+  pub fit : TysFit us
+
+-- four variables
+pub record Slots (starts ends : List ℕ) : Type 0 where
+  pub from : length starts ≡ 4
+  pub to : length ends ≡ 4
+
+-- the types of the variables stand below n, from `starts` up to `ends`
+pub record EnvAt (types : List ℕ) (n : ℕ) (starts ends : List ℕ) (ρ : List Ty) : Type 0 where
+  pub slots : Slots starts ends
+  pub few : length ρ ≤ 4
+  pub fit : TysFit ρ
+  pub spans : (i : ℕ) → i < length ρ → Spans types (getD starts i 0) (getD ends i 0) (encTy (ty i ρ))
+  pub low : (i : ℕ) → i < length ρ → getD ends i 0 ≤ n
+
+-- the bytes below n are as before
+pub record Kept (o p : List ℕ) (n : ℕ) : Type 0 where
+  pub long : length p ≡ length o
+  pub low : (j : ℕ) → j < n → getD p j 0 ≡ getD o j 0
+
+-- ---- matching
+pub record MatchPre (types : List ℕ) (at n : ℕ) (starts ends : List ℕ) (k : ℕ) : Type 0 where
+  pub us : List Ty
+  pub ρ : List Ty
+  pub row : RowAt types at n us
+  pub env : EnvAt types n starts ends ρ
+  pub count : length ρ ≡ k
+
+abbrev pub Matching : Matched → List ℕ → ℕ → List ℕ → List ℕ → Fit → Type 0
+Matching (fits us ρ) types n starts ends r = (r ≡ F.Fits (length ρ)) × EnvAt types n starts ends ρ
+Matching differs types n starts ends r = r ≡ F.Differs
+
+pub record MatchPost (ps types : List ℕ) (at n : ℕ) (s₀ e₀ : List ℕ) (k : ℕ) (s₁ e₁ : List ℕ) (r : Fit) : Type 0 where
+  pub answer : (us ρ : List Ty) → RowAt types at n us → EnvAt types n s₀ e₀ ρ → length ρ ≡ k → Matching (matches ps us ρ) types n s₁ e₁ r
+
+-- ---- each two in a row; the word p is that of some pattern
+pub record PairsPre (p : ℕ) (types : List ℕ) (at n : ℕ) (starts ends : List ℕ) : Type 0 where
+  pub ps : List ℕ
+  pub packed : Packed ps p
+  pub us : List Ty
+  pub row : RowAt types at n us
+  pub slots : Slots starts ends
+
+abbrev pub Pairing : Bool → List ℕ → ℕ → List Ty → List ℕ → List ℕ → Pairs → Type 0
+Pairing true types n us starts ends r = (p : ℕ) × (r ≡ P.Last p) × RowAt types p n (lastOnes us) × Slots starts ends
+Pairing false types n us starts ends r = r ≡ P.Differ
+
+pub record PairsPost (ps types : List ℕ) (at n : ℕ) (s₀ e₀ s₁ e₁ : List ℕ) (r : Pairs) : Type 0 where
+  pub answer : (us : List Ty) → RowAt types at n us → Slots s₀ e₀ → Pairing (pairsFit ps us) types n us s₁ e₁ r
+
+-- ---- filling
+pub record FillPre (types : List ℕ) (m limit : ℕ) (starts ends : List ℕ) (k : ℕ) : Type 0 where
+  pub ρ : List Ty
+  pub env : EnvAt types m starts ends ρ
+  pub count : length ρ ≡ k
+  pub room : (m ≤ limit) × (limit ≤ length types)
+
+abbrev pub Filling : Bool → List ℕ → List ℕ → ℕ → List ℕ → Filled → Type 0
+Filling true xs o m p r = (r ≡ L.To (m + length xs)) × Spans p m (m + length xs) xs × Kept o p m
+Filling false xs o m p r = r ≡ L.Over
+
+pub record FillPost (ps o : List ℕ) (m limit : ℕ) (starts ends : List ℕ) (k : ℕ) (p : List ℕ) (r : Filled) : Type 0 where
+  pub answer : (ρ : List Ty) → EnvAt o m starts ends ρ → length ρ ≡ k → Filling (allBound ps ρ && leb (m + length (filled ps ρ)) limit) (filled ps ρ) o m p r
+
+-- ---- a rule
+pub record JudgePre (types : List ℕ) (from n : ℕ) : Type 0 where
+  pub ts : List Ty
+  pub row : RowAt types from n ts
+  pub room : n + typeLimit ≤ length types
+
+abbrev pub Judging : Judged → List ℕ → ℕ → List ℕ → Typed → Type 0
+Judging (typed xs) o from p r = (r ≡ T.Is (from + length xs)) × Spans p from (from + length xs) xs × Kept o p from
+Judging wrong o from p r = r ≡ T.Bad
+
+pub record JudgePost (rule : Rule) (o : List ℕ) (from n : ℕ) (p : List ℕ) (r : Typed) : Type 0 where
+  pub answer : (ts : List Ty) → RowAt o from n ts → Judging (judge rule ts) o from p r

@@ -1,0 +1,4 @@
+pub mod Negations
+pub mod FiniteTurns
+pub mod SetTurns
+pub mod PartTurns

@@ -1,0 +1,3 @@
+pub mod Out
+pub mod Copied
+pub mod Written

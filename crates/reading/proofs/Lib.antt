@@ -1,0 +1,4 @@
+pub mod NodeTurns
+pub mod FrameSays
+pub mod FrameTurns
+pub mod AgainTurns

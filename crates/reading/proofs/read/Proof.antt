@@ -1,0 +1,58 @@
+-- `reading::read` meets its contract.
+use borrow.Author.Needs.{needs}
+use Rattle.reading.proofs.FrameTurns.{read-empty, read-long, read-refused, read-more, read-whole}
+use Rattle.reading.proofs.read.Statement.{statement}
+use Rattle.reading.proofs.read.Tie as tie
+
+refused-requires : tie.Need-refused-requires
+refused-requires c κs = search needs
+
+returns : tie.Need-returns
+returns c = read-empty _ _ _ (c .before .if1 .taken) (c .refused .ensures)
+
+refused-requires-2 : tie.Need-refused-requires-2
+refused-requires-2 c κs = search needs
+
+returns-2 : tie.Need-returns-2
+returns-2 c = read-long _ _ _ (c .before .before .if1 .left) (c .before .if2 .taken) (c .refused2 .ensures)
+
+read-node-requires : tie.Need-read-node-requires
+read-node-requires c κs = search needs
+
+enum-known-a : tie.Need-enum-known-a
+enum-known-a c = search needs
+
+refused-requires-3 : tie.Need-refused-requires-3
+refused-requires-3 c κs = search needs
+
+returns-3 : tie.Need-returns-3
+returns-3 c = read-more _ (c .before .before .before .before .before .before .before .before .if1 .left) (c .before .before .before .before .before .before .before .if2 .left) _ _ (c .before .before .before .before .before .read-node .ensures) _ _ (c .before .before .before .a .given .1) (c .before .if3 .taken) _ _ (c .refused3 .ensures)
+
+enum-known-a-2 : tie.Need-enum-known-a-2
+enum-known-a-2 c = search needs
+
+refused-requires-4 : tie.Need-refused-requires-4
+refused-requires-4 c κs = search needs
+
+returns-4 : tie.Need-returns-4
+returns-4 c = read-whole _ (c .before .before .before .before .before .before .before .if1 .left) (c .before .before .before .before .before .before .if2 .left) _ _ (c .before .before .before .before .read-node .ensures) _ _ (c .before .before .a .given .1) (λ i. c .before .before .before .before .before .before .before .before .shared-slice-known .given i .fits) (c .if3 .left)
+
+returns-5 : tie.Need-returns-5
+returns-5 c = read-refused _ (c .before .before .before .before .before .before .before .if1 .left) (c .before .before .before .before .before .before .if2 .left) _ _ (c .before .before .before .before .read-node .ensures) _ (c .before .before .a2 .given .1) _ _ (c .refused4 .ensures)
+
+pub read-spec : {M : Type 1} → statement M
+read-spec =
+    tie.close
+    (tie.spec
+    refused-requires
+    returns
+    refused-requires-2
+    returns-2
+    read-node-requires
+    enum-known-a
+    refused-requires-3
+    returns-3
+    enum-known-a-2
+    refused-requires-4
+    returns-4
+    returns-5)

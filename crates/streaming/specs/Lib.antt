@@ -1,0 +1,2 @@
+pub mod Stream
+pub mod StreamPosts

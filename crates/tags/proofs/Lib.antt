@@ -1,0 +1,2 @@
+pub mod TagTables
+pub mod FormTables

@@ -1,0 +1,217 @@
+// The table of tags: what follows a tag, and what sort of tree it begins (document 01, "The frame record").
+// Tags that ask for the same have one form; a form is a number below 20, and 0 is the form of every tag that is not listed.
+// A constant array is laid out anew where it is read, so a table is a word, or a few words chosen by a match: its entries stand in
+// the word one after the other, the first in the lowest bits.
+ghost use mathlib.Core.Path.{_≡_};
+ghost use Prim.Native.Nat.{_≤_, _<_};
+ghost use lib.ListN.{length, getD};
+ghost use Rattle.frame.specs.Tags.{sameSort, width, inRange, payloadOf, typesOf, sortsOf, classOf};
+ghost use Rattle.tags.specs.TagCodes.{formCode, formAtCode, sortFor, firstSort, laterSort, layoutKind, lowOf, highOf, fixedOf, blockWords, formWords, rowOf};
+
+// By form, two bits: how many bytes the number takes that follows the tag; 3 stands for 8.
+const WIDTHS: usize = 0x5760015000;
+
+// By form, two bits: 0 children of fixed sorts, 1 a payload, 2 counted children, 3 counted binders.
+const LAYOUTS: usize = 0xe95003a000;
+
+// By form, two bits: the least count, where there is one.
+const LOWS: usize = 0x6400016000;
+
+// By form, one bit: how many types of its own the node carries.
+const CARRIED: usize = 0x4400;
+
+// By form, two bits: how many children, where a count does not say it; then, one bit each, whether the first of them, and the
+// later ones, are expressions.
+const CHILDREN: usize = 0x80094105a0;
+
+const FIRSTS: usize = 0x630a4;
+
+const LATERS: usize = 0xe30a4;
+
+// The forms from here on are those of expressions.
+const FIRST_EXPRESSION: usize = 9;
+
+// Tags come in blocks of fifty, four of them to a word, 16 bits each: where the rows of a block begin, and in the high byte how
+// many it has.
+fn block_word(i: usize) -> usize
+    requires { ⌜ i < 5 ⌝ }
+    ensures { λ r. ⌜ r ≡ getD blockWords i 0 ⌝ }
+{
+    match i {
+        0 => 0x130d0600060600,
+        1 => 0x33a0832032f1c13,
+        2 => 0x4a004a004a0d3d,
+        3 => 0xf61025f005f154a,
+        _ => 0x27703740470,
+    }
+}
+
+// The row of a tag: its number among the tags of all blocks, from each block's first to its last that is listed. The first row
+// is that of no tag that is listed.
+pub fn row_of(tag: usize) -> usize
+    ensures { λ r. ⌜ (r ≡ rowOf tag) × (r < 121) ⌝ }
+{
+    let block = tag / 50;
+    if 20 <= block {
+        return 0;
+    }
+    let entry = (block_word(block / 4) >> (16 * (block % 4))) % 65536;
+    let offset = tag % 50;
+    if entry / 256 <= offset {
+        return 0;
+    }
+    entry % 256 + offset
+}
+
+// The forms of the rows, twelve to a word, five bits each.
+fn form_word(i: usize) -> usize
+    requires { ⌜ i < 11 ⌝ }
+    ensures { λ r. ⌜ r ≡ getD formWords i 0 ⌝ }
+{
+    match i {
+        0 => 0x1084210230781c0,
+        1 => 0x6b5ad0084210842,
+        2 => 0x6b5ad6b5ad6b5ad,
+        3 => 0x35ad6b5ad6b5ad,
+        4 => 0x3025294a5290063,
+        5 => 0x5252a4a5294a406,
+        6 => 0x5814a,
+        7 => 0x14000000000021,
+        8 => 0xc6318c63004,
+        9 => 0x21009ce606318c,
+        _ => 0x7,
+    }
+}
+
+// The form of a tag.
+pub fn form_of(tag: usize) -> usize
+    ensures { λ r. ⌜ (r ≡ formCode (classOf tag)) × (r < 20) ⌝ }
+{
+    let row = row_of(tag);
+    if row == 0 {
+        return 0;
+    }
+    (form_word(row / 12) >> (5 * (row % 12))) % 32
+}
+
+// Whether the form is that of an expression where e, else that of a predicate.
+pub fn is_sort(form: usize, e: bool) -> bool
+    requires { ⌜ form < 20 ⌝ }
+    ensures { λ r. ⌜ r ≡ sameSort (formAtCode form .sort) (sortFor e) ⌝ }
+{
+    if e {
+        return FIRST_EXPRESSION <= form;
+    }
+    form < FIRST_EXPRESSION
+}
+
+pub fn width_of(form: usize) -> usize
+    requires { ⌜ form < 20 ⌝ }
+    ensures { λ r. ⌜ (r ≡ width (formAtCode form .layout)) × (r ≤ 8) ⌝ }
+{
+    let code = (WIDTHS >> (2 * form)) % 4;
+    if code == 3 { 8 } else { code }
+}
+
+fn layout_of(form: usize) -> usize
+    requires { ⌜ form < 20 ⌝ }
+    ensures { λ r. ⌜ r ≡ layoutKind (formAtCode form .layout) ⌝ }
+{
+    (LAYOUTS >> (2 * form)) % 4
+}
+
+fn low_of(form: usize) -> usize
+    requires { ⌜ form < 20 ⌝ }
+    ensures { λ r. ⌜ r ≡ lowOf (formAtCode form .layout) ⌝ }
+{
+    (LOWS >> (2 * form)) % 4
+}
+
+fn high_of(form: usize) -> usize
+    requires { ⌜ form < 20 ⌝ }
+    ensures { λ r. ⌜ r ≡ highOf (formAtCode form .layout) ⌝ }
+{
+    let layout = layout_of(form);
+    match layout {
+        2 => 255,
+        3 => 32,
+        _ => 0,
+    }
+}
+
+fn carried_of(form: usize) -> usize
+    requires { ⌜ form < 20 ⌝ }
+    ensures { λ r. ⌜ r ≡ formAtCode form .carried ⌝ }
+{
+    (CARRIED >> form) % 2
+}
+
+fn fixed_of(form: usize) -> usize
+    requires { ⌜ form < 20 ⌝ }
+    ensures { λ r. ⌜ r ≡ fixedOf (formAtCode form .layout) ⌝ }
+{
+    (CHILDREN >> (2 * form)) % 4
+}
+
+// Whether the first child is an expression; false where there is none.
+pub fn first_of(form: usize) -> bool
+    requires { ⌜ form < 20 ⌝ }
+    ensures { λ r. ⌜ r ≡ firstSort (sortsOf (formAtCode form .layout) 1) ⌝ }
+{
+    (FIRSTS >> form) % 2 == 1
+}
+
+// Whether the children after the first are expressions; where there is none after it, as the first.
+pub fn later_of(form: usize) -> bool
+    requires { ⌜ form < 20 ⌝ }
+    ensures { λ r. ⌜ r ≡ laterSort (sortsOf (formAtCode form .layout) 1) ⌝ }
+{
+    (LATERS >> form) % 2 == 1
+}
+
+// Whether the number x that follows the tag is in its range.
+pub fn in_range(form: usize, x: usize) -> bool
+    requires { ⌜ form < 20 ⌝ }
+    ensures { λ r. ⌜ r ≡ inRange (formAtCode form .layout) x ⌝ }
+{
+    if layout_of(form) < 2 {
+        return true;
+    }
+    if x < low_of(form) {
+        return false;
+    }
+    x <= high_of(form)
+}
+
+// The node's own number: x where it is a payload.
+pub fn payload_of(form: usize, x: usize) -> usize
+    requires { ⌜ form < 20 ⌝ }
+    ensures { λ r. ⌜ r ≡ payloadOf (formAtCode form .layout) x ⌝ }
+{
+    if layout_of(form) == 1 {
+        return x;
+    }
+    0
+}
+
+// How many types follow x.
+pub fn types_of(form: usize, x: usize) -> usize
+    requires { ⌜ form < 20 ⌝ }
+    ensures { λ r. ⌜ r ≡ typesOf (formAtCode form .layout) (formAtCode form .carried) x ⌝ }
+{
+    if layout_of(form) == 3 {
+        return x;
+    }
+    carried_of(form)
+}
+
+// How many children a node with the number x has.
+pub fn children_of(form: usize, x: usize) -> usize
+    requires { ⌜ form < 20 ⌝ }
+    ensures { λ r. ⌜ r ≡ length (sortsOf (formAtCode form .layout) x) ⌝ }
+{
+    if layout_of(form) == 2 {
+        return x;
+    }
+    fixed_of(form)
+}

@@ -1,0 +1,3 @@
+pub mod Onto
+pub mod RightSides
+pub mod Joins

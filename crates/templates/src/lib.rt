@@ -1,0 +1,1 @@
+// Right sides as patterns: definitions and laws. `parts` and `emit` have the code.

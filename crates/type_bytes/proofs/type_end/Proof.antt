@@ -1,0 +1,14 @@
+use Rattle.type_bytes.proofs.BufferLaws.{type-stands, type-ends}
+use Rattle.type_bytes.proofs.type_end.Statement.{statement}
+use Rattle.type_bytes.proofs.type_end.Tie as tie
+
+-- src/lib.rt:12:5
+skip-types-requires : tie.Need-skip-types-requires
+skip-types-requires c κs = type-stands _ _ (c .before .pre)
+
+-- src/lib.rt:8:1
+returns : tie.Need-returns
+returns c = type-ends _ _ _ (c .skip-types .ensures)
+
+pub type-end-spec : {M : Type 1} → statement M
+type-end-spec = tie.close (tie.spec skip-types-requires returns)

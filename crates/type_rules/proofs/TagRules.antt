@@ -1,0 +1,157 @@
+-- The code's tables of typing rules say what `ruleAt` says, for every tag: by one computed test, and one law.
+-- Main results: row-rule (the rule of a tag), rule-row (the four patterns of a rule), pair-packed .. result-packed
+-- (their words), pattern-last (the last arm of `pattern`).
+use mathlib.Core.Path.{_≡_, refl, sym, ap, subst}
+use mathlib.Core.Bool.{Bool, true, false, _&&_}
+use Prim.Native.Nat.{ℕ, _*_, _/_, _%_, _^_, _≤_, _<_}
+use native.Mathlib.Omega.{arith}
+use lib.ListN.{getD, List·getD-eq-default}
+use lib.Dec.{ltb, leb, eqb}
+use borrow.Author.Tests.{leb-true, leb-false, ltb-true, eqb-true}
+use Rattle.frame.specs.Tags.{table, classOf, Class, literalPred, equality, order, membership, inclusion, binaryPred, associativePred, negation, quantifiedPred, finite, partition, identifier, bound, literal, setExtension, maplet, relationSet, setMinus, cartesian, directProduct, parallelProduct, domainRestriction, rangeRestriction, upTo, arithmetic, functionImage, relationalImage, setOperation, backwardComposition, forwardComposition, override, sum, integerSet, boolSet, truthValue, integerRelation, emptySet, projection1, projection2, identity, boolExpr, cardinal, powerset, generalised, domain, range, extremum, converse, unaryMinus, quantifiedSet, comprehension, unlisted}
+use Rattle.tags.specs.TagCodes.{rowOf}
+use Rattle.frame.proofs.Tables.{NoneBelow, past-all}
+use Rattle.tags.proofs.TagTables.{row-far}
+use Rattle.frame.proofs.EveryTag.{alongRows, every-tag, unlisted-past}
+use Rattle.frame.proofs.SameTrees.{both-true}
+use Rattle.type_rules.specs.Patterns.{Rule, ruleAt}
+use Rattle.type_rules.specs.RuleNumbers.{ruleNumber, ruleWords, rowWords, patternWords, lastPattern, packs, Packed}
+
+-- ---- the rule of a tag
+-- the rule that the code finds in its words
+abbrev ruleAtRow : ℕ → ℕ
+ruleAtRow r = getD ruleWords (r / 10) 0 / 2 ^ (6 * (r % 10)) % 64
+
+abbrev RuleOf : ℕ → ℕ → Type 0
+RuleOf t r = (r ≡ ruleNumber (classOf t)) × (r < 49)
+
+abbrev tagRight : ℕ → Class → Bool
+tagRight t c = eqb (ruleAtRow (rowOf t)) (ruleNumber c) && ltb (ruleAtRow (rowOf t)) 49
+
+-- every tag below 1,000, by one evaluation
+tags-right : alongRows tagRight 1000 0 table ≡ true
+unfolding ruleNumber rowOf
+tags-right = refl
+
+right-near : (t : ℕ) → t < 1000 → RuleOf t (ruleAtRow (rowOf t))
+right-near t h =
+    let p = both-true (eqb (ruleAtRow (rowOf t)) (ruleNumber (classOf t))) (ltb (ruleAtRow (rowOf t)) 49) (every-tag tagRight 1000 tags-right t h) in
+    (eqb-true _ _ (p .0), ltb-true _ _ (p .1))
+
+-- tags beyond it are not listed, and have the first row
+right-far : (t : ℕ) → 20 ≤ t / 50 → RuleOf t (ruleAtRow (rowOf t))
+unfolding ruleNumber
+right-far t h = subst (λ (r : ℕ). RuleOf t (ruleAtRow r)) (row-far t h .0) (sym (ap ruleNumber (unlisted-past t (omega arith))), omega arith)
+
+right : (t : ℕ) (b : Bool) → leb 20 (t / 50) ≡ b → RuleOf t (ruleAtRow (rowOf t))
+right t true e = right-far t (leb-true 20 (t / 50) e)
+right t false e = let h = leb-false 20 (t / 50) e in right-near t (omega arith)
+
+pub row-rule : (t r w : ℕ) → r ≡ rowOf t → w ≡ getD ruleWords (r / 10) 0 → RuleOf t (w / 2 ^ (6 * (r % 10)) % 64)
+row-rule t r w e ew = rw ew (rw e (right t (leb 20 (t / 50)) refl))
+
+-- ---- the patterns of a rule
+abbrev pub patternAt : ℕ → ℕ
+patternAt i = getD patternWords i lastPattern
+
+pub pattern-last : (i : ℕ) → NoneBelow i 26 → lastPattern ≡ patternAt i
+pattern-last i r = sym (List·getD-eq-default patternWords lastPattern {n = i} (past-all i 26 r))
+
+-- the 32 bits of a rule
+abbrev rowAt : ℕ → ℕ
+rowAt k = getD rowWords (k / 2) 0 / 2 ^ (32 * (k % 2)) % 4294967296
+
+abbrev rowPacks : Rule → ℕ → Bool
+rowPacks R x =
+    (packs (R .pair) (patternAt (x % 256)) && packs (R .first) (patternAt (x / 256 % 256)))
+    && (packs (R .last) (patternAt (x / 65536 % 256)) && packs (R .result) (patternAt (x / 16777216)))
+
+row-packs : (c : Class) → rowPacks (ruleAt c) (rowAt (ruleNumber c)) ≡ true
+unfolding ruleNumber ruleAt
+row-packs literalPred = refl
+row-packs equality = refl
+row-packs order = refl
+row-packs membership = refl
+row-packs inclusion = refl
+row-packs binaryPred = refl
+row-packs associativePred = refl
+row-packs negation = refl
+row-packs quantifiedPred = refl
+row-packs finite = refl
+row-packs partition = refl
+row-packs identifier = refl
+row-packs bound = refl
+row-packs literal = refl
+row-packs setExtension = refl
+row-packs maplet = refl
+row-packs relationSet = refl
+row-packs setMinus = refl
+row-packs cartesian = refl
+row-packs directProduct = refl
+row-packs parallelProduct = refl
+row-packs domainRestriction = refl
+row-packs rangeRestriction = refl
+row-packs upTo = refl
+row-packs arithmetic = refl
+row-packs functionImage = refl
+row-packs relationalImage = refl
+row-packs setOperation = refl
+row-packs backwardComposition = refl
+row-packs forwardComposition = refl
+row-packs override = refl
+row-packs sum = refl
+row-packs integerSet = refl
+row-packs boolSet = refl
+row-packs truthValue = refl
+row-packs integerRelation = refl
+row-packs emptySet = refl
+row-packs projection1 = refl
+row-packs projection2 = refl
+row-packs identity = refl
+row-packs boolExpr = refl
+row-packs cardinal = refl
+row-packs powerset = refl
+row-packs generalised = refl
+row-packs domain = refl
+row-packs range = refl
+row-packs extremum = refl
+row-packs converse = refl
+row-packs unaryMinus = refl
+row-packs quantifiedSet = refl
+row-packs comprehension = refl
+row-packs unlisted = refl
+
+-- the row x has the patterns of R
+pub record RowOf (R : Rule) (x : ℕ) : Type 0 where
+  pub pair : Packed (R .pair) (patternAt (x % 256))
+  pub first : Packed (R .first) (patternAt (x / 256 % 256))
+  pub last : Packed (R .last) (patternAt (x / 65536 % 256))
+  pub result : Packed (R .result) (patternAt (x / 16777216))
+
+row-of : (R : Rule) (x : ℕ) → rowPacks R x ≡ true → RowOf R x
+row-of R x e =
+    let a = packs (R .pair) (patternAt (x % 256)) in
+    let b = packs (R .first) (patternAt (x / 256 % 256)) in
+    let c = packs (R .last) (patternAt (x / 65536 % 256)) in
+    let d = packs (R .result) (patternAt (x / 16777216)) in
+    let p = both-true (a && b) (c && d) e in
+    let q = both-true a b (p .0) in
+    let r = both-true c d (p .1) in
+    record { pair = q .0; first = q .1; last = r .0; result = r .1 }
+
+pub rule-row : (c : Class) (r w : ℕ) → r ≡ ruleNumber c → w ≡ getD rowWords (r / 2) 0 → RowOf (ruleAt c) (w / 2 ^ (32 * (r % 2)) % 4294967296)
+rule-row c r w e ew = rw ew (rw e (row-of (ruleAt c) (rowAt (ruleNumber c)) (row-packs c)))
+
+-- the words that the code finds by it
+module _ {R : Rule} {x : ℕ} (row : RowOf R x) (p : ℕ) where
+  pub pair-packed : p ≡ patternAt (x % 256) → Packed (R .pair) p
+  pair-packed e = subst (Packed (R .pair)) (sym e) (row .pair)
+
+  pub first-packed : p ≡ patternAt (x / 256 % 256) → Packed (R .first) p
+  first-packed e = subst (Packed (R .first)) (sym e) (row .first)
+
+  pub last-packed : p ≡ patternAt (x / 65536 % 256) → Packed (R .last) p
+  last-packed e = subst (Packed (R .last)) (sym e) (row .last)
+
+  pub result-packed : p ≡ patternAt (x / 16777216) → Packed (R .result) p
+  result-packed e = subst (Packed (R .result)) (sym e) (row .result)
