@@ -1,6 +1,7 @@
 -- Answers of runs and of lines, on plain values: the ways out of src/lib.rt.
--- Main results: ended-fits, ended-room, ended-post (a run that ended, for any of the three words); refused-room, refused-post; run-answers;
--- line-refused, line-frame (a line by what reading it answers); no-frame.
+-- Main results: ended-fits, ended-room, ended-post (a run that ended, for any of the three words); refused-room, refused-post; run-answers, run-post;
+-- held-none, held-frame; line-refused,
+-- line-frame (a line by what reading it answers).
 use mathlib.Core.Path.{_≡_, refl, sym, ap, ap₂, _∙_, subst}
 use mathlib.Core.Bool.{Bool, true, false}
 use mathlib.Core.List.{List, _++_}

@@ -16,7 +16,7 @@ use Rattle.checking.specs.declared.CheckAnswer.the-variants as A
 
 -- "Where an answer is an enum, a definition gives this paper's number and values for each case of the enum. The promises use that
 -- definition." The contract of the entry `check` is an equation with it: "The contract of each entry gives answer, count and every
--- byte of the output afterwards, refusals too"; there is no count and no output here.
+-- byte of the output afterwards, refusals too"; the answer has the number of nodes, and there is no output here.
 abbrev pub checkAnswer : Checked → CheckAnswer
 checkAnswer (accepted t) = A.Accepted (nodes t)
 checkAnswer (refused n) = A.Refused n

@@ -1,6 +1,6 @@
 -- The shape that a tag gives to a tree that stands at a place, where its children are, and decisions with a fixed pattern.
--- Main results: here-few, here-placed, first-placed, second-placed; tag-of; bare, single, double (the shape by the tag);
--- Node and node-here (what the tables say of a place), fixed-0, fixed-1, fixed-2 (decisions on a node, its child, its two children).
+-- Main results: here-few, here-placed, first-placed, second-placed; bare, single, double, any (the shape by the tag);
+-- fixed-at, each-means (what a decision stands for); by-node, by-single, by-double, by-each, by-pair, by-two (decisions by the tag).
 use mathlib.Core.Path.{_≡_, refl, sym, ap, ap₂, _∙_}
 use mathlib.Core.Bool.{Bool, true, false, not, _&&_, _||_}
 use mathlib.Core.List.{List, [], _∷_, _++_}

@@ -1,5 +1,5 @@
 -- The ways out of named_in and functional_check of src/lib.rt: trees in a row, and the two masks.
--- Main results: row-placed, row-few, row-kids, row-rest (a step down and a step on), named-none, named-more; row-one, check-done.
+-- Main results: row-placed, row-few, row-kids, row-rest (a step down and a step on), named-none, named-more; row-left, row-right, check-done.
 use mathlib.Core.Path.{_≡_, refl, sym, ap, ap₂, _∙_}
 use mathlib.Core.Bool.{Bool, true, false, not, _&&_, _||_, and-false, or-false}
 use mathlib.Core.List.{List, []}

@@ -1,5 +1,5 @@
 -- The ways out of `read_type` and `read_types`, on plain values.
--- Main results: ty-past, ty-end, ty-one, ty-given, ty-pow, ty-prod, ty-prod-no, ty-bad, ty-further; tys-none, tys-more, tys-no, tys-further.
+-- Main results: ty-past, ty-end, ty-bool, ty-int, ty-given, ty-pow, ty-prod, ty-prod-no, ty-bad, ty-further; tys-none, tys-more, tys-no, tys-further.
 use mathlib.Core.Path.{_≡_, refl, sym, ap, _∙_}
 use mathlib.Core.List.{List}
 use Prim.Native.Nat.{ℕ, zero, suc, _+_, _-_, _≤_, _<_}

@@ -1,6 +1,6 @@
 -- Going over a frame that was read: from a tree that stands somewhere, and the head that `read_head` answers there, to the
 -- tree's own head and its children.
--- Main results: at-span, at-wf, at-end, at-unique, stands-at, parse-at, at-parse, frame-at (what it is to stand somewhere);
+-- Main results: at-span, at-wf, at-end, at-unique, stands-at, parse-at, at-parse (what it is to stand somewhere);
 -- kids-span, kids-wf, kids-end, kids-count, kids-unique, stand-all (the same of trees in a row); kids-none, kids-some (the
 -- first child and the others); head-of, view, no-view (by a head that was read).
 use mathlib.Core.Path.{_≡_, sym, ap, ap₂, _∙_, subst}

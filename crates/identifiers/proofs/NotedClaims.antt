@@ -1,5 +1,5 @@
 -- The table of claims: a claim is noted, or clashes with one noted before.
--- Main results: told-none (the table of zeros), noted-then, noted-early (one after the other), the ways out of same_bytes,
+-- Main results: told-none (the table of zeros), noted-then, noted-early (one after the other), the ways out of
 -- is_power, same_type, note_identifier and note_given.
 use mathlib.Core.Path.{_≡_, refl, sym, ap, _∙_, subst}
 use mathlib.Core.Logic.{_⊎_, inl, inr}

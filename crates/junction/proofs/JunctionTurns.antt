@@ -1,6 +1,6 @@
 -- The ways out of `absorb`: the state of the outer loop over the children, of the inner one over those kept, and their turns.
--- Main results: few (no more children than the lent list has room for); states-first, turn-placed, turn-decides, turn-again,
--- turn-end (the outer loop); scanned-first, scanned-both, scanned-meets, scanned-next, scanned-keeps, scanned-drops (the inner).
+-- Main results: few (no more children than the lent list has room for); states-first, turn-placed, turn-decides, turn-drops,
+-- turn-keeps, turn-end (the outer loop); scanned-first, scanned-both, scanned-meets, scanned-next (the inner); again-drop, again-keep.
 use mathlib.Core.Path.{_≡_, refl, sym, ap, ap₂, _∙_}
 use mathlib.Core.Bool.{Bool, true, false, not, _||_}
 use mathlib.Core.List.{List, [], _∷_, _++_}

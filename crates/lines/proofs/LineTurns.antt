@@ -1,5 +1,5 @@
 -- Lines in pieces, on plain values: one character more, and the end of a line.
--- Main results: digit-value (by cases), count-more, count-turn; digit-bad, digit-even, digit-odd, digit-past; goes-nil, goes-then;
+-- Main results: count-more, count-turn; digit-bad, digit-even, digit-odd, digit-past; goes-nil, goes-then;
 -- end-bad, end-odd, end-long, end-frame; line-bytes, line-buffer (what the buffer holds of a line that is read).
 use mathlib.Core.Path.{_≡_, refl, sym, ap, ap₂, _∙_, subst}
 use mathlib.Core.Bool.{Bool, true, false, _&&_}

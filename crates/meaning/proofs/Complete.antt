@@ -1,5 +1,5 @@
 -- Every value stands in the list of its type's values, and the test of equality is right.
--- Main results: listed, so-eq (of types without integers), so-same (of single integers too), so-some, so-every, some-list,
+-- Main results: listed, so-eq (of types without integers), so-same (of single integers too), so-some, so-every,
 -- as-type-refl (a value at its own type).
 use mathlib.Core.Path.{_≡_, refl, ap, subst-refl, fun-ext}
 use mathlib.Core.Logic.{_↔_, _⊎_, inl, inr}

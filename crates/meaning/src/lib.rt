@@ -1,1 +1,1 @@
-// What a predicate means, and that a series of calls keeps its truth.
+// What a predicate means, and that each equation keeps its truth.

@@ -1,5 +1,5 @@
 -- Trees with one tag that differ in their first six bytes: the ways out of `differ_early`.
--- Main results: early-room, early-none, early-bytes; early-done (what it says of two places).
+-- Main results: early-room, early-none, early-bytes.
 use mathlib.Core.Path.{_≡_, refl, sym, ap, _∙_}
 use mathlib.Core.Bool.{Bool, true, false, not, _&&_, _||_}
 use mathlib.Core.List.{List, [], _∷_, _++_}

@@ -1,6 +1,6 @@
 -- Text at a place of an output, on plain values.
 -- Main results: appends-none, appends-then (one text after another); text-more, text-all; decimal-one, decimal-more (a number by its last
--- digit), decimal-short (how many digits); frame-written; ended-lengths, refused-lengths (what each part of an answer has room for).
+-- digit), decimal-length, digits-3, digits-5 (how many digits); frame-written; ended-length, refused-length (what each part of an answer has room for).
 use mathlib.Core.Path.{_≡_, refl, sym, ap, ap₂, _∙_, subst}
 use mathlib.Core.Bool.{Bool, true, false}
 use mathlib.Core.List.{List, [], _∷_, _++_, append-assoc, append-nil}

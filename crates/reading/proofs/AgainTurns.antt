@@ -1,5 +1,5 @@
 -- The nodes from a position to the end of a frame, and the ways out of `place_nodes` and `read_again`.
--- Main results: encs-append, wfs-append, frame-rest, first-at, rest-after (what stands there); placing-begins, placing-stands, placing-goes,
+-- Main results: encs-append, wfs-append, frame-rest, first-at (what stands there); placing-begins, placing-stands, placing-goes,
 -- placing-done; again-pre, again.
 use mathlib.Core.Path.{_≡_, refl, sym, ap, ap₂, _∙_, subst}
 use mathlib.Core.Bool.{Bool}

@@ -1,5 +1,5 @@
--- The ways out of `splice`, on plain values; a decision that does not rest stands for a change.
--- Main results: splice-range, splice-build, splice-done; changes.
+-- The ways out of `splice`, on plain values.
+-- Main results: splice-range, splice-build, splice-done.
 use mathlib.Core.Path.{_≡_, sym, ap, ap₂, _∙_, subst}
 use mathlib.Core.List.{List, [], _++_, append-assoc}
 use Prim.Native.Nat.{ℕ, _+_, _≤_, _<_}

@@ -1,5 +1,5 @@
 -- The ways out of the functions of src/lib.rt, on plain values.
--- Main results: held-none, held-expression, held-decide, held-rests, held-splice, held-out, held-done; read-refused, read-held; step-refused, step-pre.
+-- Main results: held-none, held-expression, held-decide, held-rests, held-splice, held-out, held-done; read-refused, read-held; step-refused.
 use mathlib.Core.Path.{_≡_, refl, sym, ap, _∙_, subst}
 use mathlib.Core.Bool.{Bool, true, false}
 use mathlib.Core.List.{List, []}

@@ -1,6 +1,6 @@
 -- The input in pieces, on plain values.
 -- Main results: answers-join, last-join (a text in two pieces: so the answers of all the pieces, one after the other, are those of the whole
--- input), whole-input; end-start, end-more, end-found, end-none (`end_of_line`); fed-none, fed-line, fed-end (`feed`); finish-none, finish-line.
+-- input), whole-input; end-start, end-more (`end_of_line`); fed-start, fed-part, fed-end (`feed`); finish-none, finish-line.
 use mathlib.Core.Path.{_≡_, refl, sym, ap, ap₂, _∙_, subst}
 use mathlib.Core.Bool.{Bool, true, false}
 use mathlib.Core.List.{List, [], _∷_, _++_, append-assoc, append-nil}

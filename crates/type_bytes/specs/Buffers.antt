@@ -1,4 +1,4 @@
--- What the code does with types as bytes: where one ends, sameness of bytes, copies.
+-- What the code does with types as bytes: where one ends, and copies.
 use mathlib.Core.Path.{_≡_}
 use mathlib.Core.List.{List}
 use Prim.Native.Nat.{ℕ, _+_, _≤_, _<_}

@@ -4,39 +4,30 @@ use borrow.Author.Needs.{needs}
 use Rattle.answers.proofs.put_line.Statement.{statement}
 use Rattle.answers.proofs.put_line.Tie as tie
 
--- src/lib.rt:54:9
 line-end-requires : tie.Need-line-end-requires
 line-end-requires c κs = search needs
 
--- src/lib.rt:56:29
 enum-known-a : tie.Need-enum-known-a
 enum-known-a c = search needs
 
--- src/lib.rt:56:35
 put-refused-requires : tie.Need-put-refused-requires
 put-refused-requires c κs = refused-room _ (omega (arith, c .before .known-told .given)) _ _ (c .before .before .before .before .before .before .pre)
 
--- src/lib.rt:57:27
 enum-known-a-2 : tie.Need-enum-known-a-2
 enum-known-a-2 c = search needs
 
--- src/lib.rt:57:33
 put-held-requires : tie.Need-put-held-requires
 put-held-requires c κs = search needs
 
--- src/lib.rt:50:1
 same-length : tie.Need-same-length
 same-length c = search needs
 
--- src/lib.rt:50:1
 returns : tie.Need-returns
 returns c = line-refused _ _ _ _ _ _ _ (c .before .before .before .before .before .before .before .line-end .ensures) _ (omega (arith, c .before .before .before .before .known-told .given)) (c .before .before .before .before .before .a .given .1) (c .before .before .put-refused .ensures)
 
--- src/lib.rt:50:1
 same-length-2 : tie.Need-same-length-2
 same-length-2 c = search needs
 
--- src/lib.rt:50:1
 returns-2 : tie.Need-returns-2
 returns-2 c = line-frame _ _ _ _ _ _ _ (c .before .before .before .before .before .before .before .before .line-end .ensures) _ (c .before .before .before .before .before .before .a2 .given .1) (c .before .before .put-held .ensures)
 

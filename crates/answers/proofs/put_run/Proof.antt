@@ -5,27 +5,21 @@ use borrow.Author.Needs.{needs}
 use Rattle.answers.proofs.put_run.Statement.{statement}
 use Rattle.answers.proofs.put_run.Tie as tie
 
--- src/lib.rt:34:41
 slice-aggregate-run : tie.Need-slice-aggregate-run
 slice-aggregate-run c = search needs
 
--- src/lib.rt:34:9
 run-requires : tie.Need-run-requires
 run-requires c κs = search needs
 
--- src/lib.rt:35:19
 slice-aggregate-put-answer : tie.Need-slice-aggregate-put-answer
 slice-aggregate-put-answer c = search needs
 
--- src/lib.rt:35:5
 put-answer-requires : tie.Need-put-answer-requires
 put-answer-requires c κs = ((_, run-answers _ (λ i. c .before .before .before .before .before .before .shared-slice-known .given i .fits) (replicate 4096 0) refl _ _ (c .before .before .before .run .ensures)), c .before .before .before .before .before .before .before .pre)
 
--- src/lib.rt:29:1
 same-length : tie.Need-same-length
 same-length c = search needs
 
--- src/lib.rt:29:1
 returns : tie.Need-returns
 returns c = run-post _ _ _ _ _ _ _ (run-answers _ (λ i. c .before .before .before .before .before .before .before .before .before .shared-slice-known .given i .fits) (replicate 4096 0) refl _ _ (c .before .before .before .before .before .before .run .ensures)) (c .before .before .put-answer .ensures)
 

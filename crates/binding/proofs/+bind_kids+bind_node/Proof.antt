@@ -47,75 +47,57 @@ calls-bind-kids t = (bind-node-below t, bind-node.Post, bind-kids-below t, bind-
 abbrev calls-bind-node : ℕ → bind-node-lts.Claims
 calls-bind-node t = (known-head-reads.Asked, known-head-reads.Learnt, bind-leaf-reads.Asked, bind-leaf-reads.Learnt, enter-reads.Asked, enter-reads.Learnt, bind-kids-below t, bind-kids.Post)
 
--- src/lib.rt:149:9
 bind-kids-returns : (t : ℕ) → bind-kids-lts.Need-returns (calls-bind-kids t) (bind-kids-at t) bind-kids.Post
 bind-kids-returns t c = kids-over _ _ _ _ _ _ _ _ _ (c .before .before .pre .1 .0) (c .if1 .taken)
 
--- src/lib.rt:151:9
 bind-kids-bind-node-requires : (t : ℕ) → bind-kids-lts.Need-bind-node-requires (calls-bind-kids t) (bind-kids-at t) bind-kids.Post
 bind-kids-bind-node-requires t c κs = (omega arith, (c .before .before .before .before .pre .1 .0, first-here _ _ _ _ _ _ _ _ _ (c .before .before .before .before .pre .1 .0) (c .before .before .if1 .left) (c .before .before .before .before .pre .1 .1)))
 
--- src/lib.rt:153:27
 bind-kids-enum-told : (t : ℕ) → bind-kids-lts.Need-enum-told (calls-bind-kids t) (bind-kids-at t) bind-kids.Post
 bind-kids-enum-told t c = search needs
 
--- src/lib.rt:154:21
 bind-kids-enum-known-a : (t : ℕ) → bind-kids-lts.Need-enum-known-a (calls-bind-kids t) (bind-kids-at t) bind-kids.Post
 bind-kids-enum-known-a t c = search needs
 
--- src/lib.rt:154:46
 bind-kids-sub-bind-kids : (t : ℕ) → bind-kids-lts.Need-sub-bind-kids (calls-bind-kids t) (bind-kids-at t) bind-kids.Post
 bind-kids-sub-bind-kids t c = omega arith
 
--- src/lib.rt:154:30
 bind-kids-bind-kids-requires : (t : ℕ) → bind-kids-lts.Need-bind-kids-requires (calls-bind-kids t) (bind-kids-at t) bind-kids.Post
 bind-kids-bind-kids-requires t c κs = let f = rest-next _ _ _ _ _ _ _ _ _ (c .before .before .before .before .before .before .before .before .before .before .pre .1 .0) (c .before .before .before .before .before .before .before .before .if1 .left) _ _ _ (c .before .before .before .before .before .bind-node .ensures) _ _ (c .before .before .before .a .given .1) (λ i. c .before .before .before .before .before .before .before .before .before .shared-slice-known .given i .fits) (c .before .before .before .before .before .before .before .before .before .before .pre .1 .1) in (omega arith, (f .1, f .2))
 
--- src/lib.rt:134:1
 bind-kids-returns-2 : (t : ℕ) → bind-kids-lts.Need-returns-2 (calls-bind-kids t) (bind-kids-at t) bind-kids.Post
 bind-kids-returns-2 t c = kids-no _ _ _ _ _ _ _ _ _ (c .before .before .before .before .before .before .before .pre .1 .0) (c .before .before .before .before .before .if1 .left) _ _ _ (c .before .before .bind-node .ensures) (c .enum-told .given .1)
 
--- src/lib.rt:134:1
 bind-kids-returns-3 : (t : ℕ) → bind-kids-lts.Need-returns-3 (calls-bind-kids t) (bind-kids-at t) bind-kids.Post
 bind-kids-returns-3 t c = kids-yes _ _ _ _ _ _ _ _ _ (c .before .before .before .before .before .before .before .before .before .before .before .pre .1 .0) (c .before .before .before .before .before .before .before .before .before .if1 .left) _ _ _ (c .before .before .before .before .before .before .bind-node .ensures) _ _ (c .before .before .before .before .a .given .1) _ _ _ (c .bind-kids .ensures)
 
--- src/lib.rt:102:9
 bind-node-known-head-requires : (t : ℕ) → bind-node-lts.Need-known-head-requires (calls-bind-node t) (bind-node-at t) bind-node.Post
 bind-node-known-head-requires t c κs = let h = c .before .pre .1 .1 in (_, h .0, h .2, h .3)
 
--- src/lib.rt:104:29
 bind-node-enum-known-h : (t : ℕ) → bind-node-lts.Need-enum-known-h (calls-bind-node t) (bind-node-at t) bind-node.Post
 bind-node-enum-known-h t c = search needs
 
--- src/lib.rt:106:13
 bind-node-enum-known-h-2 : (t : ℕ) → bind-node-lts.Need-enum-known-h-2 (calls-bind-node t) (bind-node-at t) bind-node.Post
 bind-node-enum-known-h-2 t c = search needs
 
--- src/lib.rt:115:17
 bind-node-bind-leaf-requires : (t : ℕ) → bind-node-lts.Need-bind-leaf-requires (calls-bind-node t) (bind-node-at t) bind-node.Post
 bind-node-bind-leaf-requires t c κs = (omega (arith, c .before .before .before .before .before .before .before .before .pre .1 .0 .opened, c .before .before .before .before .before .before .before .before .pre .1 .0 .within, c .before .before .before .before .before .before .before .before .pre .1 .0 .fits), place-room _ _ _ _ _ _ _ _ (c .before .before .before .before .before .before .known-head .ensures .by _ _ _ (c .before .before .before .before .before .before .before .before .pre .1 .1 .3)) (λ i. c .before .before .before .before .before .before .before .shared-slice-known .given i .fits) _ _ _ _ _ _ _ (c .before .before .before .before .h2 .given .1) (c .before .before .before .before .before .before .before .before .pre .1 .0) (c .before .before .before .before .before .before .before .before .pre .1 .1))
 
--- src/lib.rt:115:17
 bind-node-returns : (t : ℕ) → bind-node-lts.Need-returns (calls-bind-node t) (bind-node-at t) bind-node.Post
 bind-node-returns t c = node-leaf _ _ _ _ _ _ _ _ (c .before .before .before .before .before .before .before .known-head .ensures .by _ _ _ (c .before .before .before .before .before .before .before .before .before .pre .1 .1 .3)) (λ i. c .before .before .before .before .before .before .before .before .shared-slice-known .given i .fits) _ _ _ _ _ _ _ (c .before .before .before .before .before .h2 .given .1) (c .before .before .before .before .before .before .before .before .before .pre .1 .0) (c .before .before .before .if1 .taken) (place-room _ _ _ _ _ _ _ _ (c .before .before .before .before .before .before .before .known-head .ensures .by _ _ _ (c .before .before .before .before .before .before .before .before .before .pre .1 .1 .3)) (λ i. c .before .before .before .before .before .before .before .before .shared-slice-known .given i .fits) _ _ _ _ _ _ _ (c .before .before .before .before .before .h2 .given .1) (c .before .before .before .before .before .before .before .before .before .pre .1 .0) (c .before .before .before .before .before .before .before .before .before .pre .1 .1)) _ _ (c .bind-leaf .ensures)
 
--- src/lib.rt:117:17
 bind-node-enter-requires : (t : ℕ) → bind-node-lts.Need-enter-requires (calls-bind-node t) (bind-node-at t) bind-node.Post
 bind-node-enter-requires t c κs = let w = children-room _ _ _ _ _ _ _ _ (c .before .before .before .before .before .known-head .ensures .by _ _ _ (c .before .before .before .before .before .before .before .pre .1 .1 .3)) (λ i. c .before .before .before .before .before .before .shared-slice-known .given i .fits) _ _ _ _ _ _ _ (c .before .before .before .h2 .given .1) (c .before .before .before .before .before .before .before .pre .1 .0) (c .before .before .before .before .before .before .before .pre .1 .1) in (c .before .before .before .before .before .before .before .pre .1 .0 .fits, omega arith, c .before .before .before .before .before .before .before .pre .1 .0 .binders-size, enter-types _ _ _ _ _ _ _ _ (c .before .before .before .before .before .known-head .ensures .by _ _ _ (c .before .before .before .before .before .before .before .pre .1 .1 .3)) (λ i. c .before .before .before .before .before .before .shared-slice-known .given i .fits) _ _ _ _ _ _ _ (c .before .before .before .h2 .given .1) (c .before .before .before .before .before .before .before .pre .1 .0) (c .before .if1 .left) (c .before .before .before .before .before .before .before .pre .1 .1))
 
--- src/lib.rt:127:17
 bind-node-add-bind-kids : (t : ℕ) → bind-node-lts.Need-add-bind-kids (calls-bind-node t) (bind-node-at t) bind-node.Post
 bind-node-add-bind-kids t c = omega (arith, place-room _ _ _ _ _ _ _ _ (c .before .before .before .before .before .before .before .before .known-head .ensures .by _ _ _ (c .before .before .before .before .before .before .before .before .before .before .pre .1 .1 .3)) (λ i. c .before .before .before .before .before .before .before .before .before .shared-slice-known .given i .fits) _ _ _ _ _ _ _ (c .before .before .before .before .before .before .h2 .given .1) (c .before .before .before .before .before .before .before .before .before .before .pre .1 .0) (c .before .before .before .before .before .before .before .before .before .before .pre .1 .1))
 
--- src/lib.rt:118:13
 bind-node-bind-kids-requires : (t : ℕ) → bind-node-lts.Need-bind-kids-requires (calls-bind-node t) (bind-node-at t) bind-node.Post
 bind-node-bind-kids-requires t c κs = let w = children-room _ _ _ _ _ _ _ _ (c .before .before .before .before .before .before .before .before .known-head .ensures .by _ _ _ (c .before .before .before .before .before .before .before .before .before .before .pre .1 .1 .3)) (λ i. c .before .before .before .before .before .before .before .before .before .shared-slice-known .given i .fits) _ _ _ _ _ _ _ (c .before .before .before .before .before .before .h2 .given .1) (c .before .before .before .before .before .before .before .before .before .before .pre .1 .0) (c .before .before .before .before .before .before .before .before .before .before .pre .1 .1) in let f = node-next _ _ _ _ _ _ _ _ (c .before .before .before .before .before .before .before .before .known-head .ensures .by _ _ _ (c .before .before .before .before .before .before .before .before .before .before .pre .1 .1 .3)) (λ i. c .before .before .before .before .before .before .before .before .before .shared-slice-known .given i .fits) _ _ _ _ _ _ _ (c .before .before .before .before .before .before .h2 .given .1) (c .before .before .before .before .before .before .before .before .before .before .pre .1 .0) (c .before .before .before .before .if1 .left) _ _ (c .before .before .enter .ensures) (c .before .before .before .before .before .before .before .before .before .before .pre .1 .1) in (omega arith, f)
 
--- src/lib.rt:90:1
 bind-node-returns-2 : (t : ℕ) → bind-node-lts.Need-returns-2 (calls-bind-node t) (bind-node-at t) bind-node.Post
 bind-node-returns-2 t c = bound-never _ _ _ _ _ _ _ _ (c .before .before .before .known-head .ensures .by _ _ _ (c .before .before .before .before .before .pre .1 .1 .3)) _ (c .before .h .given .1) (c .before .before .before .before .before .pre .1 .0) (c .before .before .before .before .before .pre .1 .1)
 
--- src/lib.rt:90:1
 bind-node-returns-3 : (t : ℕ) → bind-node-lts.Need-returns-3 (calls-bind-node t) (bind-node-at t) bind-node.Post
 bind-node-returns-3 t c = node-kids _ _ _ _ _ _ _ _ (c .before .before .before .before .before .before .before .before .before .known-head .ensures .by _ _ _ (c .before .before .before .before .before .before .before .before .before .before .before .pre .1 .1 .3)) (λ i. c .before .before .before .before .before .before .before .before .before .before .shared-slice-known .given i .fits) _ _ _ _ _ _ _ (c .before .before .before .before .before .before .before .h2 .given .1) (c .before .before .before .before .before .before .before .before .before .before .before .pre .1 .0) (c .before .before .before .before .before .if1 .left) _ _ (c .before .before .before .enter .ensures) _ _ _ (c .bind-kids .ensures)
 

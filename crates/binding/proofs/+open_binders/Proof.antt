@@ -32,51 +32,39 @@ open-binders-below t =
 abbrev calls-open-binders : ℕ → open-binders-lts.Claims
 calls-open-binders t = (read-type-reads.Asked, read-type-reads.Learnt, open-binders-below t, open-binders.Post)
 
--- src/lib.rt:42:9
 open-binders-returns : (t : ℕ) → open-binders-lts.Need-returns (calls-open-binders t) (open-binders-at t) open-binders.Post
 open-binders-returns t c = open-none _ _ _ _ _ (omega arith) (c .before .before .pre .1 .2)
 
--- src/lib.rt:44:22
 open-binders-cast-binders : (t : ℕ) → open-binders-lts.Need-cast-binders (calls-open-binders t) (open-binders-at t) open-binders.Post
 open-binders-cast-binders t c = omega (arith, binders-room _ _ _ (omega arith) (c .before .before .pre .1 .3))
 
--- src/lib.rt:44:5
 open-binders-mul-binders : (t : ℕ) → open-binders-lts.Need-mul-binders (calls-open-binders t) (open-binders-at t) open-binders.Post
 open-binders-mul-binders t c = omega (arith, binders-room _ _ _ (omega arith) (c .before .before .pre .1 .3))
 
--- src/lib.rt:44:5
 open-binders-element-write-binders : (t : ℕ) → open-binders-lts.Need-element-write-binders (calls-open-binders t) (open-binders-at t) open-binders.Post
 open-binders-element-write-binders t c = omega (arith, binders-room _ _ _ (omega arith) (c .before .before .pre .1 .3))
 
--- src/lib.rt:45:46
 open-binders-add-read-type : (t : ℕ) → open-binders-lts.Need-add-read-type (calls-open-binders t) (open-binders-at t) open-binders.Post
 open-binders-add-read-type t c = omega (arith, binders-room _ _ _ (omega arith) (c .before .before .pre .1 .3))
 
--- src/lib.rt:45:9
 open-binders-read-type-requires : (t : ℕ) → open-binders-lts.Need-read-type-requires (calls-open-binders t) (open-binders-at t) open-binders.Post
 open-binders-read-type-requires t c κs = let l = binders-room _ _ _ (omega arith) (c .before .before .pre .1 .3) in (omega arith, omega arith, omega arith)
 
--- src/lib.rt:47:26
 open-binders-enum-known-a : (t : ℕ) → open-binders-lts.Need-enum-known-a (calls-open-binders t) (open-binders-at t) open-binders.Post
 open-binders-enum-known-a t c = search needs
 
--- src/lib.rt:47:65
 open-binders-add-open-binders : (t : ℕ) → open-binders-lts.Need-add-open-binders (calls-open-binders t) (open-binders-at t) open-binders.Post
 open-binders-add-open-binders t c = omega (arith, binders-room _ _ _ (omega arith) (c .before .before .before .before .before .before .before .pre .1 .3))
 
--- src/lib.rt:47:32
 open-binders-open-binders-requires : (t : ℕ) → open-binders-lts.Need-open-binders-requires (calls-open-binders t) (open-binders-at t) open-binders.Post
 open-binders-open-binders-requires t c κs = let l = binders-room _ _ _ (omega arith) (c .before .before .before .before .before .before .before .pre .1 .3) in let f = binders-after _ _ _ (omega arith) _ (c .before .before .before .before .read-type .ensures) _ (c .before .before .a .given .1) (c .before .before .before .before .before .before .before .pre .1 .3) in (omega arith, (c .before .before .before .before .before .before .before .pre .1 .0, omega arith, simp length-set (c .before .before .before .before .before .before .before .pre .1 .2), f .0))
 
--- src/lib.rt:48:29
 open-binders-enum-known-a-2 : (t : ℕ) → open-binders-lts.Need-enum-known-a-2 (calls-open-binders t) (open-binders-at t) open-binders.Post
 open-binders-enum-known-a-2 t c = search needs
 
--- src/lib.rt:37:1
 open-binders-returns-2 : (t : ℕ) → open-binders-lts.Need-returns-2 (calls-open-binders t) (open-binders-at t) open-binders.Post
 open-binders-returns-2 t c = let l = binders-room _ _ _ (omega arith) (c .before .before .before .before .before .before .before .before .pre .1 .3) in open-more _ _ _ (omega arith) _ (c .before .before .before .before .before .read-type .ensures) _ (c .before .before .before .a .given .1) _ _ _ _ (omega arith) (c .open-binders .ensures)
 
--- src/lib.rt:37:1
 open-binders-returns-3 : (t : ℕ) → open-binders-lts.Need-returns-3 (calls-open-binders t) (open-binders-at t) open-binders.Post
 open-binders-returns-3 t c = open-never _ _ _ (omega arith) _ (c .before .before .before .read-type .ensures) _ (c .before .a2 .given .1) (c .before .before .before .before .before .before .pre .1 .3)
 

@@ -4,39 +4,30 @@ use borrow.Author.Needs.{needs}
 use Rattle.binding.proofs.bind_leaf.Statement.{statement}
 use Rattle.binding.proofs.bind_leaf.Tie as tie
 
--- src/lib.rt:83:9
 returns : tie.Need-returns
 returns c = record { none = λ l. (refl, refl); some = λ l. absurd (omega arith) }
 
--- src/lib.rt:85:25
 sub-leaves : tie.Need-sub-leaves
 sub-leaves c = search needs
 
--- src/lib.rt:85:25
 sub-leaves-2 : tie.Need-sub-leaves-2
 sub-leaves-2 c = search needs
 
--- src/lib.rt:85:17
 mul-leaves : tie.Need-mul-leaves
 mul-leaves c = search needs
 
--- src/lib.rt:85:17
 element-copy-out-leaves : tie.Need-element-copy-out-leaves
 element-copy-out-leaves c = search needs
 
--- src/lib.rt:85:5
 mul-leaves-2 : tie.Need-mul-leaves-2
 mul-leaves-2 c = search needs
 
--- src/lib.rt:85:5
 element-write-leaves : tie.Need-element-write-leaves
 element-write-leaves c = search needs
 
--- src/lib.rt:86:22
 add-t8 : tie.Need-add-t8
 add-t8 c = search needs
 
--- src/lib.rt:71:1
 returns-2 : tie.Need-returns-2
 returns-2 c = record { none = λ l. absurd (omega arith); some = λ l. (refl, refl) }
 

@@ -5,23 +5,18 @@ use borrow.Author.Needs.{needs}
 use Rattle.binding.proofs.binding_ok.Statement.{statement}
 use Rattle.binding.proofs.binding_ok.Tie as tie
 
--- src/lib.rt:124:9
 bind-node-requires : tie.Need-bind-node-requires
 bind-node-requires c κs = (ready-first _ _ (c .before .before .before .pre .0) (c .before .before .before .pre .1), (c .before .before .before .pre .2 .0, [], length (c .before .before .before .args .s .now), c .before .before .before .pre .2 .1, tt))
 
--- src/lib.rt:126:27
 enum-told : tie.Need-enum-told
 enum-told c = search needs
 
--- src/lib.rt:127:21
 enum-known-a : tie.Need-enum-known-a
 enum-known-a c = search needs
 
--- src/lib.rt:119:1
 returns : tie.Need-returns
 returns c = frame-refused _ _ _ _ _ _ (c .before .before .before .before .before .before .pre .2) (c .before .before .bind-node .ensures) (c .enum-told .given .1)
 
--- src/lib.rt:119:1
 returns-2 : tie.Need-returns-2
 returns-2 c = frame-bound _ _ _ _ _ _ (c .before .before .before .before .before .before .before .pre .2) (c .before .before .before .bind-node .ensures) _ _ (c .before .a .given .1)
 

@@ -2,15 +2,12 @@ use Rattle.binding.proofs.BoundWalk.{enter-plain, enter-binding}
 use Rattle.binding.proofs.enter.Statement.{statement}
 use Rattle.binding.proofs.enter.Tie as tie
 
--- src/lib.rt:65:9
 returns : tie.Need-returns
 returns c = enter-plain _ _ _ _ _ _ (c .if1 .taken) (c .before .before .pre .2)
 
--- src/lib.rt:67:5
 open-binders-requires : tie.Need-open-binders-requires
 open-binders-requires c κs = (c .before .before .before .pre .0, c .before .before .before .pre .1, c .before .before .before .pre .2, (c .before .before .before .pre .3 .2, c .before .before .before .pre .3 .4, c .before .before .before .pre .3 .5 .types))
 
--- src/lib.rt:53:1
 returns-2 : tie.Need-returns-2
 returns-2 c = enter-binding _ _ _ _ _ _ (c .before .before .if1 .left) _ _ (c .open-binders .ensures)
 

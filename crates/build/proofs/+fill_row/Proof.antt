@@ -25,27 +25,21 @@ fill-row-below t =
 abbrev calls-fill-row : ℕ → fill-row-lts.Claims
 calls-fill-row t = (fill-reads.Asked, fill-reads.Learnt, next-at-reads.Asked, next-at-reads.Learnt, fill-row-below t, fill-row.Post)
 
--- src/lib.rt:38:9
 fill-row-returns : (t : ℕ) → fill-row-lts.Need-returns (calls-fill-row t) (fill-row-at t) fill-row.Post
 fill-row-returns t c = fill-row-none _ _ _ _ _ _ _ _ _ (c .if1 .taken) _ _
 
--- src/lib.rt:40:9
 fill-row-fill-requires : (t : ℕ) → fill-row-lts.Need-fill-requires (calls-fill-row t) (fill-row-at t) fill-row.Post
 fill-row-fill-requires t c κs = fill-row-first _ _ _ _ _ _ _ _ _ (c .before .if1 .left) (c .before .before .before .pre .1)
 
--- src/lib.rt:53:9
 fill-row-next-at-requires : (t : ℕ) → fill-row-lts.Need-next-at-requires (calls-fill-row t) (fill-row-at t) fill-row.Post
 fill-row-next-at-requires t c κs = fill-row-few _ _ _ _ _ _ _ _ _ (c .before .before .if1 .left) (c .before .before .before .before .pre .1)
 
--- src/lib.rt:62:9
 fill-row-sub-fill-row : (t : ℕ) → fill-row-lts.Need-sub-fill-row (calls-fill-row t) (fill-row-at t) fill-row.Post
 fill-row-sub-fill-row t c = let z = c .before .before .before .if1 .left in omega arith
 
--- src/lib.rt:54:5
 fill-row-fill-row-requires : (t : ℕ) → fill-row-lts.Need-fill-row-requires (calls-fill-row t) (fill-row-at t) fill-row.Post
 fill-row-fill-row-requires t c κs = (let z = c .before .before .before .before .if1 .left in let y = c .before .before .before .before .before .before .pre .0 in omega arith, fill-row-rest _ _ _ _ _ _ _ _ _ (c .before .before .before .before .if1 .left) (c .before .before .before .before .before .before .pre .1) _ (c .before .next-at .ensures .0))
 
--- src/lib.rt:21:1
 fill-row-returns-2 : (t : ℕ) → fill-row-lts.Need-returns-2 (calls-fill-row t) (fill-row-at t) fill-row.Post
 fill-row-returns-2 t c = fill-row-more _ _ _ _ _ _ _ _ _ (c .before .before .before .before .before .if1 .left) _ _ _ _ (c .before .before .before .fill .ensures) _ (c .before .before .next-at .ensures .0) _ _ (c .fill-row .ensures)
 

@@ -3,71 +3,54 @@ use borrow.Author.Needs.{needs}
 use Rattle.build.proofs.build.Statement.{statement}
 use Rattle.build.proofs.build.Tie as tie
 
--- src/lib.rt
 enum-told : tie.Need-enum-told
 enum-told c = search needs
 
--- src/lib.rt
 enum-known-d : tie.Need-enum-known-d
 enum-known-d c = search needs
 
--- src/lib.rt
 fill-requires : tie.Need-fill-requires
 fill-requires c κs = fixed-asked _ _ _ _ _ _ _ _ _ _ _ _ _ (c .before .before .d .given .1) (c .before .before .before .before .before .pre)
 
--- src/lib.rt
 enum-known-d-2 : tie.Need-enum-known-d-2
 enum-known-d-2 c = search needs
 
--- src/lib.rt
 build-each-requires : tie.Need-build-each-requires
 build-each-requires c κs = each-asked _ _ _ _ _ _ _ _ _ _ _ (c .before .before .d2 .given .1) (c .before .before .before .before .before .pre)
 
--- src/lib.rt
 enum-known-d-3 : tie.Need-enum-known-d-3
 enum-known-d-3 c = search needs
 
--- src/lib.rt
 build-kept-requires : tie.Need-build-kept-requires
 build-kept-requires c κs = kept-asked _ _ _ _ _ _ _ _ _ (c .before .before .d3 .given .1) (c .before .before .before .before .before .pre)
 
--- src/lib.rt
 enum-known-d-4 : tie.Need-enum-known-d-4
 enum-known-d-4 c = search needs
 
--- src/lib.rt
 build-apart-requires : tie.Need-build-apart-requires
 build-apart-requires c κs = apart-asked _ _ _ _ _ _ _ _ _ _ (c .before .before .d4 .given .1) (c .before .before .before .before .before .pre)
 
--- src/lib.rt
 enum-known-d-5 : tie.Need-enum-known-d-5
 enum-known-d-5 c = search needs
 
--- src/lib.rt
 build-within-requires : tie.Need-build-within-requires
 build-within-requires c κs = within-asked _ _ _ _ _ _ _ _ _ (c .before .before .d5 .given .1) (c .before .before .before .before .before .pre)
 
--- src/lib.rt:211:1
 returns : tie.Need-returns
 returns c = build-rests _ _ _ _ _ _ _ _ (c .enum-told .given .1) _ _
 
--- src/lib.rt:211:1
 returns-2 : tie.Need-returns-2
 returns-2 c = fixed-answered _ _ _ _ _ _ _ _ _ _ _ _ _ (c .before .before .before .d .given .1) _ _ _ _ (c .fill .ensures)
 
--- src/lib.rt:211:1
 returns-3 : tie.Need-returns-3
 returns-3 c = each-answered _ _ _ _ _ _ _ _ _ _ _ (c .before .before .before .d2 .given .1) _ _ _ _ (c .build-each .ensures)
 
--- src/lib.rt:211:1
 returns-4 : tie.Need-returns-4
 returns-4 c = kept-answered _ _ _ _ _ _ _ _ _ (c .before .before .before .d3 .given .1) _ _ _ _ (c .build-kept .ensures)
 
--- src/lib.rt:211:1
 returns-5 : tie.Need-returns-5
 returns-5 c = apart-answered _ _ _ _ _ _ _ _ _ _ (c .before .before .before .d4 .given .1) _ _ _ _ (c .build-apart .ensures)
 
--- src/lib.rt:211:1
 returns-6 : tie.Need-returns-6
 returns-6 c = within-answered _ _ _ _ _ _ _ _ _ (c .before .before .before .d5 .given .1) _ _ _ _ (c .build-within .ensures)
 

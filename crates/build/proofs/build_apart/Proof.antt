@@ -4,43 +4,33 @@ use borrow.Author.Needs.{needs}
 use Rattle.build.proofs.build_apart.Statement.{statement}
 use Rattle.build.proofs.build_apart.Tie as tie
 
--- src/lib.rt:167:9
 arity-at-requires : tie.Need-arity-at-requires
 arity-at-requires c κs = apart-placed _ _ _ _ _ _ _ (c .before .pre)
 
--- src/lib.rt:168:9
 put-word-requires : tie.Need-put-word-requires
 put-word-requires c κs = search needs
 
--- src/lib.rt:169:9
 put-word-requires-2 : tie.Need-put-word-requires-2
 put-word-requires-2 c κs = search needs
 
--- src/lib.rt:170:42
 add-copy-at : tie.Need-add-copy-at
 add-copy-at c = let z = apart-few _ _ _ _ _ _ _ (c .before .before .before .before .before .before .pre) .1 in omega arith
 
--- src/lib.rt:170:9
 copy-at-requires : tie.Need-copy-at-requires
 copy-at-requires c κs = apart-member _ _ _ _ _ _ _ (c .before .before .before .before .before .before .before .pre)
 
--- src/lib.rt:171:29
 sub-put-joined : tie.Need-sub-put-joined
 sub-put-joined c = let z = apart-many _ _ _ _ _ _ _ _ (c .before .before .before .before .before .before .arity-at .ensures) (c .before .before .before .before .before .before .before .before .pre) .0 in omega arith
 
--- src/lib.rt:171:9
 put-joined-requires : tie.Need-put-joined-requires
 put-joined-requires c κs = (omega arith, let z = apart-many _ _ _ _ _ _ _ _ (c .before .before .before .before .before .before .before .arity-at .ensures) (c .before .before .before .before .before .before .before .before .before .pre) .1 in omega arith)
 
--- src/lib.rt:172:13
 add-c : tie.Need-add-c
 add-c c = let z = apart-few _ _ _ _ _ _ _ (c .before .before .before .before .before .before .before .before .before .before .pre) .0 in omega arith
 
--- src/lib.rt:173:5
 put-row-requires : tie.Need-put-row-requires
 put-row-requires c κs = apart-row _ _ _ _ _ _ _ _ (c .before .before .before .before .before .before .before .before .before .arity-at .ensures) (c .before .before .before .before .before .before .before .before .before .before .before .pre)
 
--- src/lib.rt:153:1
 returns : tie.Need-returns
 returns c = apart-built _ _ _ _ _ _ _ _ (c .before .before .before .before .before .before .before .before .before .before .arity-at .ensures) _ _ _ _ (c .before .before .before .before .before .before .before .before .put-word .ensures) _ _ (c .before .before .before .before .before .before .put-word2 .ensures) _ _ (c .before .before .before .before .copy-at .ensures) _ _ (c .before .before .put-joined .ensures) _ _ (c .put-row .ensures)
 

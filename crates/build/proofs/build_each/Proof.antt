@@ -4,27 +4,21 @@ use borrow.Author.Needs.{needs}
 use Rattle.build.proofs.build_each.Statement.{statement}
 use Rattle.build.proofs.build_each.Tie as tie
 
--- src/lib.rt:114:9
 arity-at-requires : tie.Need-arity-at-requires
 arity-at-requires c κs = each-placed _ _ _ _ _ _ _ _ (c .before .pre)
 
--- src/lib.rt:115:22
 joint-requires : tie.Need-joint-requires
 joint-requires c κs = search needs
 
--- src/lib.rt:115:9
 put-many-requires : tie.Need-put-many-requires
 put-many-requires c κs = (joint-small (c .before .before .before .before .args .place) _ (c .before .joint .ensures), each-count _ _ _ _ _ _ _ _ _ (c .before .before .arity-at .ensures) (c .before .before .before .before .pre))
 
--- src/lib.rt:116:13
 add-c : tie.Need-add-c
 add-c c = let z = each-few _ _ _ _ _ _ _ _ (c .before .before .before .before .before .pre) in omega arith
 
--- src/lib.rt:117:5
 fill-row-requires : tie.Need-fill-row-requires
 fill-row-requires c κs = each-row _ _ _ _ _ _ _ _ _ (c .before .before .before .before .arity-at .ensures) (c .before .before .before .before .before .before .pre)
 
--- src/lib.rt:99:1
 returns : tie.Need-returns
 returns c = each-built _ _ _ _ _ _ _ _ _ (c .before .before .before .before .before .arity-at .ensures) _ _ _ (c .before .before .before .before .joint .ensures) _ _ (c .before .before .put-many .ensures) _ _ (c .fill-row .ensures)
 

@@ -2,19 +2,15 @@ use Rattle.build.proofs.SubtreeTurns.{kept-placed, kept-tag, kept-list,
 use Rattle.build.proofs.build_kept.Statement.{statement}
 use Rattle.build.proofs.build_kept.Tie as tie
 
--- src/lib.rt:147:9
 tag-at-requires : tie.Need-tag-at-requires
 tag-at-requires c κs = kept-placed _ _ _ _ _ _ _ _ (c .before .pre)
 
--- src/lib.rt:148:9
 put-many-requires : tie.Need-put-many-requires
 put-many-requires c κs = kept-tag _ _ _ _ _ _ _ _ (c .before .before .before .pre) _ (c .before .tag-at .ensures)
 
--- src/lib.rt:149:5
 put-kept-requires : tie.Need-put-kept-requires
 put-kept-requires c κs = kept-list _ _ _ _ _ _ _ _ (c .before .before .before .before .before .pre)
 
--- src/lib.rt:132:1
 returns : tie.Need-returns
 returns c = kept-built _ _ _ _ _ _ _ _ _ (c .before .before .before .before .tag-at .ensures) _ _ _ _ (c .before .before .put-many .ensures) _ _ (c .put-kept .ensures)
 

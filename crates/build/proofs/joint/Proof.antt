@@ -2,11 +2,9 @@ use Rattle.build.proofs.SubtreeTurns.{joint-or, joint-and}
 use Rattle.build.proofs.joint.Statement.{statement}
 use Rattle.build.proofs.joint.Tie as tie
 
--- src/lib.rt:74:9
 returns : tie.Need-returns
 returns c = joint-or _ (c .if1 .taken)
 
--- src/lib.rt:70:1
 returns-2 : tie.Need-returns-2
 returns-2 c = joint-and _ (c .if1 .left)
 

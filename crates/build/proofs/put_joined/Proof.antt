@@ -3,15 +3,12 @@ use borrow.Author.Needs.{needs}
 use Rattle.build.proofs.put_joined.Statement.{statement}
 use Rattle.build.proofs.put_joined.Tie as tie
 
--- src/lib.rt:94:9
 returns : tie.Need-returns
 returns c = joined-one _ _ _ _ (c .if1 .taken)
 
--- src/lib.rt:96:5
 put-many-requires : tie.Need-put-many-requires
 put-many-requires c κs = search needs
 
--- src/lib.rt:89:1
 returns-2 : tie.Need-returns-2
 returns-2 c = joined-more _ _ _ _ (c .before .before .if1 .left) _ _ (c .put-many .ensures)
 

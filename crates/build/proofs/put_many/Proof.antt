@@ -4,19 +4,15 @@ use borrow.Author.Needs.{needs}
 use Rattle.build.proofs.put_many.Statement.{statement}
 use Rattle.build.proofs.put_many.Tie as tie
 
--- src/lib.rt:84:9
 put-word-requires : tie.Need-put-word-requires
 put-word-requires c κs = search needs
 
--- src/lib.rt:85:22
 cast-put-byte : tie.Need-cast-put-byte
 cast-put-byte c = search needs
 
--- src/lib.rt:85:5
 put-byte-requires : tie.Need-put-byte-requires
 put-byte-requires c κs = search needs
 
--- src/lib.rt:80:1
 returns : tie.Need-returns
 returns c = many-byte _ _ _ _ _ _ (c .before .before .put-word .ensures) _ _ _ (omega arith) (c .put-byte .ensures)
 

@@ -4,27 +4,21 @@ use borrow.Author.Needs.{needs}
 use Rattle.checking.proofs.check.Statement.{statement}
 use Rattle.checking.proofs.check.Tie as tie
 
--- src/lib.rt:70:9
 read-requires : tie.Need-read-requires
 read-requires c κs = search needs
 
--- src/lib.rt:73:30
 enum-known-answer : tie.Need-enum-known-answer
 enum-known-answer c = search needs
 
--- src/lib.rt:74:28
 enum-known-answer-2 : tie.Need-enum-known-answer-2
 enum-known-answer-2 c = search needs
 
--- src/lib.rt:76:13
 check-tree-requires : tie.Need-check-tree-requires
 check-tree-requires c κs = (read-pre _ (λ i. c .before .before .before .before .before .shared-slice-known .given i .fits) _ (sym (c .before .before .answer2 .given .1) ∙ c .before .before .before .before .read .ensures .0), refl)
 
--- src/lib.rt:67:1
 returns : tie.Need-returns
 returns c = refused-read _ _ (sym (c .before .answer .given .1) ∙ c .before .before .before .read .ensures .0)
 
--- src/lib.rt:67:1
 returns-2 : tie.Need-returns-2
 returns-2 c = c .check-tree .ensures .answer
 

@@ -4,31 +4,24 @@ use borrow.Author.Tests.{not-true, not-false}
 use Rattle.checking.proofs.check_tree.Statement.{statement}
 use Rattle.checking.proofs.check_tree.Tie as tie
 
--- src/lib.rt:51:9
 binding-ok-requires : tie.Need-binding-ok-requires
 binding-ok-requires c κs = (read-fits _ (λ i. c .before .shared-slice-known .given i .fits) _ (c .before .before .pre .0), c .before .before .pre .1, (c .before .before .pre .0 .t, (read-stands _ (λ i. c .before .shared-slice-known .given i .fits) _ (c .before .before .pre .0))))
 
--- src/lib.rt:53:9
 returns : tie.Need-returns
 returns c = refused-post _ _ _ (c .before .binding-ok .ensures .size) (bound-out _ (λ i. c .before .before .before .shared-slice-known .given i .fits) _ (c .before .before .before .before .pre .0) (sym (c .before .binding-ok .ensures .answer (c .before .before .before .before .pre .0 .t) (read-stands _ (λ i. c .before .before .before .shared-slice-known .given i .fits) _ (c .before .before .before .before .pre .0))) ∙ not-true _ (c .if1 .taken)))
 
--- src/lib.rt:55:9
 names-ok-requires : tie.Need-names-ok-requires
 names-ok-requires c κs = (read-fits _ (λ i. c .before .before .before .shared-slice-known .given i .fits) _ (c .before .before .before .before .pre .0), (c .before .before .before .before .pre .0 .t, (read-stands _ (λ i. c .before .before .before .shared-slice-known .given i .fits) _ (c .before .before .before .before .pre .0))))
 
--- src/lib.rt:57:9
 returns-2 : tie.Need-returns-2
 returns-2 c = refused-post _ _ _ (c .before .before .before .binding-ok .ensures .size) (names-out _ (λ i. c .before .before .before .before .before .shared-slice-known .given i .fits) _ (c .before .before .before .before .before .before .pre .0) (sym (c .before .before .before .binding-ok .ensures .answer (c .before .before .before .before .before .before .pre .0 .t) (read-stands _ (λ i. c .before .before .before .before .before .shared-slice-known .given i .fits) _ (c .before .before .before .before .before .before .pre .0))) ∙ not-false _ (c .before .before .if1 .left)) (sym (c .before .names-ok .ensures (c .before .before .before .before .before .before .pre .0 .t) (read-stands _ (λ i. c .before .before .before .before .before .shared-slice-known .given i .fits) _ (c .before .before .before .before .before .before .pre .0))) ∙ not-true _ (c .if2 .taken)))
 
--- src/lib.rt:59:9
 typing-ok-requires : tie.Need-typing-ok-requires
 typing-ok-requires c κs = record { whole = c .before .before .before .before .before .before .before .pre .0 .t; stands = (read-stands _ (λ i. c .before .before .before .before .before .before .shared-slice-known .given i .fits) _ (c .before .before .before .before .before .before .before .pre .0)); leafs = (c .before .before .before .before .binding-ok .ensures .leaves (not-false _ (c .before .before .before .if1 .left)) (c .before .before .before .before .before .before .before .pre .0 .t) (read-stands _ (λ i. c .before .before .before .before .before .before .shared-slice-known .given i .fits) _ (c .before .before .before .before .before .before .before .pre .0))); fits = read-fits _ (λ i. c .before .before .before .before .before .before .shared-slice-known .given i .fits) _ (c .before .before .before .before .before .before .before .pre .0) }
 
--- src/lib.rt:61:9
 returns-3 : tie.Need-returns-3
 returns-3 c = refused-post _ _ _ (c .before .before .before .before .before .before .binding-ok .ensures .size) (typed-out _ (λ i. c .before .before .before .before .before .before .before .before .shared-slice-known .given i .fits) _ (c .before .before .before .before .before .before .before .before .before .pre .0) (sym (c .before .before .before .before .before .before .binding-ok .ensures .answer (c .before .before .before .before .before .before .before .before .before .pre .0 .t) (read-stands _ (λ i. c .before .before .before .before .before .before .before .before .shared-slice-known .given i .fits) _ (c .before .before .before .before .before .before .before .before .before .pre .0))) ∙ not-false _ (c .before .before .before .before .before .if1 .left)) (sym (c .before .before .before .before .names-ok .ensures (c .before .before .before .before .before .before .before .before .before .pre .0 .t) (read-stands _ (λ i. c .before .before .before .before .before .before .before .before .shared-slice-known .given i .fits) _ (c .before .before .before .before .before .before .before .before .before .pre .0))) ∙ not-false _ (c .before .before .before .if2 .left)) (sym (c .before .typing-ok .ensures .answer (c .before .before .before .before .before .before .before .before .before .pre .0 .t) (read-stands _ (λ i. c .before .before .before .before .before .before .before .before .shared-slice-known .given i .fits) _ (c .before .before .before .before .before .before .before .before .before .pre .0)) (c .before .before .before .before .before .before .binding-ok .ensures .leaves (not-false _ (c .before .before .before .before .before .if1 .left)) (c .before .before .before .before .before .before .before .before .before .pre .0 .t) (read-stands _ (λ i. c .before .before .before .before .before .before .before .before .shared-slice-known .given i .fits) _ (c .before .before .before .before .before .before .before .before .before .pre .0)))) ∙ not-true _ (c .if3 .taken)))
 
--- src/lib.rt:47:1
 returns-4 : tie.Need-returns-4
 returns-4 c = accepted-post _ _ (λ i. c .before .before .before .before .before .before .before .before .shared-slice-known .given i .fits) _ (c .before .before .before .before .before .before .before .before .before .pre .0) (c .before .before .before .before .before .before .binding-ok .ensures .size) (accepted-out _ (λ i. c .before .before .before .before .before .before .before .before .shared-slice-known .given i .fits) _ (c .before .before .before .before .before .before .before .before .before .pre .0) (sym (c .before .before .before .before .before .before .binding-ok .ensures .answer (c .before .before .before .before .before .before .before .before .before .pre .0 .t) (read-stands _ (λ i. c .before .before .before .before .before .before .before .before .shared-slice-known .given i .fits) _ (c .before .before .before .before .before .before .before .before .before .pre .0))) ∙ not-false _ (c .before .before .before .before .before .if1 .left)) (sym (c .before .before .before .before .names-ok .ensures (c .before .before .before .before .before .before .before .before .before .pre .0 .t) (read-stands _ (λ i. c .before .before .before .before .before .before .before .before .shared-slice-known .given i .fits) _ (c .before .before .before .before .before .before .before .before .before .pre .0))) ∙ not-false _ (c .before .before .before .if2 .left)) (sym (c .before .typing-ok .ensures .answer (c .before .before .before .before .before .before .before .before .before .pre .0 .t) (read-stands _ (λ i. c .before .before .before .before .before .before .before .before .shared-slice-known .given i .fits) _ (c .before .before .before .before .before .before .before .before .before .pre .0)) (c .before .before .before .before .before .before .binding-ok .ensures .leaves (not-false _ (c .before .before .before .before .before .if1 .left)) (c .before .before .before .before .before .before .before .before .before .pre .0 .t) (read-stands _ (λ i. c .before .before .before .before .before .before .before .before .shared-slice-known .given i .fits) _ (c .before .before .before .before .before .before .before .before .before .pre .0)))) ∙ not-false _ (c .if3 .left))) (c .before .before .before .before .before .before .binding-ok .ensures .leaves (not-false _ (c .before .before .before .before .before .if1 .left)) (c .before .before .before .before .before .before .before .before .before .pre .0 .t) (read-stands _ (λ i. c .before .before .before .before .before .before .before .before .shared-slice-known .given i .fits) _ (c .before .before .before .before .before .before .before .before .before .pre .0)))
 

@@ -6,31 +6,24 @@ use borrow.Author.Needs.{needs}
 use Rattle.checking.proofs.typed_with.Statement.{statement}
 use Rattle.checking.proofs.typed_with.Tie as tie
 
--- src/lib.rt:26:9
 type-tree-requires : tie.Need-type-tree-requires
 type-tree-requires c κs = type-pre _ _ _ (λ i. c .before .before .shared-slice-known .given i .fits) (c .before .before .before .pre .0) (c .before .before .before .pre .1)
 
--- src/lib.rt:28:19
 enum-known-a : tie.Need-enum-known-a
 enum-known-a c = search needs
 
--- src/lib.rt:29:23
 enum-told : tie.Need-enum-told
 enum-told c = search needs
 
--- src/lib.rt:22:1
 same-length : tie.Need-same-length
 same-length c = search needs
 
--- src/lib.rt:22:1
 returns : tie.Need-returns
 returns c = typed-by _ _ _ _ (λ i. c .before .before .before .before .before .before .before .before .shared-slice-known .given i .fits) (c .before .before .before .before .before .before .before .before .before .pre .0) (omega arith) (c .before .before .before .before .before .type-tree .ensures) true (ap isTyped (sym (c .before .a .given .1)))
 
--- src/lib.rt:22:1
 same-length-2 : tie.Need-same-length-2
 same-length-2 c = search needs
 
--- src/lib.rt:22:1
 returns-2 : tie.Need-returns-2
 returns-2 c = typed-by _ _ _ _ (λ i. c .before .before .before .before .before .before .before .shared-slice-known .given i .fits) (c .before .before .before .before .before .before .before .before .pre .0) (omega arith) (c .before .before .before .before .type-tree .ensures) false (ap isTyped (sym (c .enum-told .given .1)))
 

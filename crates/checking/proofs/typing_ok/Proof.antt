@@ -3,27 +3,21 @@ use borrow.Author.Needs.{needs}
 use Rattle.checking.proofs.typing_ok.Statement.{statement}
 use Rattle.checking.proofs.typing_ok.Tie as tie
 
--- src/lib.rt:40:38
 slice-aggregate-typed-with : tie.Need-slice-aggregate-typed-with
 slice-aggregate-typed-with c = search needs
 
--- src/lib.rt:40:9
 typed-with-requires : tie.Need-typed-with-requires
 typed-with-requires c κs = search needs
 
--- src/lib.rt:40:9
 returns : tie.Need-returns
 returns c = search needs
 
--- src/lib.rt:43:27
 slice-aggregate-typed-with-2 : tie.Need-slice-aggregate-typed-with-2
 slice-aggregate-typed-with-2 c = search needs
 
--- src/lib.rt:43:5
 typed-with-requires-2 : tie.Need-typed-with-requires-2
 typed-with-requires-2 c κs = (c .before .before .before .pre, let f = c .before .before .before .pre .fits in omega arith)
 
--- src/lib.rt:34:1
 returns-2 : tie.Need-returns-2
 returns-2 c = search needs
 

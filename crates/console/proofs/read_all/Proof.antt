@@ -10,51 +10,39 @@ Inv-loop input₀ buf₀ out₀ line₀ turns₀ input buf out line turns = (len
 abbrev μ-loop : tie.MeasureT-loop
 μ-loop input₀ buf₀ out₀ line₀ turns₀ input buf out line turns = turns
 
--- src/lib.rt:72:9
 line-start-requires : tie.Need-line-start-requires Inv-loop μ-loop
 line-start-requires c κs = tt
 
--- src/lib.rt:74:5
 loop-holds : tie.Need-loop-holds Inv-loop μ-loop
 loop-holds c = (refl, refl)
 
--- src/lib.rt:75:13
 read-piece-requires : tie.Need-read-piece-requires Inv-loop μ-loop
 read-piece-requires c κs = omega (arith, c .before .before .before .before .before .before .before .before .pre)
 
--- src/lib.rt:78:13
 same-length : tie.Need-same-length Inv-loop μ-loop
 same-length c = omega arith
 
--- src/lib.rt:78:13
 same-length-2 : tie.Need-same-length-2 Inv-loop μ-loop
 same-length-2 c = omega arith
 
--- src/lib.rt:78:13
 returns : tie.Need-returns Inv-loop μ-loop
 returns c = tt
 
--- src/lib.rt:80:9
 sub-turns : tie.Need-sub-turns Inv-loop μ-loop
 sub-turns c = omega arith
 
--- src/lib.rt:74:5
 loop-less : tie.Need-loop-less Inv-loop μ-loop
 loop-less c = omega arith
 
--- src/lib.rt:74:5
 loop-again : tie.Need-loop-again Inv-loop μ-loop
 loop-again c = (omega arith, omega arith)
 
--- src/lib.rt:69:1
 same-length-3 : tie.Need-same-length-3 Inv-loop μ-loop
 same-length-3 c = omega arith
 
--- src/lib.rt:69:1
 same-length-4 : tie.Need-same-length-4 Inv-loop μ-loop
 same-length-4 c = omega arith
 
--- src/lib.rt:69:1
 returns-2 : tie.Need-returns-2 Inv-loop μ-loop
 returns-2 c = tt
 

@@ -14,67 +14,51 @@ Inv-loop piece buf₀ out₀ line₀ at₀ buf out line at = (at ≤ length piec
 abbrev μ-loop : tie.MeasureT-loop
 μ-loop piece buf₀ out₀ line₀ at₀ buf out line at = length piece - at
 
--- src/lib.rt:30:5
 loop-holds : tie.Need-loop-holds Inv-loop μ-loop
 loop-holds c = (omega arith, refl)
 
--- src/lib.rt:31:30
 sub-feed : tie.Need-sub-feed Inv-loop μ-loop
 sub-feed c = omega arith
 
--- src/lib.rt:31:30
 part-feed-start : tie.Need-part-feed-start Inv-loop μ-loop
 part-feed-start c = omega arith
 
--- src/lib.rt:31:30
 part-feed-end : tie.Need-part-feed-end Inv-loop μ-loop
 part-feed-end c = omega arith
 
--- src/lib.rt:31:13
 feed-requires : tie.Need-feed-requires Inv-loop μ-loop
 feed-requires c κs = omega (arith, c .before .before .before .before .before .before .before .pre)
 
--- src/lib.rt:33:42
 slice-reshare-prefix-write-all : tie.Need-slice-reshare-prefix-write-all Inv-loop μ-loop
 slice-reshare-prefix-write-all c = c .before .before .feed .ensures .room
 
--- src/lib.rt:33:42
 slice-aggregate-write-all : tie.Need-slice-aggregate-write-all Inv-loop μ-loop
 slice-aggregate-write-all c = sym (length-take-le _ _ (c .before .before .before .feed .ensures .room))
 
--- src/lib.rt:33:13
 write-all-requires : tie.Need-write-all-requires Inv-loop μ-loop
 write-all-requires c κs = tt
 
--- src/lib.rt:35:23
 line-start-requires : tie.Need-line-start-requires Inv-loop μ-loop
 line-start-requires c κs = tt
 
--- src/lib.rt:34:13
 same-length : tie.Need-same-length Inv-loop μ-loop
 same-length c = omega arith
 
--- src/lib.rt:34:13
 returns : tie.Need-returns Inv-loop μ-loop
 returns c = tt
 
--- src/lib.rt:40:9
 add-at : tie.Need-add-at Inv-loop μ-loop
 add-at c = omega (arith, c .before .before .before .before .before .before .before .feed .ensures .within, part-long (now (c .before .before .before .before .before .before .before .before .before .before .before .before .before .before .before .args .piece)) (c .before .before .before .before .before .before .before .before .before .before .before .before .loop .at))
 
--- src/lib.rt:30:5
 loop-less : tie.Need-loop-less Inv-loop μ-loop
 loop-less c = omega (arith, c .before .before .before .before .before .before .before .feed .ensures .within, c .before .before .before .before .before .before .before .feed .ensures .some (omega (arith, part-long (now (c .before .before .before .before .before .before .before .before .before .before .before .before .before .before .before .args .piece)) (c .before .before .before .before .before .before .before .before .before .before .before .before .loop .at))), part-long (now (c .before .before .before .before .before .before .before .before .before .before .before .before .before .before .before .args .piece)) (c .before .before .before .before .before .before .before .before .before .before .before .before .loop .at))
 
--- src/lib.rt:30:5
 loop-again : tie.Need-loop-again Inv-loop μ-loop
 loop-again c = (omega (arith, c .before .before .before .before .before .before .before .feed .ensures .within, part-long (now (c .before .before .before .before .before .before .before .before .before .before .before .before .before .before .before .args .piece)) (c .before .before .before .before .before .before .before .before .before .before .before .before .loop .at)), omega arith)
 
--- src/lib.rt:20:1
 same-length-2 : tie.Need-same-length-2 Inv-loop μ-loop
 same-length-2 c = omega arith
 
--- src/lib.rt:20:1
 returns-2 : tie.Need-returns-2 Inv-loop μ-loop
 returns-2 c = tt
 

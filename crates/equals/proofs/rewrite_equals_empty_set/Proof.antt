@@ -6,155 +6,117 @@ use borrow.Author.Needs.{needs}
 use Rattle.equals.proofs.rewrite_equals_empty_set.Statement.{statement}
 use Rattle.equals.proofs.rewrite_equals_empty_set.Tie as tie
 
--- src/lib.rt:70:9
 tag-at-requires : tie.Need-tag-at-requires
 tag-at-requires c κs = here-placed (c .before .pre)
 
--- src/lib.rt:71:13
 add-a : tie.Need-add-a
 add-a c = let z = here-few (c .before .before .pre) in omega arith
 
--- src/lib.rt:72:9
 second-of-requires : tie.Need-second-of-requires
 second-of-requires c κs = here-few (c .before .before .pre)
 
--- src/lib.rt:73:9
 arity-at-requires : tie.Need-arity-at-requires
 arity-at-requires c κs = here-placed (c .before .before .before .pre)
 
--- src/lib.rt:75:16
 decide-inter-requires : tie.Need-decide-inter-requires
 decide-inter-requires c κs = inter-here _ _ _ _ _ (c .before .before .before .tag-at .ensures) (c .match .keys1) (c .before .before .before .before .before .pre)
 
--- src/lib.rt:76:16
 fixed-requires : tie.Need-fixed-requires
 fixed-requires c κs = search needs
 
--- src/lib.rt:77:16
 fixed-requires-2 : tie.Need-fixed-requires-2
 fixed-requires-2 c κs = search needs
 
--- src/lib.rt:78:16
 fixed-requires-3 : tie.Need-fixed-requires-3
 fixed-requires-3 c κs = search needs
 
--- src/lib.rt:79:16
 fixed-requires-4 : tie.Need-fixed-requires-4
 fixed-requires-4 c κs = search needs
 
--- src/lib.rt:80:16
 fixed-requires-5 : tie.Need-fixed-requires-5
 fixed-requires-5 c κs = search needs
 
--- src/lib.rt:81:16
 fixed-requires-6 : tie.Need-fixed-requires-6
 fixed-requires-6 c κs = search needs
 
--- src/lib.rt:82:16
 fixed-requires-7 : tie.Need-fixed-requires-7
 fixed-requires-7 c κs = search needs
 
--- src/lib.rt:83:16
 fixed-requires-8 : tie.Need-fixed-requires-8
 fixed-requires-8 c κs = search needs
 
--- src/lib.rt:84:16
 fixed-requires-9 : tie.Need-fixed-requires-9
 fixed-requires-9 c κs = search needs
 
--- src/lib.rt:85:16
 fixed-requires-10 : tie.Need-fixed-requires-10
 fixed-requires-10 c κs = search needs
 
--- src/lib.rt:86:16
 fixed-requires-11 : tie.Need-fixed-requires-11
 fixed-requires-11 c κs = search needs
 
--- src/lib.rt:87:16
 fixed-requires-12 : tie.Need-fixed-requires-12
 fixed-requires-12 c κs = search needs
 
--- src/lib.rt:88:16
 fixed-if-two-requires : tie.Need-fixed-if-two-requires
 fixed-if-two-requires c κs = search needs
 
--- src/lib.rt:89:16
 fixed-if-two-requires-2 : tie.Need-fixed-if-two-requires-2
 fixed-if-two-requires-2 c κs = search needs
 
--- src/lib.rt:90:16
 fixed-requires-13 : tie.Need-fixed-requires-13
 fixed-requires-13 c κs = search needs
 
--- src/lib.rt:91:14
 empty-by-tag-requires : tie.Need-empty-by-tag-requires
 empty-by-tag-requires c κs = (here-few (c .before .before .before .before .before .pre), c .match .rest)
 
--- src/lib.rt:66:1
 returns : tie.Need-returns
 returns c = empty-inter _ _ _ _ _ (c .before .before .before .before .tag-at .ensures) (c .before .match .keys1) _ (c .decide-inter .ensures)
 
--- src/lib.rt:66:1
 returns-2 : tie.Need-returns-2
 returns-2 c = empty-two _ _ _ _ _ (c .before .before .before .before .tag-at .ensures) 213 40 refl (c .before .match .keys2) _ (c .before .before .before .second-of .ensures) _ (c .fixed .ensures)
 
--- src/lib.rt:66:1
 returns-3 : tie.Need-returns-3
 returns-3 c = empty-two _ _ _ _ _ (c .before .before .before .before .tag-at .ensures) 214 41 refl (c .before .match .keys3) _ (c .before .before .before .second-of .ensures) _ (c .fixed2 .ensures)
 
--- src/lib.rt:66:1
 returns-4 : tie.Need-returns-4
 returns-4 c = empty-two _ _ _ _ _ (c .before .before .before .before .tag-at .ensures) 221 42 refl (c .before .match .keys4) _ (c .before .before .before .second-of .ensures) _ (c .fixed3 .ensures)
 
--- src/lib.rt:66:1
 returns-5 : tie.Need-returns-5
 returns-5 c = empty-two _ _ _ _ _ (c .before .before .before .before .tag-at .ensures) 204 43 refl (c .before .match .keys5) _ (c .before .before .before .second-of .ensures) _ (c .fixed4 .ensures)
 
--- src/lib.rt:66:1
 returns-6 : tie.Need-returns-6
 returns-6 c = empty-two _ _ _ _ _ (c .before .before .before .before .tag-at .ensures) 205 44 refl (c .before .match .keys6) _ (c .before .before .before .second-of .ensures) _ (c .fixed5 .ensures)
 
--- src/lib.rt:66:1
 returns-7 : tie.Need-returns-7
 returns-7 c = empty-two _ _ _ _ _ (c .before .before .before .before .tag-at .ensures) 217 45 refl (c .before .match .keys7) _ (c .before .before .before .second-of .ensures) _ (c .fixed6 .ensures)
 
--- src/lib.rt:66:1
 returns-8 : tie.Need-returns-8
 returns-8 c = empty-two _ _ _ _ _ (c .before .before .before .before .tag-at .ensures) 218 46 refl (c .before .match .keys8) _ (c .before .before .before .second-of .ensures) _ (c .fixed7 .ensures)
 
--- src/lib.rt:66:1
 returns-9 : tie.Need-returns-9
 returns-9 c = empty-two _ _ _ _ _ (c .before .before .before .before .tag-at .ensures) 219 47 refl (c .before .match .keys9) _ (c .before .before .before .second-of .ensures) _ (c .fixed8 .ensures)
 
--- src/lib.rt:66:1
 returns-10 : tie.Need-returns-10
 returns-10 c = empty-two _ _ _ _ _ (c .before .before .before .before .tag-at .ensures) 220 48 refl (c .before .match .keys10) _ (c .before .before .before .second-of .ensures) _ (c .fixed9 .ensures)
 
--- src/lib.rt:66:1
 returns-11 : tie.Need-returns-11
 returns-11 c = empty-two _ _ _ _ _ (c .before .before .before .before .tag-at .ensures) 227 49 refl (c .before .match .keys11) _ (c .before .before .before .second-of .ensures) _ (c .fixed10 .ensures)
 
--- src/lib.rt:66:1
 returns-12 : tie.Need-returns-12
 returns-12 c = empty-two _ _ _ _ _ (c .before .before .before .before .tag-at .ensures) 215 50 refl (c .before .match .keys12) _ (c .before .before .before .second-of .ensures) _ (c .fixed11 .ensures)
 
--- src/lib.rt:66:1
 returns-13 : tie.Need-returns-13
 returns-13 c = empty-two _ _ _ _ _ (c .before .before .before .before .tag-at .ensures) 216 51 refl (c .before .match .keys13) _ (c .before .before .before .second-of .ensures) _ (c .fixed12 .ensures)
 
--- src/lib.rt:66:1
 returns-14 : tie.Need-returns-14
 returns-14 c = empty-56 _ _ _ _ _ (c .before .before .before .before .tag-at .ensures) (c .before .match .keys14) _ (c .before .before .before .second-of .ensures) _ (c .before .before .arity-at .ensures) _ (c .fixed-if-two .ensures)
 
--- src/lib.rt:66:1
 returns-15 : tie.Need-returns-15
 returns-15 c = empty-57 _ _ _ _ _ (c .before .before .before .before .tag-at .ensures) (c .before .match .keys15) _ (c .before .before .before .second-of .ensures) _ (c .before .before .arity-at .ensures) _ (c .fixed-if-two2 .ensures)
 
--- src/lib.rt:66:1
 returns-16 : tie.Need-returns-16
 returns-16 c = empty-59 _ _ _ _ _ (c .before .before .before .before .tag-at .ensures) (c .before .match .keys16) _ (c .before .before .before .second-of .ensures) _ (c .fixed13 .ensures)
 
--- src/lib.rt:66:1
 returns-17 : tie.Need-returns-17
 returns-17 c = c .empty-by-tag .ensures .decides _ _ _ (c .before .before .before .before .tag-at .ensures)
 

@@ -4,27 +4,21 @@ use borrow.Author.Needs.{needs}
 use Rattle.filling.proofs.fill.Statement.{statement}
 use Rattle.filling.proofs.fill.Tie as tie
 
--- src/lib.rt:131:62
 slice-aggregate-operand-types : tie.Need-slice-aggregate-operand-types
 slice-aggregate-operand-types c = search needs
 
--- src/lib.rt:131:5
 operand-types-requires : tie.Need-operand-types-requires
 operand-types-requires c κs = fill-types _ _ _ _ _ _ _ _ _ (c .before .before .pre) _ refl refl
 
--- src/lib.rt:132:9
 ranges-requires : tie.Need-ranges-requires
 ranges-requires c κs = fill-ranges _ _ _ _ _ _ _ _ _ (c .before .before .before .before .pre)
 
--- src/lib.rt:133:47
 slice-aggregate-fill-template : tie.Need-slice-aggregate-fill-template
 slice-aggregate-fill-template c = search needs
 
--- src/lib.rt:133:5
 fill-template-requires : tie.Need-fill-template-requires
 fill-template-requires c κs = fill-ready _ _ _ _ _ _ _ _ _ _ (c .before .before .before .before .operand-types .ensures) _ (c .before .before .ranges .ensures) (c .before .before .before .before .before .before .before .pre)
 
--- src/lib.rt:114:1
 returns : tie.Need-returns
 returns c = fill-done _ _ _ _ _ _ _ _ _ _ (c .before .before .before .before .before .operand-types .ensures) _ (c .before .before .before .ranges .ensures) _ _ _ _ (c .fill-template .ensures)
 

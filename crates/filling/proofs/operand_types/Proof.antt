@@ -3,27 +3,21 @@ use borrow.Author.Needs.{needs}
 use Rattle.filling.proofs.operand_types.Statement.{statement}
 use Rattle.filling.proofs.operand_types.Tie as tie
 
--- src/lib.rt:71:8
 asks-types-requires : tie.Need-asks-types-requires
 asks-types-requires c κs = c .before .before .pre .few
 
--- src/lib.rt:72:9
 type-of-place-requires : tie.Need-type-of-place-requires
 type-of-place-requires c κs = first-pre _ _ _ _ _ _ _ (c .before .before .before .before .before .pre)
 
--- src/lib.rt:73:9
 type-of-place-requires-2 : tie.Need-type-of-place-requires-2
 type-of-place-requires-2 c κs = second-pre _ _ _ _ _ _ _ (c .before .before .before .before .before .before .before .before .before .pre) _ (c .before .before .before .type-of-place .ensures)
 
--- src/lib.rt:59:1
 same-length : tie.Need-same-length
 same-length c = search needs
 
--- src/lib.rt:59:1
 returns : tie.Need-returns
 returns c = types-there _ _ _ _ _ _ _ (c .before .before .before .before .before .before .before .before .before .before .before .before .pre) _ (c .before .before .before .before .before .before .type-of-place .ensures) _ (c .before .before .type-of-place2 .ensures)
 
--- src/lib.rt:59:1
 returns-2 : tie.Need-returns-2
 returns-2 c = types-unasked _ _ _ _ _ _ _ (c .before .before .before .before .pre) _ (c .before .asks-types .ensures) (c .if1 .left)
 

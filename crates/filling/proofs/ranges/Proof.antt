@@ -3,35 +3,27 @@ use borrow.Author.Needs.{needs}
 use Rattle.filling.proofs.ranges.Statement.{statement}
 use Rattle.filling.proofs.ranges.Tie as tie
 
--- src/lib.rt:102:16
 start-at-requires : tie.Need-start-at-requires
 start-at-requires c κs = range-few _ _ _ _ _ _ _ (c .before .pre) .0
 
--- src/lib.rt:103:20
 end-at-requires : tie.Need-end-at-requires
 end-at-requires c κs = first-in _ _ _ _ _ _ _ (c .before .before .pre)
 
--- src/lib.rt:104:17
 start-at-requires-2 : tie.Need-start-at-requires-2
 start-at-requires-2 c κs = range-few _ _ _ _ _ _ _ (c .before .before .before .pre) .1
 
--- src/lib.rt:105:21
 end-at-requires-2 : tie.Need-end-at-requires-2
 end-at-requires-2 c κs = second-in _ _ _ _ _ _ _ (c .before .before .before .before .pre)
 
--- src/lib.rt:108:18
 start-at-requires-3 : tie.Need-start-at-requires-3
 start-at-requires-3 c κs = range-few _ _ _ _ _ _ _ (c .before .before .before .before .before .pre) .2
 
--- src/lib.rt:108:18
 add-t13 : tie.Need-add-t13
 add-t13 c = search needs
 
--- src/lib.rt:109:22
 start-after-requires : tie.Need-start-after-requires
 start-after-requires c κs = range-few _ _ _ _ _ _ _ (c .before .before .before .before .before .before .pre) .2
 
--- src/lib.rt:89:1
 returns : tie.Need-returns
 returns c = ranges-done _ _ _ _ _ _ _ (c .before .before .before .before .before .before .before .pre) _ _ _ _ _ _ (c .before .before .before .before .before .start-at .ensures .0) (c .before .before .before .before .end-at .ensures) (c .before .before .before .start-at2 .ensures .0) (c .before .before .end-at2 .ensures) (c .before .start-at3 .ensures .0) (c .start-after .ensures)
 

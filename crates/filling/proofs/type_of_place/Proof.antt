@@ -5,55 +5,42 @@ use borrow.Author.Needs.{needs}
 use Rattle.filling.proofs.type_of_place.Statement.{statement}
 use Rattle.filling.proofs.type_of_place.Tie as tie
 
--- src/lib.rt:61:8
 arity-at-requires : tie.Need-arity-at-requires
 arity-at-requires c κs = let p = c .before .before .pre in record { t = p .t; n = p .n; framed = p .held .framed; below = p .below }
 
--- src/lib.rt:63:41
 slice-aggregate-type-with : tie.Need-slice-aggregate-type-with
 slice-aggregate-type-with c = search needs
 
--- src/lib.rt:63:9
 type-with-requires : tie.Need-type-with-requires
 type-with-requires c κs = (c .before .before .before .before .before .before .pre, work-own _ _ _ _ _ refl _ (c .before .before .before .arity-at .ensures) (c .before .before .if1 .taken))
 
--- src/lib.rt:64:9
 same-length : tie.Need-same-length
 same-length c = search needs
 
--- src/lib.rt:64:9
 returns : tie.Need-returns
 returns c = search needs
 
--- src/lib.rt:68:41
 slice-aggregate-type-with-2 : tie.Need-slice-aggregate-type-with-2
 slice-aggregate-type-with-2 c = search needs
 
--- src/lib.rt:68:9
 type-with-requires-2 : tie.Need-type-with-requires-2
 type-with-requires-2 c κs = (c .before .before .before .before .before .before .before .pre, work-all _ _ _ _ _ (omega arith))
 
--- src/lib.rt:69:9
 same-length-2 : tie.Need-same-length-2
 same-length-2 c = search needs
 
--- src/lib.rt:69:9
 returns-2 : tie.Need-returns-2
 returns-2 c = search needs
 
--- src/lib.rt:72:37
 slice-aggregate-type-with-3 : tie.Need-slice-aggregate-type-with-3
 slice-aggregate-type-with-3 c = search needs
 
--- src/lib.rt:72:5
 type-with-requires-3 : tie.Need-type-with-requires-3
 type-with-requires-3 c κs = (c .before .before .before .before .before .before .before .pre, work-all _ _ _ _ _ (let f = c .before .before .before .before .before .before .before .pre .held .framed .short in omega arith))
 
--- src/lib.rt:50:1
 same-length-3 : tie.Need-same-length-3
 same-length-3 c = search needs
 
--- src/lib.rt:50:1
 returns-3 : tie.Need-returns-3
 returns-3 c = search needs
 

@@ -5,42 +5,33 @@ use borrow.Author.Needs.{needs}
 use Rattle.filling.proofs.type_with.Statement.{statement}
 use Rattle.filling.proofs.type_with.Tie as tie
 
--- src/lib.rt:40:9
 start-at-requires : tie.Need-start-at-requires
 start-at-requires c κs = type-of-few _ _ _ _ _ _ (c .before .before .before .pre .0)
 
--- src/lib.rt:41:9
 type-tree-requires : tie.Need-type-tree-requires
 type-tree-requires c κs = type-of-pre _ _ _ _ _ _ (c .before .before .before .before .before .pre .0) _ (c .before .start-at .ensures .0) _ (c .before .before .before .before .before .pre .1)
 
--- src/lib.rt:43:19
 enum-known-a : tie.Need-enum-known-a
 enum-known-a c = search needs
 
--- src/lib.rt:43:25
 copy-in-requires : tie.Need-copy-in-requires
 copy-in-requires c κs = copy-room _ _ _ _ _ _ (c .before .before .before .before .before .before .before .before .before .before .before .before .before .pre .0) _ (c .before .before .before .before .before .before .before .before .before .start-at .ensures .0) _ (work-kept _ _ _ _ _ _ (omega arith) (c .before .before .before .before .before .before .before .before .before .before .before .before .before .pre .1)) _ (c .before .before .before .before .before .before .before .type-tree .ensures) _ (c .before .before .before .a .given .1)
 
 enum-told : tie.Need-enum-told
 enum-told c = search needs
 
--- src/lib.rt:28:1
 same-length : tie.Need-same-length
 same-length c = search needs
 
--- src/lib.rt:28:1
 same-length-2 : tie.Need-same-length-2
 same-length-2 c = search needs
 
--- src/lib.rt:28:1
 returns : tie.Need-returns
 returns c = type-copied _ _ _ _ _ _ (c .before .before .before .before .before .before .before .before .before .before .before .before .before .before .before .before .pre .0) _ (c .before .before .before .before .before .before .before .before .before .before .before .before .start-at .ensures .0) _ (work-kept _ _ _ _ _ _ (omega arith) (c .before .before .before .before .before .before .before .before .before .before .before .before .before .before .before .before .pre .1)) _ (c .before .before .before .before .before .before .before .before .before .before .type-tree .ensures) _ (c .before .before .before .before .before .before .a .given .1) _ (c .before .before .copy-in .ensures)
 
--- src/lib.rt:28:1
 same-length-3 : tie.Need-same-length-3
 same-length-3 c = search needs
 
--- src/lib.rt:28:1
 returns-2 : tie.Need-returns-2
 returns-2 c = type-refused _ _ _ _ _ _ (c .before .before .before .before .before .before .before .before .before .before .pre .0) _ (c .before .before .before .before .before .before .start-at .ensures .0) _ (work-kept _ _ _ _ _ _ (omega arith) (c .before .before .before .before .before .before .before .before .before .before .pre .1)) _ (c .before .before .before .before .type-tree .ensures) (c .enum-told .given .1)
 

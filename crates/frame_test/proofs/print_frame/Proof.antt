@@ -4,19 +4,15 @@ use borrow.Author.Needs.{needs}
 use Rattle.frame_test.proofs.print_frame.Statement.{statement}
 use Rattle.frame_test.proofs.print_frame.Tie as tie
 
--- src/main.rt:46:9
 returns : tie.Need-returns
 returns c = search needs
 
--- src/main.rt:48:19
 slice-aggregate-print-answers : tie.Need-slice-aggregate-print-answers
 slice-aggregate-print-answers c = sym (length-take-le _ _ (c .before .if1 .left))
 
--- src/main.rt:48:5
 print-answers-requires : tie.Need-print-answers-requires
 print-answers-requires c κs = search needs
 
--- src/main.rt:44:1
 returns-2 : tie.Need-returns-2
 returns-2 c = search needs
 

@@ -27,47 +27,36 @@ named-in-below t =
 abbrev calls-named-in : ℕ → named-in-lts.Claims
 calls-named-in t = (binders-at-reads.Asked, binders-at-reads.Learnt, kids-at-reads.Asked, kids-at-reads.Learnt, own-at-reads.Asked, own-at-reads.Learnt, named-in-below t, named-in.Post, next-at-reads.Asked, next-at-reads.Learnt)
 
--- src/lib.rt:81:9
 named-in-returns : (t : ℕ) → named-in-lts.Need-returns (calls-named-in t) (named-in-at t) named-in.Post
 named-in-returns t c = named-none _ _ _ _ _ _ _ _ (c .if1 .taken)
 
--- src/lib.rt:83:9
 named-in-binders-at-requires : (t : ℕ) → named-in-lts.Need-binders-at-requires (calls-named-in t) (named-in-at t) named-in.Post
 named-in-binders-at-requires t c κs = row-placed _ _ _ _ _ (c .if1 .left) (c .before .before .pre .1 .0)
 
--- src/lib.rt:84:9
 named-in-kids-at-requires : (t : ℕ) → named-in-lts.Need-kids-at-requires (calls-named-in t) (named-in-at t) named-in.Post
 named-in-kids-at-requires t c κs = row-placed _ _ _ _ _ (c .before .if1 .left) (c .before .before .before .pre .1 .0)
 
--- src/lib.rt:85:9
 named-in-own-at-requires : (t : ℕ) → named-in-lts.Need-own-at-requires (calls-named-in t) (named-in-at t) named-in.Post
 named-in-own-at-requires t c κs = (row-placed _ _ _ _ _ (c .before .before .if1 .left) (c .before .before .before .before .pre .1 .0), c .before .before .before .before .pre .1 .2)
 
--- src/lib.rt:86:44
 named-in-add-named-in : (t : ℕ) → named-in-lts.Need-add-named-in (calls-named-in t) (named-in-at t) named-in.Post
 named-in-add-named-in t c = let z = row-few _ _ _ _ _ (c .before .before .before .if1 .left) (c .before .before .before .before .before .pre .1 .0) in omega arith
 
--- src/lib.rt:86:57
 named-in-add-named-in-2 : (t : ℕ) → named-in-lts.Need-add-named-in-2 (calls-named-in t) (named-in-at t) named-in.Post
 named-in-add-named-in-2 t c = let z = row-few _ _ _ _ _ (c .before .before .before .if1 .left) (c .before .before .before .before .before .pre .1 .0) in let y = c .before .before .before .before .before .pre .1 .1 in let x = c .before .before .binders-at .ensures .1 in omega arith
 
--- src/lib.rt:86:9
 named-in-named-in-requires : (t : ℕ) → named-in-lts.Need-named-in-requires (calls-named-in t) (named-in-at t) named-in.Post
 named-in-named-in-requires t c κs = let z = row-few _ _ _ _ _ (c .before .before .before .if1 .left) (c .before .before .before .before .before .pre .1 .0) in let y = c .before .before .before .before .before .pre .1 .1 in let x = c .before .before .binders-at .ensures .1 in let m = c .before .before .before .before .before .pre .0 in (omega arith, (row-kids _ _ _ _ _ (c .before .before .before .if1 .left) _ _ (c .before .kids-at .ensures) (c .before .before .before .before .before .pre .1 .0), omega arith, c .before .before .before .before .before .pre .1 .2))
 
--- src/lib.rt:87:9
 named-in-next-at-requires : (t : ℕ) → named-in-lts.Need-next-at-requires (calls-named-in t) (named-in-at t) named-in.Post
 named-in-next-at-requires t c κs = row-few _ _ _ _ _ (c .before .before .before .before .if1 .left) (c .before .before .before .before .before .before .pre .1 .0)
 
--- src/lib.rt:88:51
 named-in-sub-named-in : (t : ℕ) → named-in-lts.Need-sub-named-in (calls-named-in t) (named-in-at t) named-in.Post
 named-in-sub-named-in t c = let z = c .before .before .before .before .before .if1 .left in omega arith
 
--- src/lib.rt:88:9
 named-in-named-in-requires-2 : (t : ℕ) → named-in-lts.Need-named-in-requires-2 (calls-named-in t) (named-in-at t) named-in.Post
 named-in-named-in-requires-2 t c κs = let z = row-few _ _ _ _ _ (c .before .before .before .before .before .if1 .left) (c .before .before .before .before .before .before .before .pre .1 .0) in let w = row-far _ _ _ _ _ (c .before .before .before .before .before .if1 .left) (c .before .before .before .before .before .before .before .pre .1 .0) in let v = c .next-at .ensures .0 in let y = c .before .before .before .before .before .before .before .pre .1 .1 in let m = c .before .before .before .before .before .before .before .pre .0 in (omega arith, (row-rest _ _ _ _ _ (c .before .before .before .before .before .if1 .left) _ (c .next-at .ensures .0) (c .before .before .before .before .before .before .before .pre .1 .0), omega arith, c .before .before .before .before .before .before .before .pre .1 .2))
 
--- src/lib.rt:67:1
 named-in-returns-2 : (t : ℕ) → named-in-lts.Need-returns-2 (calls-named-in t) (named-in-at t) named-in.Post
 named-in-returns-2 t c = named-more _ _ _ _ _ (c .before .before .before .before .before .before .if1 .left) _ (c .before .next-at .ensures .0) _ _ _ _ _ (c .before .before .before .before .before .binders-at .ensures .0) (c .before .before .before .before .kids-at .ensures) _ _ _ (c .before .before .before .own-at .ensures) (c .before .before .named-in .ensures) (c .named-in2 .ensures)
 

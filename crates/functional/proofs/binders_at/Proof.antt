@@ -7,31 +7,24 @@ use borrow.Author.Needs.{needs}
 use Rattle.functional.proofs.binders_at.Statement.{statement}
 use Rattle.functional.proofs.binders_at.Tie as tie
 
--- src/lib.rt:27:19
 tag-at-requires : tie.Need-tag-at-requires
 tag-at-requires c κs = search needs
 
--- src/lib.rt:27:9
 is-binder-requires : tie.Need-is-binder-requires
 is-binder-requires c κs = search needs
 
--- src/lib.rt:28:9
 returns : tie.Need-returns
 returns c = binders-none _ _ _ _ (c .before .before .tag-at .ensures) (sym (c .before .is-binder .ensures) ∙ not-true _ (c .if1 .taken))
 
--- src/lib.rt:30:31
 start-at-requires : tie.Need-start-at-requires
 start-at-requires c κs = placed-root _ _ _ (c .before .before .before .before .pre) .0
 
--- src/lib.rt:30:31
 add-number : tie.Need-add-number
 add-number c = search needs
 
--- src/lib.rt:30:5
 number-requires : tie.Need-number-requires
 number-requires c κs = let z = room-binders _ _ _ _ (c .before .before .before .tag-at .ensures) (sym (c .before .before .is-binder .ensures) ∙ not-false _ (c .before .if1 .left)) _ (c .start-at .ensures .0) (c .before .before .before .before .before .pre) in omega arith
 
--- src/lib.rt:23:1
 returns-2 : tie.Need-returns-2
 returns-2 c = binders-some _ _ _ _ (c .before .before .before .before .tag-at .ensures) (sym (c .before .before .before .is-binder .ensures) ∙ not-false _ (c .before .before .if1 .left)) _ (c .before .start-at .ensures .0) (c .before .before .before .before .before .before .pre) _ (c .number .ensures)
 

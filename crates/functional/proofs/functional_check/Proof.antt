@@ -3,15 +3,12 @@ use native.Mathlib.Omega.{arith}
 use Rattle.functional.proofs.functional_check.Statement.{statement}
 use Rattle.functional.proofs.functional_check.Tie as tie
 
--- src/lib.rt:104:9
 named-in-requires : tie.Need-named-in-requires
 named-in-requires c κs = (row-right _ _ _ _ _ (c .before .pre .0), omega arith, c .before .pre .1)
 
--- src/lib.rt:105:9
 named-in-requires-2 : tie.Need-named-in-requires-2
 named-in-requires-2 c κs = (row-left _ _ _ _ _ (c .before .before .pre .0), omega arith, c .before .before .pre .1)
 
--- src/lib.rt:93:1
 returns : tie.Need-returns
 returns c = check-done _ _ _ _ _ _ _ _ (c .before .named-in .ensures) (c .named-in2 .ensures) (c .before .before .before .pre .1) (omega arith) (omega arith)
 

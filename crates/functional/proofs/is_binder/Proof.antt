@@ -3,27 +3,21 @@ use borrow.Author.Tests.{ne-eqb}
 use Rattle.functional.proofs.is_binder.Statement.{statement}
 use Rattle.functional.proofs.is_binder.Tie as tie
 
--- src/lib.rt:9:1
 returns : tie.Need-returns
 returns c = rw (c .match .keys1) refl
 
--- src/lib.rt:9:1
 returns-2 : tie.Need-returns-2
 returns-2 c = rw (c .match .keys2) refl
 
--- src/lib.rt:9:1
 returns-3 : tie.Need-returns-3
 returns-3 c = rw (c .match .keys3) refl
 
--- src/lib.rt:9:1
 returns-4 : tie.Need-returns-4
 returns-4 c = rw (c .match .keys4) refl
 
--- src/lib.rt:9:1
 returns-5 : tie.Need-returns-5
 returns-5 c = rw (c .match .keys5) refl
 
--- src/lib.rt:9:1
 returns-6 : tie.Need-returns-6
 returns-6 c = simp (ne-eqb _ _ (c .match .rest .0 .0 .0 .0 .1), ne-eqb _ _ (c .match .rest .0 .0 .0 .1), ne-eqb _ _ (c .match .rest .0 .0 .1), ne-eqb _ _ (c .match .rest .0 .1), ne-eqb _ _ (c .match .rest .1))
 

@@ -3,27 +3,21 @@ use borrow.Author.Needs.{needs}
 use Rattle.functional.proofs.kids_at.Statement.{statement}
 use Rattle.functional.proofs.kids_at.Tie as tie
 
--- src/lib.rt:57:9
 arity-at-requires : tie.Need-arity-at-requires
 arity-at-requires c κs = search needs
 
--- src/lib.rt:57:9
 returns : tie.Need-returns
 returns c = kids-all _ _ _ _ _ (c .before .if1 .taken) (c .arity-at .ensures)
 
--- src/lib.rt:59:8
 tag-at-requires : tie.Need-tag-at-requires
 tag-at-requires c κs = search needs
 
--- src/lib.rt:60:9
 arity-at-requires-2 : tie.Need-arity-at-requires-2
 arity-at-requires-2 c κs = search needs
 
--- src/lib.rt:60:9
 returns-2 : tie.Need-returns-2
 returns-2 c = kids-maplet _ _ _ _ _ (c .before .before .before .if1 .left) _ (c .before .before .tag-at .ensures) (c .before .if2 .taken) (c .arity-at2 .ensures)
 
--- src/lib.rt:52:1
 returns-3 : tie.Need-returns-3
 returns-3 c = kids-none _ _ _ _ (c .before .before .if1 .left) _ (c .before .tag-at .ensures) (c .if2 .left)
 

@@ -5,43 +5,33 @@ use borrow.Author.Needs.{needs}
 use Rattle.functional.proofs.own_at.Statement.{statement}
 use Rattle.functional.proofs.own_at.Tie as tie
 
--- src/lib.rt:38:8
 tag-at-requires : tie.Need-tag-at-requires
 tag-at-requires c κs = search needs
 
--- src/lib.rt:39:9
 returns : tie.Need-returns
 returns c = own-other _ _ _ _ _ _ (c .before .tag-at .ensures) (c .if1 .taken)
 
--- src/lib.rt:41:39
 start-at-requires : tie.Need-start-at-requires
 start-at-requires c κs = placed-root _ _ _ (c .before .before .before .pre .0) .0
 
--- src/lib.rt:41:39
 add-number : tie.Need-add-number
 add-number c = search needs
 
--- src/lib.rt:41:9
 number-requires : tie.Need-number-requires
 number-requires c κs = let z = room-own _ _ _ (c .before .before .before .before .args .d) (c .before .before .before .before .args .n) _ (c .before .before .tag-at .ensures) (c .before .if1 .left) _ (c .start-at .ensures .0) (c .before .before .before .before .pre .0) in omega arith
 
--- src/lib.rt:43:9
 returns-2 : tie.Need-returns-2
 returns-2 c = own-inner _ _ _ _ _ _ (c .before .before .before .before .tag-at .ensures) (c .before .before .before .if1 .left) _ (c .before .before .start-at .ensures .0) _ (c .before .number .ensures) (c .if2 .taken)
 
--- src/lib.rt:46:9
 returns-3 : tie.Need-returns-3
 returns-3 c = own-outer _ _ _ _ _ _ (c .before .before .before .before .before .tag-at .ensures) (c .before .before .before .before .if1 .left) _ (c .before .before .before .start-at .ensures .0) _ (c .before .before .number .ensures) (c .before .if2 .left) (c .if3 .taken)
 
--- src/lib.rt:48:11
 cast-result : tie.Need-cast-result
 cast-result c = search needs
 
--- src/lib.rt:48:5
 shl-result : tie.Need-shl-result
 shl-result c = search needs
 
--- src/lib.rt:34:1
 returns-4 : tie.Need-returns-4
 returns-4 c = own-bit _ _ _ _ _ _ (c .before .before .before .before .before .tag-at .ensures) (c .before .before .before .before .if1 .left) _ (c .before .before .before .start-at .ensures .0) _ (c .before .before .number .ensures) (c .before .if2 .left) (c .before .before .before .before .before .before .before .pre .1) (c .if3 .left)
 

@@ -4,43 +4,33 @@ use borrow.Author.Needs.{needs}
 use Rattle.heads.proofs.head_end.Statement.{statement}
 use Rattle.heads.proofs.head_end.Tie as tie
 
--- src/lib.rt:201:37
 number-requires : tie.Need-number-requires
 number-requires c κs = (known-two _ _ (c .before .pre), omega arith)
 
--- src/lib.rt:201:9
 form-of-requires : tie.Need-form-of-requires
 form-of-requires c κs = search needs
 
--- src/lib.rt:202:9
 width-of-requires : tie.Need-width-of-requires
 width-of-requires c κs = search needs
 
--- src/lib.rt:203:23
 add-number : tie.Need-add-number
 add-number c = omega (arith, known-two _ _ (c .before .before .before .before .pre))
 
--- src/lib.rt:203:9
 number-requires-2 : tie.Need-number-requires-2
 number-requires-2 c κs = (known-room _ _ _ (c .before .before .number .ensures) _ (c .before .form-of .ensures .0) _ (c .width-of .ensures .0) (c .before .before .before .before .pre), c .width-of .ensures .1)
 
--- src/lib.rt:204:19
 add-skip-types : tie.Need-add-skip-types
 add-skip-types c = omega (arith, known-two _ _ (c .before .before .before .before .before .pre))
 
--- src/lib.rt:204:19
 add-skip-types-2 : tie.Need-add-skip-types-2
 add-skip-types-2 c = omega (arith, known-room _ _ _ (c .before .before .before .number .ensures) _ (c .before .before .form-of .ensures .0) _ (c .before .width-of .ensures .0) (c .before .before .before .before .before .pre))
 
--- src/lib.rt:204:31
 types-of-requires : tie.Need-types-of-requires
 types-of-requires c κs = search needs
 
--- src/lib.rt:204:5
 skip-types-requires : tie.Need-skip-types-requires
 skip-types-requires c κs = known-types _ _ _ (c .before .before .before .before .number .ensures) _ (c .before .before .before .form-of .ensures .0) _ (c .before .before .width-of .ensures .0) _ (c .before .number2 .ensures) _ (c .types-of .ensures) (λ i. c .before .before .before .before .before .shared-slice-known .given i .fits) (c .before .before .before .before .before .before .pre)
 
--- src/lib.rt
 returns : tie.Need-returns
 returns c = known-end _ _ _ (c .before .before .before .before .before .number .ensures) _ (c .before .before .before .before .form-of .ensures .0) _ (c .before .before .before .width-of .ensures .0) _ (c .before .before .number2 .ensures) _ (c .before .types-of .ensures) (λ i. c .before .before .before .before .before .before .shared-slice-known .given i .fits) _ (c .skip-types .ensures)
 

@@ -11,43 +11,33 @@ Inv-loop s at m p₀ left₀ p left = Skipping s at m p left
 abbrev μ-loop : tie.MeasureT-loop
 μ-loop s at m p₀ left₀ p left = length s - p
 
--- src/lib.rt:188:5
 loop-holds : tie.Need-loop-holds Inv-loop μ-loop
 loop-holds c = skip-begins _ _ _ (c .before .pre)
 
--- src/lib.rt:189:17
 shared-slice-read-b : tie.Need-shared-slice-read-b Inv-loop μ-loop
 shared-slice-read-b c = omega (arith, stand-room _ _ _ (c .before .before .loop .inv .stands))
 
--- src/lib.rt:190:14
 type-bytes-requires : tie.Need-type-bytes-requires Inv-loop μ-loop
 type-bytes-requires c κs = tt
 
--- src/lib.rt:190:9
 add-p : tie.Need-add-p Inv-loop μ-loop
 add-p c = let f = skip-lead _ _ _ _ _ (c .before .before .before .loop .inv) (c .before .before .loop-test .taken) _ (c .type-bytes .ensures) in omega arith
 
--- src/lib.rt:191:16
 sub-left : tie.Need-sub-left Inv-loop μ-loop
 sub-left c = omega arith
 
--- src/lib.rt:191:27
 type-parts-requires : tie.Need-type-parts-requires Inv-loop μ-loop
 type-parts-requires c κs = tt
 
--- src/lib.rt:191:16
 add-left : tie.Need-add-left Inv-loop μ-loop
 add-left c = let f = skip-further _ _ _ _ _ (c .before .before .before .before .loop .inv) (c .before .before .before .loop-test .taken) _ _ (c .before .type-bytes .ensures) (c .type-parts .ensures) in omega arith
 
--- src/lib.rt:188:5
 loop-less : tie.Need-loop-less Inv-loop μ-loop
 loop-less c = let f = skip-lead _ _ _ _ _ (c .before .before .before .before .loop .inv) (c .before .before .before .loop-test .taken) _ (c .before .type-bytes .ensures) in omega arith
 
--- src/lib.rt:188:5
 loop-again : tie.Need-loop-again Inv-loop μ-loop
 loop-again c = skip-goes _ _ _ _ _ (c .before .before .before .before .loop .inv) (c .before .before .before .loop-test .taken) _ _ (c .before .type-bytes .ensures) (c .type-parts .ensures)
 
--- src/lib.rt:182:1
 returns : tie.Need-returns Inv-loop μ-loop
 returns c = skip-done _ _ _ _ _ (c .before .loop .inv) (c .loop-test .left)
 

@@ -5,11 +5,9 @@ use mathlib.Core.Path.{sym, ap}
 use Rattle.heads.proofs.type_bytes.Statement.{statement}
 use Rattle.heads.proofs.type_bytes.Tie as tie
 
--- src/lib.rt:168:1
 returns : tie.Need-returns
 returns c = sym (ap (λ (x : Bool). pick x 3 1) (eq-eqb _ 2 (c .if1 .taken)))
 
--- src/lib.rt:168:1
 returns-2 : tie.Need-returns-2
 returns-2 c = sym (ap (λ (x : Bool). pick x 3 1) (ne-eqb _ 2 (c .if1 .left)))
 

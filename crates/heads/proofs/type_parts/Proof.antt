@@ -7,19 +7,15 @@ use borrow.Author.Needs.{needs}
 use Rattle.heads.proofs.type_parts.Statement.{statement}
 use Rattle.heads.proofs.type_parts.Tie as tie
 
--- src/lib.rt:178:27
 wide-requires : tie.Need-wide-requires
 wide-requires c κs = search needs
 
--- src/lib.rt:178:27
 sub-result : tie.Need-sub-result
 sub-result c = search needs
 
--- src/lib.rt:175:1
 returns : tie.Need-returns
 returns c = sym (ap (λ (x : Bool). pick x 0 (c .before .args .b - 2)) (lt-ltb _ 3 (c .if1 .taken)))
 
--- src/lib.rt:175:1
 returns-2 : tie.Need-returns-2
 returns-2 c = ap (λ (i : ℕ). i - 2) (c .wide .ensures .0) ∙ sym (ap (λ (x : Bool). pick x 0 (c .before .before .args .b - 2)) (le-ltb _ 3 (c .before .if1 .left)))
 

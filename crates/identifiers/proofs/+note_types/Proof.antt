@@ -32,135 +32,102 @@ note-types-below t =
 abbrev calls-note-types : ℕ → note-types-lts.Claims
 calls-note-types t = (wide-reads.Asked, wide-reads.Learnt, note-given-reads.Asked, note-given-reads.Learnt, note-types-below t, note-types.Post)
 
--- src/lib.rt:125:9
 note-types-returns : (t : ℕ) → note-types-lts.Need-returns (calls-note-types t) (note-types-at t) note-types.Post
 note-types-returns t c = types-end _ _ _ _ (c .if1 .taken)
 
--- src/lib.rt:127:13
 note-types-shared-slice-read-b : (t : ℕ) → note-types-lts.Need-shared-slice-read-b (calls-note-types t) (note-types-at t) note-types.Post
 note-types-shared-slice-read-b t c = omega (arith, some-room _ _ _ (c .before .before .before .before .pre .1 .1))
 
--- src/lib.rt:130:41
 note-types-add-wide : (t : ℕ) → note-types-lts.Need-add-wide (calls-note-types t) (note-types-at t) note-types.Post
 note-types-add-wide t c = omega (arith, some-room _ _ _ (c .before .before .before .before .before .pre .1 .1))
 
--- src/lib.rt:130:39
 note-types-shared-slice-read-wide : (t : ℕ) → note-types-lts.Need-shared-slice-read-wide (calls-note-types t) (note-types-at t) note-types.Post
 note-types-shared-slice-read-wide t c = omega (arith, some-given _ _ _ (c .before .before .before .if1 .left) (c .before .match .keys1) (c .before .before .before .before .before .before .pre .1 .1) .0)
 
--- src/lib.rt:130:21
 note-types-wide-requires : (t : ℕ) → note-types-lts.Need-wide-requires (calls-note-types t) (note-types-at t) note-types.Post
 note-types-wide-requires t c κs = tt
 
--- src/lib.rt:130:21
 note-types-mul-n : (t : ℕ) → note-types-lts.Need-mul-n (calls-note-types t) (note-types-at t) note-types.Post
 note-types-mul-n t c = omega arith
 
--- src/lib.rt:130:78
 note-types-add-wide-2 : (t : ℕ) → note-types-lts.Need-add-wide-2 (calls-note-types t) (note-types-at t) note-types.Post
 note-types-add-wide-2 t c = omega (arith, some-room _ _ _ (c .before .before .before .before .before .before .before .pre .1 .1))
 
--- src/lib.rt:130:76
 note-types-shared-slice-read-wide-2 : (t : ℕ) → note-types-lts.Need-shared-slice-read-wide-2 (calls-note-types t) (note-types-at t) note-types.Post
 note-types-shared-slice-read-wide-2 t c = omega (arith, some-given _ _ _ (c .before .before .before .before .before .if1 .left) (c .before .before .before .match .keys1) (c .before .before .before .before .before .before .before .before .pre .1 .1) .0)
 
--- src/lib.rt:130:58
 note-types-wide-requires-2 : (t : ℕ) → note-types-lts.Need-wide-requires-2 (calls-note-types t) (note-types-at t) note-types.Post
 note-types-wide-requires-2 t c κs = tt
 
--- src/lib.rt:130:21
 note-types-add-n : (t : ℕ) → note-types-lts.Need-add-n (calls-note-types t) (note-types-at t) note-types.Post
 note-types-add-n t c = omega arith
 
--- src/lib.rt:132:17
 note-types-returns-2 : (t : ℕ) → note-types-lts.Need-returns-2 (calls-note-types t) (note-types-at t) note-types.Post
 note-types-returns-2 t c = types-beyond _ _ _ _ (omega arith)
 
--- src/lib.rt:134:17
 note-types-note-given-requires : (t : ℕ) → note-types-lts.Need-note-given-requires (calls-note-types t) (note-types-at t) note-types.Post
 note-types-note-given-requires t c κs = (omega arith, omega arith, c .before .before .before .before .before .before .before .before .before .before .before .pre .1 .0)
 
--- src/lib.rt:136:17
 note-types-same-length : (t : ℕ) → note-types-lts.Need-same-length (calls-note-types t) (note-types-at t) note-types.Post
 note-types-same-length t c = search needs
 
--- src/lib.rt:136:17
 note-types-returns-3 : (t : ℕ) → note-types-lts.Need-returns-3 (calls-note-types t) (note-types-at t) note-types.Post
 note-types-returns-3 t c = types-clash _ _ _ (c .before .before .before .before .before .before .before .before .before .before .before .before .if1 .left) _ (c .before .before .before .before .before .before .before .before .before .before .match .keys1) _ _ _ (c .before .before .before .note-given .ensures) (not-true _ (c .if3 .taken)) (ap₂ (λ (a b : ℕ). a * 256 + b) (c .before .before .before .before .before .before .before .before .wide .ensures .0) (c .before .before .before .before .before .before .wide2 .ensures .0))
 
--- src/lib.rt:138:27
 note-types-add-note-types : (t : ℕ) → note-types-lts.Need-add-note-types (calls-note-types t) (note-types-at t) note-types.Post
 note-types-add-note-types t c = omega (arith, some-given _ _ _ (c .before .before .before .before .before .before .before .before .before .before .before .before .if1 .left) (c .before .before .before .before .before .before .before .before .before .before .match .keys1) (c .before .before .before .before .before .before .before .before .before .before .before .before .before .before .before .pre .1 .1) .0)
 
--- src/lib.rt:138:35
 note-types-sub-note-types : (t : ℕ) → note-types-lts.Need-sub-note-types (calls-note-types t) (note-types-at t) note-types.Post
 note-types-sub-note-types t c = omega arith
 
--- src/lib.rt:138:13
 note-types-note-types-requires : (t : ℕ) → note-types-lts.Need-note-types-requires (calls-note-types t) (note-types-at t) note-types.Post
 note-types-note-types-requires t c κs = let h = c .before .before .before .before .before .before .before .before .before .before .before .before .before .before .before .before .pre .1 .0 in (omega (arith, some-room _ _ _ (c .before .before .before .before .before .before .before .before .before .before .before .before .before .before .before .before .pre .1 .1)), (held-then _ _ _ _ h (noted-true _ _ _ _ _ (c .before .before .before .before .note-given .ensures) (not-false _ (c .before .if3 .left))), some-given _ _ _ (c .before .before .before .before .before .before .before .before .before .before .before .before .before .if1 .left) (c .before .before .before .before .before .before .before .before .before .before .before .match .keys1) (c .before .before .before .before .before .before .before .before .before .before .before .before .before .before .before .before .pre .1 .1) .1))
 
--- src/lib.rt:140:28
 note-types-add-note-types-2 : (t : ℕ) → note-types-lts.Need-add-note-types-2 (calls-note-types t) (note-types-at t) note-types.Post
 note-types-add-note-types-2 t c = omega (arith, some-room _ _ _ (c .before .before .before .before .before .pre .1 .1))
 
--- src/lib.rt:140:14
 note-types-note-types-requires-2 : (t : ℕ) → note-types-lts.Need-note-types-requires-2 (calls-note-types t) (note-types-at t) note-types.Post
 note-types-note-types-requires-2 t c κs = (omega (arith, some-room _ _ _ (c .before .before .before .before .before .before .pre .1 .1)), (c .before .before .before .before .before .before .pre .1 .0, some-pow _ _ _ (c .before .before .before .if1 .left) (c .before .match .keys2) (c .before .before .before .before .before .before .pre .1 .1)))
 
--- src/lib.rt:141:28
 note-types-add-note-types-3 : (t : ℕ) → note-types-lts.Need-add-note-types-3 (calls-note-types t) (note-types-at t) note-types.Post
 note-types-add-note-types-3 t c = omega (arith, some-room _ _ _ (c .before .before .before .before .before .pre .1 .1))
 
--- src/lib.rt:141:36
 note-types-add-note-types-4 : (t : ℕ) → note-types-lts.Need-add-note-types-4 (calls-note-types t) (note-types-at t) note-types.Post
 note-types-add-note-types-4 t c = omega (arith, some-room _ _ _ (c .before .before .before .before .before .pre .1 .1))
 
--- src/lib.rt:141:14
 note-types-note-types-requires-3 : (t : ℕ) → note-types-lts.Need-note-types-requires-3 (calls-note-types t) (note-types-at t) note-types.Post
 note-types-note-types-requires-3 t c κs = (omega (arith, some-room _ _ _ (c .before .before .before .before .before .before .pre .1 .1)), (c .before .before .before .before .before .before .pre .1 .0, some-prod _ _ _ (c .before .before .before .if1 .left) (c .before .match .keys3) (c .before .before .before .before .before .before .pre .1 .1)))
 
--- src/lib.rt:142:28
 note-types-add-note-types-5 : (t : ℕ) → note-types-lts.Need-add-note-types-5 (calls-note-types t) (note-types-at t) note-types.Post
 note-types-add-note-types-5 t c = omega (arith, some-room _ _ _ (c .before .before .before .before .before .pre .1 .1))
 
--- src/lib.rt:142:36
 note-types-sub-note-types-2 : (t : ℕ) → note-types-lts.Need-sub-note-types-2 (calls-note-types t) (note-types-at t) note-types.Post
 note-types-sub-note-types-2 t c = omega arith
 
--- src/lib.rt:142:14
 note-types-note-types-requires-4 : (t : ℕ) → note-types-lts.Need-note-types-requires-4 (calls-note-types t) (note-types-at t) note-types.Post
 note-types-note-types-requires-4 t c κs = (omega (arith, some-room _ _ _ (c .before .before .before .before .before .before .pre .1 .1)), (c .before .before .before .before .before .before .pre .1 .0, some-leaf _ _ _ (c .before .before .before .if1 .left) (c .before .match .rest .0 .0 .1) (c .before .match .rest .0 .1) (c .before .match .rest .1) (c .before .before .before .before .before .before .pre .1 .1)))
 
--- src/lib.rt:120:1
 note-types-same-length-2 : (t : ℕ) → note-types-lts.Need-same-length-2 (calls-note-types t) (note-types-at t) note-types.Post
 note-types-same-length-2 t c = search needs
 
--- src/lib.rt:120:1
 note-types-returns-4 : (t : ℕ) → note-types-lts.Need-returns-4 (calls-note-types t) (note-types-at t) note-types.Post
 note-types-returns-4 t c = types-given _ _ _ (c .before .before .before .before .before .before .before .before .before .before .before .before .before .before .before .before .if1 .left) _ _ _ (c .before .before .before .before .before .before .before .before .before .before .before .before .before .before .match .keys1) _ _ _ (c .before .before .before .before .before .before .before .note-given .ensures) (not-false _ (c .before .before .before .before .if3 .left)) (ap₂ (λ (a b : ℕ). a * 256 + b) (c .before .before .before .before .before .before .before .before .before .before .before .before .wide .ensures .0) (c .before .before .before .before .before .before .before .before .before .before .wide2 .ensures .0)) (c .before .before .note-types .ensures)
 
--- src/lib.rt:120:1
 note-types-same-length-3 : (t : ℕ) → note-types-lts.Need-same-length-3 (calls-note-types t) (note-types-at t) note-types.Post
 note-types-same-length-3 t c = search needs
 
--- src/lib.rt:120:1
 note-types-returns-5 : (t : ℕ) → note-types-lts.Need-returns-5 (calls-note-types t) (note-types-at t) note-types.Post
 note-types-returns-5 t c = types-pow _ _ _ (c .before .before .before .before .before .before .if1 .left) _ _ _ (c .before .before .before .before .match .keys2) (c .before .before .note-types2 .ensures)
 
--- src/lib.rt:120:1
 note-types-same-length-4 : (t : ℕ) → note-types-lts.Need-same-length-4 (calls-note-types t) (note-types-at t) note-types.Post
 note-types-same-length-4 t c = search needs
 
--- src/lib.rt:120:1
 note-types-returns-6 : (t : ℕ) → note-types-lts.Need-returns-6 (calls-note-types t) (note-types-at t) note-types.Post
 note-types-returns-6 t c = types-prod _ _ _ (c .before .before .before .before .before .before .if1 .left) _ _ _ (c .before .before .before .before .match .keys3) (c .before .before .note-types3 .ensures)
 
--- src/lib.rt:120:1
 note-types-same-length-5 : (t : ℕ) → note-types-lts.Need-same-length-5 (calls-note-types t) (note-types-at t) note-types.Post
 note-types-same-length-5 t c = search needs
 
--- src/lib.rt:120:1
 note-types-returns-7 : (t : ℕ) → note-types-lts.Need-returns-7 (calls-note-types t) (note-types-at t) note-types.Post
 note-types-returns-7 t c = types-leaf _ _ _ (c .before .before .before .before .before .before .if1 .left) _ _ _ (c .before .before .before .before .match .rest .0 .0 .1) (c .before .before .before .before .match .rest .0 .1) (c .before .before .before .before .match .rest .1) (c .before .before .note-types4 .ensures)
 

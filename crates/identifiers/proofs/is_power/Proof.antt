@@ -7,67 +7,51 @@ use borrow.Author.Needs.{needs}
 use Rattle.identifiers.proofs.is_power.Statement.{statement}
 use Rattle.identifiers.proofs.is_power.Tie as tie
 
--- src/lib.rt:59:18
 add-if1 : tie.Need-add-if1
 add-if1 c = search needs
 
--- src/lib.rt:60:9
 returns : tie.Need-returns
 returns c = power-not _ _ _ (c .before .before .pre .2) (λ b. let r = b .room in omega arith)
 
--- src/lib.rt:62:8
 shared-slice-read-if2 : tie.Need-shared-slice-read-if2
 shared-slice-read-if2 c = search needs
 
--- src/lib.rt:63:9
 returns-2 : tie.Need-returns-2
 returns-2 c = power-not _ _ _ (c .before .before .before .before .pre .2) (λ b. c .if2 .taken (b .pow-byte))
 
--- src/lib.rt:65:10
 add-if3 : tie.Need-add-if3
 add-if3 c = search needs
 
--- src/lib.rt:65:8
 shared-slice-read-if3 : tie.Need-shared-slice-read-if3
 shared-slice-read-if3 c = search needs
 
--- src/lib.rt:66:9
 returns-3 : tie.Need-returns-3
 returns-3 c = power-not _ _ _ (c .before .before .before .before .before .before .pre .2) (λ b. c .if3 .taken (b .given-byte))
 
--- src/lib.rt:68:25
 add-wide : tie.Need-add-wide
 add-wide c = search needs
 
--- src/lib.rt:68:23
 shared-slice-read-wide : tie.Need-shared-slice-read-wide
 shared-slice-read-wide c = search needs
 
--- src/lib.rt:68:5
 wide-requires : tie.Need-wide-requires
 wide-requires c κs = search needs
 
--- src/lib.rt:68:5
 mul-result : tie.Need-mul-result
 mul-result c = search needs
 
--- src/lib.rt:68:61
 add-wide-2 : tie.Need-add-wide-2
 add-wide-2 c = search needs
 
--- src/lib.rt:68:59
 shared-slice-read-wide-2 : tie.Need-shared-slice-read-wide-2
 shared-slice-read-wide-2 c = search needs
 
--- src/lib.rt:68:41
 wide-requires-2 : tie.Need-wide-requires-2
 wide-requires-2 c κs = search needs
 
--- src/lib.rt:68:5
 add-result : tie.Need-add-result
 add-result c = search needs
 
--- src/lib.rt:55:1
 returns-4 : tie.Need-returns-4
 returns-4 c = power-is _ _ _ (c .before .before .before .before .before .before .before .before .before .before .pre .2) (λ i. c .before .before .before .before .before .before .before .before .before .shared-slice-known .given i .fits) _ (omega arith) (c .before .before .before .before .before .before .if2 .left) (c .before .before .before .before .if3 .left) (ap₂ (λ (a b : ℕ). eqb (a * 256 + b) (c .before .before .before .before .before .before .before .before .before .before .args .n)) (c .before .before .wide .ensures .0) (c .wide2 .ensures .0))
 

@@ -6,35 +6,27 @@ use borrow.Author.Needs.{needs}
 use Rattle.identifiers.proofs.names_in_full.Statement.{statement}
 use Rattle.identifiers.proofs.names_in_full.Tie as tie
 
--- src/lib.rt:186:30
 slice-aggregate-note-nodes : tie.Need-slice-aggregate-note-nodes
 slice-aggregate-note-nodes c = search needs
 
--- src/lib.rt:186:9
 note-nodes-requires : tie.Need-note-nodes-requires
 note-nodes-requires c κs = (record { fits = c .before .before .pre .0; done = _; told = told-none _ 65536 }, (_, _, frame-rest _ (λ i. c .before .shared-slice-known .given i .fits) (c .before .before .pre .1 .0) (c .before .before .pre .1 .1)))
 
--- src/lib.rt:188:25
 enum-told : tie.Need-enum-told
 enum-told c = search needs
 
--- src/lib.rt:189:26
 enum-told-2 : tie.Need-enum-told-2
 enum-told-2 c = search needs
 
--- src/lib.rt
 enum-told-3 : tie.Need-enum-told-3
 enum-told-3 c = search needs
 
--- src/lib.rt:181:1
 returns : tie.Need-returns
 returns c = λ t a. names-agree _ (λ i. c .before .before .before .before .before .shared-slice-known .given i .fits) 65536 _ _ (c .before .before .before .note-nodes .ensures) t a (c .enum-told .given .1)
 
--- src/lib.rt:181:1
 returns-2 : tie.Need-returns-2
 returns-2 c = λ t a. names-differ _ (λ i. c .before .before .before .before .before .shared-slice-known .given i .fits) 65536 _ _ (c .before .before .before .note-nodes .ensures) t a (c .enum-told2 .given .1)
 
--- src/lib.rt:181:1
 returns-3 : tie.Need-returns-3
 returns-3 c = λ t a. absurd (names-decided _ (λ i. c .before .before .before .before .before .shared-slice-known .given i .fits) 65536 _ _ (c .before .before .before .note-nodes .ensures) t a (omega arith) (c .enum-told3 .given .1))
 

@@ -5,39 +5,30 @@ use borrow.Author.Needs.{needs}
 use Rattle.identifiers.proofs.names_ok.Statement.{statement}
 use Rattle.identifiers.proofs.names_ok.Tie as tie
 
--- src/lib.rt
 slice-aggregate-note-nodes : tie.Need-slice-aggregate-note-nodes
 slice-aggregate-note-nodes c = search needs
 
--- src/lib.rt
 note-nodes-requires : tie.Need-note-nodes-requires
 note-nodes-requires c κs = (record { fits = c .before .before .pre .0; done = _; told = told-none _ 256 }, (_, _, frame-rest _ (λ i. c .before .shared-slice-known .given i .fits) (c .before .before .pre .1 .0) (c .before .before .pre .1 .1)))
 
--- src/lib.rt
 enum-told : tie.Need-enum-told
 enum-told c = search needs
 
--- src/lib.rt
 enum-told-2 : tie.Need-enum-told-2
 enum-told-2 c = search needs
 
--- src/lib.rt
 enum-told-3 : tie.Need-enum-told-3
 enum-told-3 c = search needs
 
--- src/lib.rt
 names-in-full-requires : tie.Need-names-in-full-requires
 names-in-full-requires c κs = search needs
 
--- src/lib.rt
 returns : tie.Need-returns
 returns c = λ t a. names-agree _ (λ i. c .before .before .before .before .before .shared-slice-known .given i .fits) 256 _ _ (c .before .before .before .note-nodes .ensures) t a (c .enum-told .given .1)
 
--- src/lib.rt
 returns-2 : tie.Need-returns-2
 returns-2 c = λ t a. names-differ _ (λ i. c .before .before .before .before .before .shared-slice-known .given i .fits) 256 _ _ (c .before .before .before .note-nodes .ensures) t a (c .enum-told2 .given .1)
 
--- src/lib.rt
 returns-3 : tie.Need-returns-3
 returns-3 c = c .names-in-full .ensures
 

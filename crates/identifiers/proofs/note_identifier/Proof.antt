@@ -4,59 +4,45 @@ use borrow.Author.Needs.{needs}
 use Rattle.identifiers.proofs.note_identifier.Statement.{statement}
 use Rattle.identifiers.proofs.note_identifier.Tie as tie
 
--- src/lib.rt:92:17
 mul-entry : tie.Need-mul-entry
 mul-entry c = search needs
 
--- src/lib.rt:92:17
 slice-read-entry : tie.Need-slice-read-entry
 slice-read-entry c = search needs
 
--- src/lib.rt:94:21
 add-table : tie.Need-add-table
 add-table c = let l = type-room _ _ _ (c .before .before .before .before .pre .2 .fits) (c .before .before .before .before .pre .3) in omega arith
 
--- src/lib.rt:94:20
 cast-table : tie.Need-cast-table
 cast-table c = let l = type-room _ _ _ (c .before .before .before .before .pre .2 .fits) (c .before .before .before .before .pre .3) in omega arith
 
--- src/lib.rt:94:9
 mul-table : tie.Need-mul-table
 mul-table c = search needs
 
--- src/lib.rt:94:9
 slice-write-table : tie.Need-slice-write-table
 slice-write-table c = search needs
 
--- src/lib.rt:95:9
 same-length : tie.Need-same-length
 same-length c = search needs
 
--- src/lib.rt:95:9
 returns : tie.Need-returns
 returns c = let l = type-room _ _ _ (c .before .before .before .before .pre .2 .fits) (c .before .before .before .before .pre .3) in name-new _ _ _ _ _ (c .before .before .before .before .pre .1) (l .2) (c .if1 .taken)
 
--- src/lib.rt:98:9
 is-power-requires : tie.Need-is-power-requires
 is-power-requires c κs = let l = type-room _ _ _ (c .before .before .before .before .before .pre .2 .fits) (c .before .before .before .before .before .pre .3) in (omega arith, c .before .before .before .before .before .pre .2 .fits, c .before .before .before .before .before .pre .0)
 
--- src/lib.rt:98:9
 returns-2 : tie.Need-returns-2
 returns-2 c = name-mark _ _ _ _ _ (c .before .before .before .before .before .before .pre .0) (c .before .if2 .taken) _ (c .is-power .ensures)
 
--- src/lib.rt:100:24
 wide16-requires : tie.Need-wide16-requires
 wide16-requires c κs = search needs
 
--- src/lib.rt:100:24
 sub-same-type : tie.Need-sub-same-type
 sub-same-type c = search needs
 
--- src/lib.rt:100:5
 same-type-requires : tie.Need-same-type-requires
 same-type-requires c κs = let l = type-room _ _ _ (c .before .before .before .before .before .before .pre .2 .fits) (c .before .before .before .before .before .before .pre .3) in (l .0, l .1, entry-place _ _ _ (c .before .before .before .before .before .before .pre .2) (c .before .before .if1 .left) (c .before .if2 .left) _ (c .wide16 .ensures .0) .0, c .before .before .before .before .before .before .pre .2 .fits)
 
--- src/lib.rt:88:1
 returns-3 : tie.Need-returns-3
 returns-3 c = name-place _ _ _ _ _ (c .before .before .before .before .before .before .before .pre .2) (c .before .before .before .if1 .left) (c .before .before .if2 .left) _ (c .before .wide16 .ensures .0) _ (c .same-type .ensures)
 

@@ -5,23 +5,18 @@ use borrow.Author.Needs.{needs}
 use Rattle.identifiers.proofs.same_type.Statement.{statement}
 use Rattle.identifiers.proofs.same_type.Tie as tie
 
--- src/lib.rt:47:13
 sub-n : tie.Need-sub-n
 sub-n c = search needs
 
--- src/lib.rt:48:18
 add-if1 : tie.Need-add-if1
 add-if1 c = search needs
 
--- src/lib.rt:49:9
 returns : tie.Need-returns
 returns c = type-short _ _ _ _ (omega arith)
 
--- src/lib.rt:51:5
 same-bytes-requires : tie.Need-same-bytes-requires
 same-bytes-requires c κs = search needs
 
--- src/lib.rt:43:1
 returns-2 : tie.Need-returns-2
 returns-2 c = type-bytes _ _ _ _ (c .before .before .before .pre .0) (omega arith) _ (parts _ _ _ _ (omega arith) (omega arith) _ (c .same-bytes .ensures))
 

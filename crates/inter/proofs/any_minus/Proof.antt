@@ -11,43 +11,33 @@ Inv-loop s starts nexts k n c₀ i₀ c i = (i ≤ n) × Lefts s starts nexts k 
 abbrev μ-loop : tie.MeasureT-loop
 μ-loop s starts nexts k n c₀ i₀ c i = n - i
 
--- src/lib.rt:31:9
 arity-at-requires : tie.Need-arity-at-requires Inv-loop μ-loop
 arity-at-requires c κs = inter-placed _ _ _ _ (c .before .pre) .0
 
--- src/lib.rt:32:17
 add-c : tie.Need-add-c Inv-loop μ-loop
 add-c c = let z = inter-placed _ _ _ _ (c .before .before .pre) .1 in omega arith
 
--- src/lib.rt:34:5
 loop-holds : tie.Need-loop-holds Inv-loop μ-loop
 loop-holds c = (omega arith, any-first _ _ _ _)
 
--- src/lib.rt:35:12
 is-minus-requires : tie.Need-is-minus-requires Inv-loop μ-loop
 is-minus-requires c κs = inter-child _ _ _ _ _ _ (c .before .before .arity-at .ensures) _ _ (c .before .loop .inv .1) (c .loop-test .taken) (c .before .before .before .before .pre) .0
 
--- src/lib.rt:36:13
 returns : tie.Need-returns Inv-loop μ-loop
 returns c = any-found _ _ _ _ _ (c .before .before .before .before .arity-at .ensures) _ _ (c .before .before .before .loop .inv .1) (c .before .before .loop-test .taken) _ (c .before .is-minus .ensures) (c .if1 .taken)
 
--- src/lib.rt:38:9
 next-at-requires : tie.Need-next-at-requires Inv-loop μ-loop
 next-at-requires c κs = inter-child _ _ _ _ _ _ (c .before .before .before .before .arity-at .ensures) _ _ (c .before .before .before .loop .inv .1) (c .before .before .loop-test .taken) (c .before .before .before .before .before .before .pre) .1
 
--- src/lib.rt:39:9
 add-i : tie.Need-add-i Inv-loop μ-loop
 add-i c = omega arith
 
--- src/lib.rt:34:5
 loop-less : tie.Need-loop-less Inv-loop μ-loop
 loop-less c = omega arith
 
--- src/lib.rt:34:5
 loop-again : tie.Need-loop-again Inv-loop μ-loop
 loop-again c = (omega arith, any-next _ _ _ _ _ (c .before .before .before .before .before .arity-at .ensures) _ _ (c .before .before .before .before .loop .inv .1) (c .before .before .before .loop-test .taken) _ (c .before .before .is-minus .ensures) (c .before .if1 .left) _ (c .next-at .ensures .0))
 
--- src/lib.rt:27:1
 returns-2 : tie.Need-returns-2 Inv-loop μ-loop
 returns-2 c = any-none _ _ _ _ _ (c .before .before .arity-at .ensures) _ _ (c .before .loop .inv .1) (c .loop-test .left)
 

@@ -4,35 +4,27 @@ use borrow.Author.Needs.{needs}
 use Rattle.inter.proofs.decide_inter.Statement.{statement}
 use Rattle.inter.proofs.decide_inter.Tie as tie
 
--- src/lib.rt:54:9
 arity-at-requires : tie.Need-arity-at-requires
 arity-at-requires c κs = inter-placed _ _ _ _ (c .before .pre) .0
 
--- src/lib.rt:55:9
 count-singles-requires : tie.Need-count-singles-requires
 count-singles-requires c κs = search needs
 
--- src/lib.rt:56:8
 is-apart-requires : tie.Need-is-apart-requires
 is-apart-requires c κs = search needs
 
--- src/lib.rt:57:13
 first-single-requires : tie.Need-first-single-requires
 first-single-requires c κs = search needs
 
--- src/lib.rt:58:9
 returns : tie.Need-returns
 returns c = inter-apart _ _ _ _ _ _ (c .before .before .before .before .arity-at .ensures) (c .before .before .before .count-singles .ensures) (sym (c .before .before .is-apart .ensures) ∙ c .before .if1 .taken) _ (c .first-single .ensures)
 
--- src/lib.rt:60:8
 any-minus-requires : tie.Need-any-minus-requires
 any-minus-requires c κs = search needs
 
--- src/lib.rt:61:9
 returns-2 : tie.Need-returns-2
 returns-2 c = inter-within _ _ _ _ _ _ (c .before .before .before .before .before .arity-at .ensures) (c .before .before .before .before .count-singles .ensures) (sym (c .before .before .before .is-apart .ensures) ∙ c .before .before .if1 .left) _ (c .before .any-minus .ensures) (c .if2 .taken)
 
--- src/lib.rt:50:1
 returns-3 : tie.Need-returns-3
 returns-3 c = inter-rests _ _ _ _ _ _ (c .before .before .before .before .before .arity-at .ensures) (c .before .before .before .before .count-singles .ensures) (sym (c .before .before .before .is-apart .ensures) ∙ c .before .before .if1 .left) _ (c .before .any-minus .ensures) (c .if2 .left)
 

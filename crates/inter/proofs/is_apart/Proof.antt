@@ -2,15 +2,12 @@ use borrow.Author.Tests.{ne-eqb}
 use Rattle.inter.proofs.is_apart.Statement.{statement}
 use Rattle.inter.proofs.is_apart.Tie as tie
 
--- src/lib.rt:41:9
 returns : tie.Need-returns
 returns c = rw (c .if1 .taken)
 
--- src/lib.rt:44:9
 returns-2 : tie.Need-returns-2
 returns-2 c = rw (ne-eqb _ 0 (c .before .if1 .left), c .if2 .taken)
 
--- src/lib.rt:37:1
 returns-3 : tie.Need-returns-3
 returns-3 c = rw (ne-eqb _ 0 (c .before .if1 .left), ne-eqb _ 2 (c .if2 .left))
 

@@ -3,11 +3,9 @@ use borrow.Author.Needs.{needs}
 use Rattle.inter.proofs.is_minus.Statement.{statement}
 use Rattle.inter.proofs.is_minus.Tie as tie
 
--- src/lib.rt:23:5
 tag-at-requires : tie.Need-tag-at-requires
 tag-at-requires c κs = search needs
 
--- src/lib.rt:19:1
 returns : tie.Need-returns
 returns c = minus-tag _ _ _ _ (c .tag-at .ensures)
 

@@ -20,102 +20,78 @@ Inv-all s starts nexts k neutral determinant kept₀ n c₀ i₀ m₀ kept c i m
 abbrev μ-all : tie.MeasureT-all
 μ-all s starts nexts k neutral determinant kept₀ n c₀ i₀ m₀ kept c i m = n - i
 
--- src/lib.rt:57:9
 arity-at-requires : tie.Need-arity-at-requires Inv-loop μ-loop Inv-all μ-all
 arity-at-requires c κs = pre-placed _ _ _ _ _ (c .before .pre) .0
 
--- src/lib.rt:58:17
 add-c : tie.Need-add-c Inv-loop μ-loop Inv-all μ-all
 add-c c = let z = pre-placed _ _ _ _ _ (c .before .before .pre) .1 in omega arith
 
--- src/lib.rt:61:5
 all-holds : tie.Need-all-holds Inv-loop μ-loop Inv-all μ-all
 all-holds c = (omega arith, c .before .before .pre .long, omega arith, states-first _ _ _ _ _ _ (now (c .before .before .args .kept)))
 
--- src/lib.rt:62:13
 tag-at-requires : tie.Need-tag-at-requires Inv-loop μ-loop Inv-all μ-all
 tag-at-requires c κs = turn-placed _ _ _ _ _ _ _ (c .before .before .arity-at .ensures) _ _ _ _ (c .before .all .inv .3) (c .all-test .taken) _ (c .before .before .before .before .pre) .0
 
--- src/lib.rt:67:13
 compared-from-requires : tie.Need-compared-from-requires Inv-loop μ-loop Inv-all μ-all
 compared-from-requires c κs = search needs
 
--- src/lib.rt:68:9
 loop-holds : tie.Need-loop-holds Inv-loop μ-loop Inv-all μ-all
 loop-holds c = let z = children-few _ _ _ _ _ (c .before .before .before .before .before .before .before .pre) _ (c .before .before .before .before .before .arity-at .ensures) in rw (c .compared-from .ensures) (scanned-first _ _ _ _ _ _ _ _ _ (c .before .before .tag-at .ensures) (c .before .if1 .left) (omega arith) _ refl)
 
--- src/lib.rt:69:28
 mul-wide16 : tie.Need-mul-wide16 Inv-loop μ-loop Inv-all μ-all
 mul-wide16 c = let z = children-few _ _ _ _ _ (c .before .before .before .before .before .before .before .before .before .pre) _ (c .before .before .before .before .before .before .before .arity-at .ensures) in omega arith
 
--- src/lib.rt:69:28
 element-copy-out-wide16 : tie.Need-element-copy-out-wide16 Inv-loop μ-loop Inv-all μ-all
 element-copy-out-wide16 c = let z = children-few _ _ _ _ _ (c .before .before .before .before .before .before .before .before .before .pre) _ (c .before .before .before .before .before .before .before .arity-at .ensures) in omega arith
 
--- src/lib.rt:69:17
 wide16-requires : tie.Need-wide16-requires Inv-loop μ-loop Inv-all μ-all
 wide16-requires c κs = search needs
 
--- src/lib.rt:70:16
 opposite-requires : tie.Need-opposite-requires Inv-loop μ-loop Inv-all μ-all
 opposite-requires c κs = let z = children-few _ _ _ _ _ (c .before .before .before .before .before .before .before .before .before .before .before .pre) _ (c .before .before .before .before .before .before .before .before .before .arity-at .ensures) in turn-both _ _ _ _ _ _ _ (c .before .before .before .before .before .before .before .before .before .arity-at .ensures) _ _ _ _ (c .before .before .before .before .before .before .before .before .all .inv .3) (c .before .before .before .before .before .before .before .all-test .taken) _ (c .before .before .before .before .before .before .before .before .before .before .before .pre) (c .before .before .before .loop .fresh) (c .before .before .before .loop .j) (c .before .before .before .loop .inv) (c .before .before .loop-test .taken) (omega arith) _ (c .wide16 .ensures .0)
 
--- src/lib.rt:73:17
 same-at-requires : tie.Need-same-at-requires Inv-loop μ-loop Inv-all μ-all
 same-at-requires c κs = let z = children-few _ _ _ _ _ (c .before .before .before .before .before .before .before .before .before .before .before .before .before .pre) _ (c .before .before .before .before .before .before .before .before .before .before .before .arity-at .ensures) in turn-both _ _ _ _ _ _ _ (c .before .before .before .before .before .before .before .before .before .before .before .arity-at .ensures) _ _ _ _ (c .before .before .before .before .before .before .before .before .before .before .all .inv .3) (c .before .before .before .before .before .before .before .before .before .all-test .taken) _ (c .before .before .before .before .before .before .before .before .before .before .before .before .before .pre) (c .before .before .before .before .before .loop .fresh) (c .before .before .before .before .before .loop .j) (c .before .before .before .before .before .loop .inv) (c .before .before .before .before .loop-test .taken) (omega arith) _ (c .before .before .wide16 .ensures .0)
 
--- src/lib.rt:74:13
 still-requires : tie.Need-still-requires Inv-loop μ-loop Inv-all μ-all
 still-requires c κs = search needs
 
--- src/lib.rt:75:13
 add-j : tie.Need-add-j Inv-loop μ-loop Inv-all μ-all
 add-j c = omega arith
 
--- src/lib.rt:68:9
 loop-less : tie.Need-loop-less Inv-loop μ-loop Inv-all μ-all
 loop-less c = omega arith
 
--- src/lib.rt:68:9
 loop-again : tie.Need-loop-again Inv-loop μ-loop Inv-all μ-all
 loop-again c = let z = children-few _ _ _ _ _ (c .before .before .before .before .before .before .before .before .before .before .before .before .before .before .before .pre) _ (c .before .before .before .before .before .before .before .before .before .before .before .before .before .arity-at .ensures) in scanned-next _ _ _ _ _ _ _ _ _ _ (c .before .before .before .before .before .before .before .loop .inv) (c .before .before .before .before .before .before .loop-test .taken) (omega arith) _ (c .before .before .before .before .wide16 .ensures .0) _ (c .before .before .before .opposite .ensures) (c .before .before .if2 .left) _ (c .before .same-at .ensures) _ (c .still .ensures)
 
--- src/lib.rt:78:23
 cast-kept : tie.Need-cast-kept Inv-loop μ-loop Inv-all μ-all
 cast-kept c = let z = turn-placed _ _ _ _ _ _ _ (c .before .before .before .before .before .before .before .before .arity-at .ensures) _ _ _ _ (c .before .before .before .before .before .before .before .all .inv .3) (c .before .before .before .before .before .before .all-test .taken) _ (c .before .before .before .before .before .before .before .before .before .before .pre) .1 in omega arith
 
--- src/lib.rt:78:13
 mul-kept : tie.Need-mul-kept Inv-loop μ-loop Inv-all μ-all
 mul-kept c = let z = children-few _ _ _ _ _ (c .before .before .before .before .before .before .before .before .before .before .pre) _ (c .before .before .before .before .before .before .before .before .arity-at .ensures) in omega arith
 
--- src/lib.rt:78:13
 element-write-kept : tie.Need-element-write-kept Inv-loop μ-loop Inv-all μ-all
 element-write-kept c = let z = children-few _ _ _ _ _ (c .before .before .before .before .before .before .before .before .before .before .pre) _ (c .before .before .before .before .before .before .before .before .arity-at .ensures) in omega arith
 
--- src/lib.rt:79:13
 add-m : tie.Need-add-m Inv-loop μ-loop Inv-all μ-all
 add-m c = let z = children-few _ _ _ _ _ (c .before .before .before .before .before .before .before .before .before .before .pre) _ (c .before .before .before .before .before .before .before .before .arity-at .ensures) in omega arith
 
--- src/lib.rt:81:9
 next-at-requires : tie.Need-next-at-requires Inv-loop μ-loop Inv-all μ-all
 next-at-requires c κs = turn-placed _ _ _ _ _ _ _ (c .before .before .before .before .before .before .before .before .arity-at .ensures) _ _ _ _ (c .before .before .before .before .before .before .before .all .inv .3) (c .before .before .before .before .before .before .all-test .taken) _ (c .before .before .before .before .before .before .before .before .before .before .pre) .1
 
--- src/lib.rt:82:9
 add-i : tie.Need-add-i Inv-loop μ-loop Inv-all μ-all
 add-i c = omega arith
 
--- src/lib.rt:61:5
 all-less : tie.Need-all-less Inv-loop μ-loop Inv-all μ-all
 all-less c = omega arith
 
--- src/lib.rt:61:5
 all-again : tie.Need-all-again Inv-loop μ-loop Inv-all μ-all
 all-again c = let z = children-few _ _ _ _ _ (c .before .before .before .before .before .before .before .before .before .before .before .pre) _ (c .before .before .before .before .before .before .before .before .before .arity-at .ensures) in ⊎-elim
     (λ w. again-keep _ _ _ _ _ _ _ (c .before .before .before .before .before .before .before .before .before .arity-at .ensures) z _ _ _ _ (c .before .before .before .before .before .before .before .before .all .inv) (c .before .before .before .before .before .before .before .all-test .taken) _ (c .next-at .ensures .0) (says-keeps _ _ _ _ _ _ _ _ _ _ (c .before .before .before .loop .inv) (c .before .before .loop-test .left) (w .0 .taken)) _ _ (w .1) (w .2))
     (λ w. again-drop _ _ _ _ _ _ _ (c .before .before .before .before .before .before .before .before .before .arity-at .ensures) z _ _ _ _ (c .before .before .before .before .before .before .before .before .all .inv) (c .before .before .before .before .before .before .before .all-test .taken) _ (c .next-at .ensures .0) (says-drops _ _ _ _ _ _ _ _ _ _ (c .before .before .before .loop .inv) (c .before .before .loop-test .left) (w .0 .left)) _ _ (w .1) (w .2))
     (c .before .if3 .came)
 
--- src/lib.rt:85:9
 returns : tie.Need-returns Inv-loop μ-loop Inv-all μ-all
 returns c = let z = children-few _ _ _ _ _ (c .before .before .before .before .before .pre) _ (c .before .before .before .arity-at .ensures) in ⊎-elim
     (λ w. absurd (omega arith))
@@ -125,7 +101,6 @@ returns c = let z = children-few _ _ _ _ _ (c .before .before .before .before .b
     v)
     (c .before .all-test .came)
 
--- src/lib.rt:53:1
 returns-2 : tie.Need-returns-2 Inv-loop μ-loop Inv-all μ-all
 returns-2 c = turn-end _ _ _ _ _ _ _ (c .before .before .before .arity-at .ensures) _ _ _ _ (c .before .before .all .inv .3) (c .if4 .left) (c .before .before .all .inv .1)
 

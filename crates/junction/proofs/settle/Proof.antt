@@ -4,43 +4,33 @@ use borrow.Author.Needs.{needs}
 use Rattle.junction.proofs.settle.Statement.{statement}
 use Rattle.junction.proofs.settle.Tie as tie
 
--- src/lib.rt:117:29
 enum-told : tie.Need-enum-told
 enum-told c = search needs
 
--- src/lib.rt:117:29
 patterned-requires : tie.Need-patterned-requires
 patterned-requires c κs = search needs
 
--- src/lib.rt:118:23
 enum-known-x : tie.Need-enum-known-x
 enum-known-x c = search needs
 
--- src/lib.rt
 patterned-requires-2 : tie.Need-patterned-requires-2
 patterned-requires-2 c κs = search needs
 
--- src/lib.rt
 returns : tie.Need-returns
 returns c = c .patterned2 .ensures ∙ settled-none _ _ (c .before .before .before .x .given .1) _ _ _ _ _ (c .before .if1 .taken)
 
--- src/lib.rt
 patterned-requires-3 : tie.Need-patterned-requires-3
 patterned-requires-3 c κs = search needs
 
--- src/lib.rt
 returns-2 : tie.Need-returns-2
 returns-2 c = c .patterned3 .ensures ∙ settled-one _ _ (c .before .before .before .before .x .given .1) _ _ _ _ _ (c .before .if2 .taken)
 
--- src/lib.rt
 returns-3 : tie.Need-returns-3
 returns-3 c = settled-all _ _ (c .before .before .before .before .x .given .1) _ _ _ _ _ (c .before .before .if1 .left) (c .before .if2 .left) (c .if3 .taken)
 
--- src/lib.rt:113:1
 returns-4 : tie.Need-returns-4
 returns-4 c = c .patterned .ensures ∙ settled-decided _ (c .before .enum-told .given .1) _ _ _ _ _
 
--- src/lib.rt:113:1
 returns-5 : tie.Need-returns-5
 returns-5 c = settled-fewer _ _ (c .before .before .before .before .x .given .1) _ _ _ _ _ (c .before .before .if1 .left) (c .before .if2 .left) (c .if3 .left)
 

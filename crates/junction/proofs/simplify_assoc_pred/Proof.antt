@@ -4,51 +4,39 @@ use borrow.Author.Needs.{needs}
 use Rattle.junction.proofs.simplify_assoc_pred.Statement.{statement}
 use Rattle.junction.proofs.simplify_assoc_pred.Tie as tie
 
--- src/lib.rt
 arity-at-requires : tie.Need-arity-at-requires
 arity-at-requires c κs = pre-placed _ _ _ _ _ (c .before .pre) .0
 
--- src/lib.rt
 tag-at-requires : tie.Need-tag-at-requires
 tag-at-requires c κs = pre-placed _ _ _ _ _ (c .before .before .pre) .0
 
--- src/lib.rt
 absorb-requires : tie.Need-absorb-requires
 absorb-requires c κs = search needs
 
--- src/lib.rt
 element-copy-out-wide16 : tie.Need-element-copy-out-wide16
 element-copy-out-wide16 c = search needs
 
--- src/lib.rt
 wide16-requires : tie.Need-wide16-requires
 wide16-requires c κs = search needs
 
--- src/lib.rt
 settle-requires : tie.Need-settle-requires
 settle-requires c κs = search needs
 
--- src/lib.rt
 returns : tie.Need-returns
 returns c = conj-done _ _ _ _ _ (c .before .before .before .before .before .before .before .arity-at .ensures) _ (c .before .before .before .before .before .before .tag-at .ensures) _ _ _ (c .before .wide16 .ensures .0) _ (c .before .before .before .before .before .if1 .taken) (c .before .before .before .absorb .ensures) (c .settle .ensures)
 
--- src/lib.rt
 absorb-requires-2 : tie.Need-absorb-requires-2
 absorb-requires-2 c κs = search needs
 
--- src/lib.rt
 element-copy-out-wide16-2 : tie.Need-element-copy-out-wide16-2
 element-copy-out-wide16-2 c = search needs
 
--- src/lib.rt
 wide16-requires-2 : tie.Need-wide16-requires-2
 wide16-requires-2 c κs = search needs
 
--- src/lib.rt
 settle-requires-2 : tie.Need-settle-requires-2
 settle-requires-2 c κs = search needs
 
--- src/lib.rt
 returns-2 : tie.Need-returns-2
 returns-2 c = disj-done _ _ _ _ _ (c .before .before .before .before .before .before .before .arity-at .ensures) _ (c .before .before .before .before .before .before .tag-at .ensures) _ _ _ (c .before .wide162 .ensures .0) _ (c .before .before .before .before .before .if1 .left) (c .before .before .before .absorb2 .ensures) (c .settle2 .ensures)
 

@@ -3,23 +3,18 @@ use borrow.Author.Needs.{needs}
 use Rattle.logic.proofs.make_neg.Statement.{statement}
 use Rattle.logic.proofs.make_neg.Tie as tie
 
--- src/lib.rt:21:37
 add-patterned : tie.Need-add-patterned
 add-patterned c = search needs
 
--- src/lib.rt:21:9
 patterned-requires : tie.Need-patterned-requires
 patterned-requires c κs = search needs
 
--- src/lib.rt:21:9
 returns : tie.Need-returns
 returns c = rw (eq-eqb _ 701 (c .before .if1 .taken)) (c .patterned .ensures)
 
--- src/lib.rt:23:5
 fixed-requires : tie.Need-fixed-requires
 fixed-requires c κs = search needs
 
--- src/lib.rt:16:1
 returns-2 : tie.Need-returns-2
 returns-2 c = rw (ne-eqb _ 701 (c .before .if1 .left)) (c .fixed .ensures)
 

@@ -5,39 +5,30 @@ use borrow.Author.Needs.{needs}
 use Rattle.logic.proofs.negation_at.Statement.{statement}
 use Rattle.logic.proofs.negation_at.Tie as tie
 
--- src/lib.rt
 tag-at-requires : tie.Need-tag-at-requires
 tag-at-requires c κs = here-placed (c .before .pre)
 
--- src/lib.rt
 add-nested : tie.Need-add-nested
 add-nested c = let z = here-few (c .before .before .pre) in omega arith
 
--- src/lib.rt
 fixed-requires : tie.Need-fixed-requires
 fixed-requires c κs = search needs
 
--- src/lib.rt
 fixed-requires-2 : tie.Need-fixed-requires-2
 fixed-requires-2 c κs = search needs
 
--- src/lib.rt
 fixed-requires-3 : tie.Need-fixed-requires-3
 fixed-requires-3 c κs = search needs
 
--- src/lib.rt
 returns : tie.Need-returns
 returns c = out-82 _ _ _ _ _ (c .before .before .tag-at .ensures) (c .before .match .keys1) _ (c .fixed .ensures)
 
--- src/lib.rt
 returns-2 : tie.Need-returns-2
 returns-2 c = out-83 _ _ _ _ _ (c .before .before .tag-at .ensures) (c .before .match .keys2) _ (c .fixed2 .ensures)
 
--- src/lib.rt
 returns-3 : tie.Need-returns-3
 returns-3 c = out-84 _ _ _ _ _ (c .before .before .tag-at .ensures) (c .before .match .keys3) _ (c .fixed3 .ensures)
 
--- src/lib.rt
 returns-4 : tie.Need-returns-4
 returns-4 c = not-none _ _ _ _ _ (c .before .tag-at .ensures) (c .match .rest .0 .0 .1) (c .match .rest .0 .1) (c .match .rest .1)
 

@@ -5,19 +5,15 @@ use borrow.Author.Needs.{needs}
 use Rattle.lustrejasper.proofs.lustrejasper_run.Statement.{statement}
 use Rattle.lustrejasper.proofs.lustrejasper_run.Tie as tie
 
--- src/lib.rt:79:9
 run-requires : tie.Need-run-requires
 run-requires c κs = search needs
 
--- src/lib.rt:80:5
 run-word-requires : tie.Need-run-word-requires
 run-word-requires c κs = run-short _ (λ i. c .before .before .before .before .before .shared-slice-known .given i .fits) _ _ _ (c .before .before .run .ensures .0)
 
--- src/lib.rt:75:1
 same-length : tie.Need-same-length
 same-length c = search needs
 
--- src/lib.rt:75:1
 returns : tie.Need-returns
 returns c = (c .run-word .ensures ∙ ap runWord (c .before .before .before .run .ensures .0), c .before .before .before .run .ensures .1)
 

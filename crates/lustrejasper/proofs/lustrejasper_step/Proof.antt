@@ -5,19 +5,15 @@ use borrow.Author.Needs.{needs}
 use Rattle.lustrejasper.proofs.lustrejasper_step.Statement.{statement}
 use Rattle.lustrejasper.proofs.lustrejasper_step.Tie as tie
 
--- src/lib.rt:70:9
 step-requires : tie.Need-step-requires
 step-requires c κs = search needs
 
--- src/lib.rt:71:5
 step-word-requires : tie.Need-step-word-requires
 step-word-requires c κs = step-short _ (λ i. c .before .before .before .before .before .shared-slice-known .given i .fits) _ _ _ (c .before .before .step .ensures .0)
 
--- src/lib.rt:66:1
 same-length : tie.Need-same-length
 same-length c = search needs
 
--- src/lib.rt:66:1
 returns : tie.Need-returns
 returns c = (c .step-word .ensures ∙ ap stepWord (c .before .before .before .step .ensures .0), c .before .before .before .step .ensures .1)
 

@@ -6,55 +6,42 @@ use borrow.Author.Needs.{needs}
 use Rattle.lustrejasper.proofs.run_word.Statement.{statement}
 use Rattle.lustrejasper.proofs.run_word.Tie as tie
 
--- src/lib.rt:46:25
 enum-known-a : tie.Need-enum-known-a
 enum-known-a c = search needs
 
--- src/lib.rt:46:38
 ended-word-requires : tie.Need-ended-word-requires
 ended-word-requires c κs = (omega arith, subst ShortRun (c .before .a .given .1) (c .before .before .before .pre))
 
--- src/lib.rt:47:26
 enum-known-a-2 : tie.Need-enum-known-a-2
 enum-known-a-2 c = search needs
 
--- src/lib.rt:47:39
 ended-word-requires-2 : tie.Need-ended-word-requires-2
 ended-word-requires-2 c κs = (omega arith, subst ShortRun (c .before .a2 .given .1) (c .before .before .before .pre))
 
--- src/lib.rt:48:25
 enum-known-a-3 : tie.Need-enum-known-a-3
 enum-known-a-3 c = search needs
 
--- src/lib.rt:48:38
 ended-word-requires-3 : tie.Need-ended-word-requires-3
 ended-word-requires-3 c κs = (omega arith, subst ShortRun (c .before .a3 .given .1) (c .before .before .before .pre))
 
--- src/lib.rt:49:28
 enum-known-a-4 : tie.Need-enum-known-a-4
 enum-known-a-4 c = search needs
 
--- src/lib.rt:49:44
 cast-result : tie.Need-cast-result
 cast-result c = search needs
 
--- src/lib.rt:49:34
 add-result : tie.Need-add-result
 add-result c = search needs
 
--- src/lib.rt:41:1
 returns : tie.Need-returns
 returns c = c .ended-word .ensures ∙ ap runWord (sym (c .before .before .a .given .1))
 
--- src/lib.rt:41:1
 returns-2 : tie.Need-returns-2
 returns-2 c = c .ended-word2 .ensures ∙ ap runWord (sym (c .before .before .a2 .given .1))
 
--- src/lib.rt:41:1
 returns-3 : tie.Need-returns-3
 returns-3 c = c .ended-word3 .ensures ∙ ap runWord (sym (c .before .before .a3 .given .1))
 
--- src/lib.rt:41:1
 returns-4 : tie.Need-returns-4
 returns-4 c = ap runWord (sym (c .before .a4 .given .1))
 

@@ -6,39 +6,30 @@ use borrow.Author.Needs.{needs}
 use Rattle.lustrejasper.proofs.step_word.Statement.{statement}
 use Rattle.lustrejasper.proofs.step_word.Tie as tie
 
--- src/lib.rt:27:34
 enum-told : tie.Need-enum-told
 enum-told c = search needs
 
--- src/lib.rt:28:29
 enum-known-a : tie.Need-enum-known-a
 enum-known-a c = search needs
 
--- src/lib.rt:28:35
 add-result : tie.Need-add-result
 add-result c = let z = subst ShortStep (c .before .a .given .1) (c .before .before .before .pre) in omega arith
 
--- src/lib.rt:29:29
 enum-known-a-2 : tie.Need-enum-known-a-2
 enum-known-a-2 c = search needs
 
--- src/lib.rt:29:49
 cast-result : tie.Need-cast-result
 cast-result c = search needs
 
--- src/lib.rt:29:35
 add-result-2 : tie.Need-add-result-2
 add-result-2 c = search needs
 
--- src/lib.rt:22:1
 returns : tie.Need-returns
 returns c = search needs
 
--- src/lib.rt:22:1
 returns-2 : tie.Need-returns-2
 returns-2 c = ap stepWord (sym (c .before .a .given .1))
 
--- src/lib.rt:22:1
 returns-3 : tie.Need-returns-3
 returns-3 c = ap stepWord (sym (c .before .a2 .given .1))
 

@@ -4,23 +4,18 @@ use borrow.Author.Needs.{needs}
 use Rattle.nav.proofs.arity_at.Statement.{statement}
 use Rattle.nav.proofs.arity_at.Tie as tie
 
--- src/lib.rt:95:27
 mul-wide16 : tie.Need-mul-wide16
 mul-wide16 c = let z = placed-root _ _ _ (c .before .pre) in omega arith
 
--- src/lib.rt:95:27
 element-copy-out-wide16 : tie.Need-element-copy-out-wide16
 element-copy-out-wide16 c = let z = placed-root _ _ _ (c .before .pre) in omega arith
 
--- src/lib.rt:95:20
 wide16-requires : tie.Need-wide16-requires
 wide16-requires c κs = search needs
 
--- src/lib.rt:95:5
 children-at-requires : tie.Need-children-at-requires
 children-at-requires c κs = rw (c .wide16 .ensures .0) (placed-root _ _ _ (c .before .before .before .pre) .1)
 
--- src/lib.rt:91:1
 returns : tie.Need-returns
 returns c = children-done _ _ _ _ (rw (c .before .wide16 .ensures .0) at (c .children-at .ensures))
 

@@ -5,31 +5,24 @@ use borrow.Author.Needs.{needs}
 use Rattle.nav.proofs.children_at.Statement.{statement}
 use Rattle.nav.proofs.children_at.Tie as tie
 
--- src/lib.rt:19:37
 number-requires : tie.Need-number-requires
 number-requires c κs = let z = stand-inside (c .before .pre .there) in omega arith
 
--- src/lib.rt:19:9
 form-of-requires : tie.Need-form-of-requires
 form-of-requires c κs = search needs
 
--- src/lib.rt:20:9
 width-of-requires : tie.Need-width-of-requires
 width-of-requires c κs = search needs
 
--- src/lib.rt:21:39
 add-number : tie.Need-add-number
 add-number c = search needs
 
--- src/lib.rt:21:9
 number-requires-2 : tie.Need-number-requires-2
 number-requires-2 c κs = let z = arity-room _ _ _ _ _ (c .before .before .number .ensures) (c .before .form-of .ensures .0) (c .width-of .ensures .0) _ _ (c .before .before .before .before .pre .there) in omega arith
 
--- src/lib.rt:22:5
 children-of-requires : tie.Need-children-of-requires
 children-of-requires c κs = search needs
 
--- src/lib.rt:15:1
 returns : tie.Need-returns
 returns c = arity-read _ _ _ _ _ (c .before .before .before .before .number .ensures) (c .before .before .before .form-of .ensures .0) (c .before .before .width-of .ensures .0) _ (c .before .number2 .ensures) _ (c .children-of .ensures)
 

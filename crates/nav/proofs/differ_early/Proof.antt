@@ -3,27 +3,21 @@ use native.Mathlib.Omega.{arith}
 use Rattle.nav.proofs.differ_early.Statement.{statement}
 use Rattle.nav.proofs.differ_early.Tie as tie
 
--- src/lib.rt:125:9
 returns : tie.Need-returns
 returns c = early-none _ _ _ (c .before .before .args .tag)
 
--- src/lib.rt:128:9
 returns-2 : tie.Need-returns-2
 returns-2 c = early-none _ _ _ (c .before .before .before .args .tag)
 
--- src/lib.rt:130:20
 add-same-bytes : tie.Need-add-same-bytes
 add-same-bytes c = let z = early-room _ _ _ _ (c .before .if1 .left) (c .if2 .left) (c .before .before .before .pre) in omega (arith, z .0)
 
--- src/lib.rt:130:27
 add-same-bytes-2 : tie.Need-add-same-bytes-2
 add-same-bytes-2 c = let z = early-room _ _ _ _ (c .before .if1 .left) (c .if2 .left) (c .before .before .before .pre) in omega (arith, z .1)
 
--- src/lib.rt:130:6
 same-bytes-requires : tie.Need-same-bytes-requires
 same-bytes-requires c κs = early-room _ _ _ _ (c .before .if1 .left) (c .if2 .left) (c .before .before .before .pre)
 
--- src/lib.rt:120:1
 returns-3 : tie.Need-returns-3
 returns-3 c = early-bytes _ _ _ _ (c .before .before .if1 .left) (c .before .if2 .left) (c .before .before .before .before .pre) _ (c .same-bytes .ensures)
 

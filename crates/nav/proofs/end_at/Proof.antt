@@ -4,35 +4,27 @@ use borrow.Author.Needs.{needs}
 use Rattle.nav.proofs.end_at.Statement.{statement}
 use Rattle.nav.proofs.end_at.Tie as tie
 
--- src/lib.rt:75:20
 mul-wide16 : tie.Need-mul-wide16
 mul-wide16 c = let z = end-place _ _ _ _ _ (c .before .pre) in omega arith
 
--- src/lib.rt:75:20
 element-copy-out-wide16 : tie.Need-element-copy-out-wide16
 element-copy-out-wide16 c = let z = end-place _ _ _ _ _ (c .before .pre) in omega arith
 
--- src/lib.rt:75:9
 wide16-requires : tie.Need-wide16-requires
 wide16-requires c κs = search needs
 
--- src/lib.rt:77:23
 mul-wide16-2 : tie.Need-mul-wide16-2
 mul-wide16-2 c = search needs
 
--- src/lib.rt:77:23
 element-copy-out-wide16-2 : tie.Need-element-copy-out-wide16-2
 element-copy-out-wide16-2 c = let z = end-few _ _ _ _ _ (c .before .before .before .before .pre) in omega arith
 
--- src/lib.rt:77:9
 wide16-requires-2 : tie.Need-wide16-requires-2
 wide16-requires-2 c κs = search needs
 
--- src/lib.rt:77:9
 returns : tie.Need-returns
 returns c = rw (c .wide162 .ensures .0, c .before .before .before .wide16 .ensures .0) (end-inside _ _ _ _ _ (omega arith))
 
--- src/lib.rt:71:1
 returns-2 : tie.Need-returns-2
 returns-2 c = end-last _ _ _ _ _ (omega arith)
 

@@ -12,35 +12,27 @@ Inv-loop nexts c m d₀ left₀ d left = HopsIn nexts left d × (hops nexts left
 abbrev μ-loop : tie.MeasureT-loop
 μ-loop nexts c m d₀ left₀ d left = left
 
--- src/lib.rt:32:5
 loop-holds : tie.Need-loop-holds Inv-loop μ-loop
 loop-holds c = (c .pre, refl)
 
--- src/lib.rt:33:20
 mul-wide16 : tie.Need-mul-wide16 Inv-loop μ-loop
 mul-wide16 c = let z = hop-here _ _ _ (c .before .loop .inv .0) (omega arith) in omega arith
 
--- src/lib.rt:33:20
 element-copy-out-wide16 : tie.Need-element-copy-out-wide16 Inv-loop μ-loop
 element-copy-out-wide16 c = let z = hop-here _ _ _ (c .before .loop .inv .0) (omega arith) in omega arith
 
--- src/lib.rt:33:9
 wide16-requires : tie.Need-wide16-requires Inv-loop μ-loop
 wide16-requires c κs = search needs
 
--- src/lib.rt:34:9
 sub-left : tie.Need-sub-left Inv-loop μ-loop
 sub-left c = omega arith
 
--- src/lib.rt:32:5
 loop-less : tie.Need-loop-less Inv-loop μ-loop
 loop-less c = omega arith
 
--- src/lib.rt:32:5
 loop-again : tie.Need-loop-again Inv-loop μ-loop
 loop-again c = let r = hop-more _ _ _ (c .before .before .before .loop .inv .0) (omega arith) in rw (c .wide16 .ensures .0) (r .0, r .1 ∙ c .before .before .before .loop .inv .1)
 
--- src/lib.rt:26:1
 returns : tie.Need-returns Inv-loop μ-loop
 returns c = sym (hop-none _ _ _ (omega arith)) ∙ c .before .loop .inv .1
 

@@ -3,19 +3,15 @@ use borrow.Author.Needs.{needs}
 use Rattle.nav.proofs.is_expression_at.Statement.{statement}
 use Rattle.nav.proofs.is_expression_at.Tie as tie
 
--- src/lib.rt:104:37
 tag-at-requires : tie.Need-tag-at-requires
 tag-at-requires c κs = search needs
 
--- src/lib.rt:104:9
 form-of-requires : tie.Need-form-of-requires
 form-of-requires c κs = search needs
 
--- src/lib.rt:105:5
 is-sort-requires : tie.Need-is-sort-requires
 is-sort-requires c κs = search needs
 
--- src/lib.rt:100:1
 returns : tie.Need-returns
 returns c = sort-done _ _ (c .before .form-of .ensures .0) _ (c .is-sort .ensures) _ _ _ (c .before .before .tag-at .ensures)
 

@@ -10,59 +10,45 @@ Inv-loop s n starts table₀ k₀ table k = Filled s n starts k table
 abbrev μ-loop : tie.MeasureT-loop
 μ-loop s n starts table₀ k₀ table k = k
 
--- src/lib.rt:46:5
 loop-holds : tie.Need-loop-holds Inv-loop μ-loop
 loop-holds c = fill-start _ _ _ _ (c .before .pre)
 
--- src/lib.rt:47:9
 sub-k : tie.Need-sub-k Inv-loop μ-loop
 sub-k c = omega arith
 
--- src/lib.rt:48:39
 mul-wide16 : tie.Need-mul-wide16 Inv-loop μ-loop
 mul-wide16 c = let z = fill-root _ _ _ _ (omega arith) _ (c .before .loop .inv) _ (c .before .before .before .pre .framed) in omega arith
 
--- src/lib.rt:48:39
 element-copy-out-wide16 : tie.Need-element-copy-out-wide16 Inv-loop μ-loop
 element-copy-out-wide16 c = let z = fill-root _ _ _ _ (omega arith) _ (c .before .loop .inv) _ (c .before .before .before .pre .framed) in omega arith
 
--- src/lib.rt:48:32
 wide16-requires : tie.Need-wide16-requires Inv-loop μ-loop
 wide16-requires c κs = search needs
 
--- src/lib.rt:48:13
 children-at-requires : tie.Need-children-at-requires Inv-loop μ-loop
 children-at-requires c κs = rw (c .wide16 .ensures .0) (fill-root _ _ _ _ (omega arith) _ (c .before .before .before .loop .inv) _ (c .before .before .before .before .before .pre .framed) .1)
 
--- src/lib.rt:49:28
 add-hop : tie.Need-add-hop Inv-loop μ-loop
 add-hop c = let z = fill-root _ _ _ _ (omega arith) _ (c .before .before .before .before .before .loop .inv) _ (c .before .before .before .before .before .before .before .pre .framed) in omega arith
 
--- src/lib.rt:49:13
 hop-requires : tie.Need-hop-requires Inv-loop μ-loop
 hop-requires c κs = fill-hops _ _ _ _ (omega arith) _ (c .before .before .before .before .before .loop .inv) _ (rw (c .before .before .wide16 .ensures .0) at (c .before .children-at .ensures)) _ (c .before .before .before .before .before .before .before .pre .framed) .0
 
--- src/lib.rt:50:20
 cast-table : tie.Need-cast-table Inv-loop μ-loop
 cast-table c = let z = fill-hops _ _ _ _ (omega arith) _ (c .before .before .before .before .before .before .loop .inv) _ (rw (c .before .before .before .wide16 .ensures .0) at (c .before .before .children-at .ensures)) _ (c .before .before .before .before .before .before .before .before .pre .framed) in omega (arith, c .hop .ensures)
 
--- src/lib.rt:50:9
 mul-table : tie.Need-mul-table Inv-loop μ-loop
 mul-table c = let z = fill-root _ _ _ _ (omega arith) _ (c .before .before .before .before .before .before .loop .inv) _ (c .before .before .before .before .before .before .before .before .pre .framed) in omega arith
 
--- src/lib.rt:50:9
 element-write-table : tie.Need-element-write-table Inv-loop μ-loop
 element-write-table c = let z = fill-root _ _ _ _ (omega arith) _ (c .before .before .before .before .before .before .loop .inv) _ (c .before .before .before .before .before .before .before .before .pre .framed) in omega arith
 
--- src/lib.rt:46:5
 loop-less : tie.Need-loop-less Inv-loop μ-loop
 loop-less c = omega arith
 
--- src/lib.rt:46:5
 loop-again : tie.Need-loop-again Inv-loop μ-loop
 loop-again c = fill-turn _ _ _ _ (omega arith) _ (c .before .before .before .before .before .before .loop .inv) _ (rw (c .before .before .before .wide16 .ensures .0) at (c .before .before .children-at .ensures)) (fill-root _ _ _ _ (omega arith) _ (c .before .before .before .before .before .before .loop .inv) _ (c .before .before .before .before .before .before .before .before .pre .framed) .0) _ (c .hop .ensures)
 
--- src/lib.rt:41:1
 returns : tie.Need-returns Inv-loop μ-loop
 returns c = fill-done _ _ _ _ _ (c .before .loop .inv) (omega arith)
 

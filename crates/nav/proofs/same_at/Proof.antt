@@ -9,27 +9,21 @@ use borrow.Author.Needs.{needs}
 use Rattle.nav.proofs.same_at.Statement.{statement}
 use Rattle.nav.proofs.same_at.Tie as tie
 
--- src/lib.rt:138:9
 start-at-requires : tie.Need-start-at-requires
 start-at-requires c κs = placed-root _ _ _ (c .before .pre .left) .0
 
--- src/lib.rt:139:9
 start-at-requires-2 : tie.Need-start-at-requires-2
 start-at-requires-2 c κs = placed-root _ _ _ (c .before .before .pre .right) .0
 
--- src/lib.rt:140:9
 number-requires : tie.Need-number-requires
 number-requires c κs = let z = stand-inside (placed-root _ _ _ (c .before .before .before .pre .left) .1 .there) in omega arith
 
--- src/lib.rt:141:15
 number-requires-2 : tie.Need-number-requires-2
 number-requires-2 c κs = let z = stand-inside (placed-root _ _ _ (c .before .before .before .before .pre .right) .1 .there) in omega arith
 
--- src/lib.rt:142:9
 returns : tie.Need-returns
 returns c = tags-differ _ _ _ _ _ _ (c .before .before .before .before .start-at .ensures .0) (c .before .before .before .start-at2 .ensures .0) (λ q. c .if1 .taken (c .before .before .number .ensures ∙ (q ∙ sym (c .before .number2 .ensures))))
 
--- src/lib.rt:144:8
 differ-early-requires : tie.Need-differ-early-requires
 differ-early-requires c κs = record {
   left = subst (Rooted _) (sym (c .before .before .before .before .start-at .ensures .0)) (placed-root _ _ _ (c .before .before .before .before .before .before .pre .left) .1);
@@ -38,39 +32,30 @@ differ-early-requires c κs = record {
   of-right = c .if1 .left ∙ c .before .number2 .ensures;
 }
 
--- src/lib.rt:145:9
 returns-2 : tie.Need-returns-2
 returns-2 c = early-differ _ _ _ _ _ _ (c .before .before .before .before .before .before .start-at .ensures .0) (c .before .before .before .before .before .start-at2 .ensures .0) _ (c .before .differ-early .ensures) (c .if2 .taken)
 
--- src/lib.rt:147:34
 form-of-requires : tie.Need-form-of-requires
 form-of-requires c κs = search needs
 
--- src/lib.rt:147:9
 is-sort-requires : tie.Need-is-sort-requires
 is-sort-requires c κs = search needs
 
--- src/lib.rt:149:23
 same-expr-requires : tie.Need-same-expr-requires
 same-expr-requires c κs = at-sort (c .if3 .taken) (both-there _ _ _ _ _ _ (c .before .before .before .before .before .before .before .before .before .start-at .ensures .0) (c .before .before .before .before .before .before .before .before .start-at2 .ensures .0) _ _ (c .before .before .before .before .before .before .before .number .ensures) (c .before .before .before .before .before .if1 .left ∙ c .before .before .before .before .before .before .number2 .ensures) (c .before .before .form-of .ensures .0) _ (c .before .is-sort .ensures) (c .before .before .before .before .before .before .before .before .before .before .before .pre))
 
--- src/lib.rt:149:9
 is-yes-requires : tie.Need-is-yes-requires
 is-yes-requires c κs = search needs
 
--- src/lib.rt:149:9
 returns-3 : tie.Need-returns-3
 returns-3 c = rw (c .is-yes .ensures) (same-done _ _ _ _ _ _ (c .before .before .before .before .before .before .before .before .before .before .before .start-at .ensures .0) (c .before .before .before .before .before .before .before .before .before .before .start-at2 .ensures .0) _ _ (c .before .before .before .before .before .before .before .before .before .number .ensures) (c .before .before .before .before .before .before .before .if1 .left ∙ c .before .before .before .before .before .before .before .before .number2 .ensures) (c .before .before .before .before .form-of .ensures .0) _ (c .before .before .before .is-sort .ensures) _ (of-sort (c .before .before .if3 .taken) (c .before .same-expr .ensures)))
 
--- src/lib.rt:151:12
 same-pred-requires : tie.Need-same-pred-requires
 same-pred-requires c κs = at-sort (c .if3 .left) (both-there _ _ _ _ _ _ (c .before .before .before .before .before .before .before .before .before .start-at .ensures .0) (c .before .before .before .before .before .before .before .before .start-at2 .ensures .0) _ _ (c .before .before .before .before .before .before .before .number .ensures) (c .before .before .before .before .before .if1 .left ∙ c .before .before .before .before .before .before .number2 .ensures) (c .before .before .form-of .ensures .0) _ (c .before .is-sort .ensures) (c .before .before .before .before .before .before .before .before .before .before .before .pre))
 
--- src/lib.rt:151:5
 is-yes-requires-2 : tie.Need-is-yes-requires-2
 is-yes-requires-2 c κs = search needs
 
--- src/lib.rt:134:1
 returns-4 : tie.Need-returns-4
 returns-4 c = rw (c .is-yes2 .ensures) (same-done _ _ _ _ _ _ (c .before .before .before .before .before .before .before .before .before .before .before .start-at .ensures .0) (c .before .before .before .before .before .before .before .before .before .before .start-at2 .ensures .0) _ _ (c .before .before .before .before .before .before .before .before .before .number .ensures) (c .before .before .before .before .before .before .before .if1 .left ∙ c .before .before .before .before .before .before .before .before .number2 .ensures) (c .before .before .before .before .form-of .ensures .0) _ (c .before .before .before .is-sort .ensures) _ (of-sort (c .before .before .if3 .left) (c .before .same-pred .ensures)))
 

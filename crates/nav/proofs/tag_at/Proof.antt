@@ -5,23 +5,18 @@ use borrow.Author.Needs.{needs}
 use Rattle.nav.proofs.tag_at.Statement.{statement}
 use Rattle.nav.proofs.tag_at.Tie as tie
 
--- src/lib.rt:87:38
 mul-wide16 : tie.Need-mul-wide16
 mul-wide16 c = let z = placed-root _ _ _ (c .before .pre) in omega arith
 
--- src/lib.rt:87:38
 element-copy-out-wide16 : tie.Need-element-copy-out-wide16
 element-copy-out-wide16 c = let z = placed-root _ _ _ (c .before .pre) in omega arith
 
--- src/lib.rt:87:31
 wide16-requires : tie.Need-wide16-requires
 wide16-requires c κs = search needs
 
--- src/lib.rt:87:5
 number-requires : tie.Need-number-requires
 number-requires c κs = let z = stand-inside (placed-root _ _ _ (c .before .before .before .pre) .1 .there) in omega arith
 
--- src/lib.rt:83:1
 returns : tie.Need-returns
 returns c = tag-done _ _ _ _ (rw (c .before .wide16 .ensures .0) at (c .number .ensures))
 

@@ -12,43 +12,33 @@ Inv-loop s a b n i₀ i = (i ≤ n) × Alike s a b i
 abbrev μ-loop : tie.MeasureT-loop
 μ-loop s a b n i₀ i = n - i
 
--- src/lib.rt
 loop-holds : tie.Need-loop-holds Inv-loop μ-loop
 loop-holds c = (omega arith, below-none _)
 
--- src/lib.rt
 add-if1 : tie.Need-add-if1 Inv-loop μ-loop
 add-if1 c = omega arith
 
--- src/lib.rt
 shared-slice-read-if1 : tie.Need-shared-slice-read-if1 Inv-loop μ-loop
 shared-slice-read-if1 c = omega arith
 
--- src/lib.rt
 add-if1-2 : tie.Need-add-if1-2 Inv-loop μ-loop
 add-if1-2 c = omega arith
 
--- src/lib.rt
 shared-slice-read-if1-2 : tie.Need-shared-slice-read-if1-2 Inv-loop μ-loop
 shared-slice-read-if1-2 c = omega arith
 
--- src/lib.rt
 returns : tie.Need-returns Inv-loop μ-loop
 returns c = bytes-differ _ _ _ _ (c .before .before .before .before .loop .i) (c .before .before .before .loop-test .taken) (c .if1 .taken)
 
--- src/lib.rt
 add-i : tie.Need-add-i Inv-loop μ-loop
 add-i c = omega arith
 
--- src/lib.rt
 loop-less : tie.Need-loop-less Inv-loop μ-loop
 loop-less c = omega arith
 
--- src/lib.rt
 loop-again : tie.Need-loop-again Inv-loop μ-loop
 loop-again c = (omega arith, below-more _ _ (c .before .before .before .before .loop .inv .1) (c .if1 .left))
 
--- src/lib.rt:31:1
 returns-2 : tie.Need-returns-2 Inv-loop μ-loop
 returns-2 c = bytes-same _ _ _ _ (c .before .loop .i) (c .loop-test .left) (c .before .loop .inv .1)
 

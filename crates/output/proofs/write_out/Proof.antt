@@ -4,23 +4,18 @@ use borrow.Author.Needs.{needs}
 use Rattle.output.proofs.write_out.Statement.{statement}
 use Rattle.output.proofs.write_out.Tie as tie
 
--- src/lib.rt:12:9
 returns : tie.Need-returns
 returns c = out-over _ _ _ (c .if1 .taken)
 
--- src/lib.rt:15:9
 returns-2 : tie.Need-returns-2
 returns-2 c = out-short _ _ _ (c .before .if1 .left) (c .if2 .taken)
 
--- src/lib.rt:17:5
 copy-in-requires : tie.Need-copy-in-requires
 copy-in-requires c κs = (omega arith, let z = c .before .before .before .before .before .pre .1 .whole in let y = c .before .before .before .if1 .left in omega arith, let y = c .before .before .if2 .left in omega arith)
 
--- src/lib.rt:7:1
 same-length : tie.Need-same-length
 same-length c = search needs
 
--- src/lib.rt:7:1
 returns-3 : tie.Need-returns-3
 returns-3 c = out-written _ _ _ (c .before .before .before .before .before .before .if1 .left) (c .before .before .before .before .before .if2 .left) _ (c .before .before .copy-in .ensures)
 

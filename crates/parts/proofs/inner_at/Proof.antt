@@ -2,39 +2,30 @@ use Rattle.parts.proofs.MadeTypes.{make-has, element-has, inner-whole, 
 use Rattle.parts.proofs.inner_at.Statement.{statement}
 use Rattle.parts.proofs.inner_at.Tie as tie
 
--- src/lib.rt:78:9
 element-at-requires : tie.Need-element-at-requires
 element-at-requires c κs = make-has _ _ _ (c .before .pre)
 
--- src/lib.rt:81:14
 second-at-requires : tie.Need-second-at-requires
 second-at-requires c κs = element-has _ _ _ _ (c .before .element-at .ensures) (c .before .before .before .pre)
 
--- src/lib.rt:83:14
 element-at-requires-2 : tie.Need-element-at-requires-2
 element-at-requires-2 c κs = element-has _ _ _ _ (c .before .element-at .ensures) (c .before .before .before .pre)
 
--- src/lib.rt:84:14
 first-at-requires : tie.Need-first-at-requires
 first-at-requires c κs = element-has _ _ _ _ (c .before .element-at .ensures) (c .before .before .before .pre)
 
--- src/lib.rt:74:1
 returns : tie.Need-returns
 returns c = inner-whole _ _ _ (c .match .keys1)
 
--- src/lib.rt:74:1
 returns-2 : tie.Need-returns-2
 returns-2 c = inner-ran _ _ _ _ (c .before .before .element-at .ensures) (c .before .match .keys2) _ (c .second-at .ensures)
 
--- src/lib.rt:74:1
 returns-3 : tie.Need-returns-3
 returns-3 c = inner-element _ _ _ _ (c .before .element-at .ensures) (c .match .keys3)
 
--- src/lib.rt:74:1
 returns-4 : tie.Need-returns-4
 returns-4 c = inner-elements _ _ _ _ (c .before .before .element-at .ensures) (c .before .match .keys4) _ (c .element-at2 .ensures)
 
--- src/lib.rt:74:1
 returns-5 : tie.Need-returns-5
 returns-5 c = inner-rest _ _ _ _ (c .before .before .element-at .ensures) (c .before .match .rest .0 .0 .0 .1) (c .before .match .rest .0 .0 .1) (c .before .match .rest .0 .1) (c .before .match .rest .1) _ (c .first-at .ensures)
 

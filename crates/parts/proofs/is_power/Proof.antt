@@ -3,15 +3,12 @@ use borrow.Author.Needs.{needs}
 use Rattle.parts.proofs.is_power.Statement.{statement}
 use Rattle.parts.proofs.is_power.Tie as tie
 
--- src/lib.rt:22:1
 returns : tie.Need-returns
 returns c = search needs
 
--- src/lib.rt:22:1
 returns-2 : tie.Need-returns-2
 returns-2 c = search needs
 
--- src/lib.rt:22:1
 returns-3 : tie.Need-returns-3
 returns-3 c = power-rest _ (c .match .rest .0 .1) (c .match .rest .1)
 

@@ -3,31 +3,24 @@ use borrow.Author.Needs.{needs}
 use Rattle.parts.proofs.put_expression.Statement.{statement}
 use Rattle.parts.proofs.put_expression.Tie as tie
 
--- src/lib.rt:48:9
 inner-at-requires : tie.Need-inner-at-requires
 inner-at-requires c κs = search needs
 
--- src/lib.rt:49:8
 is-power-requires : tie.Need-is-power-requires
 is-power-requires c κs = search needs
 
--- src/lib.rt:50:13
 put-word-requires : tie.Need-put-word-requires
 put-word-requires c κs = search needs
 
--- src/lib.rt:51:13
 to-expression-requires : tie.Need-to-expression-requires
 to-expression-requires c κs = inner-has _ _ _ _ (c .before .before .before .before .before .before .before .pre) (c .before .before .before .before .before .inner-at .ensures)
 
--- src/lib.rt:52:9
 returns : tie.Need-returns
 returns c = expression-power _ _ _ _ _ (c .before .before .before .before .before .before .inner-at .ensures) (c .before .before .before .before .before .is-power .ensures) _ _ _ _ _ _ (c .before .before .before .before .if1 .taken) (c .before .before .put-word .ensures) (c .to-expression .ensures)
 
--- src/lib.rt:54:9
 to-expression-requires-2 : tie.Need-to-expression-requires-2
 to-expression-requires-2 c κs = inner-has _ _ _ _ (c .before .before .before .before .before .pre) (c .before .before .before .inner-at .ensures)
 
--- src/lib.rt:44:1
 returns-2 : tie.Need-returns-2
 returns-2 c = expression-plain _ _ _ _ _ (c .before .before .before .before .inner-at .ensures) (c .before .before .before .is-power .ensures) _ _ _ _ (c .before .before .if1 .left) (c .to-expression2 .ensures)
 

@@ -4,119 +4,90 @@ use borrow.Author.Needs.{needs}
 use Rattle.parts.proofs.put_part.Statement.{statement}
 use Rattle.parts.proofs.put_part.Tie as tie
 
--- src/lib.rt:90:14
 shared-slice-read-op : tie.Need-shared-slice-read-op
 shared-slice-read-op c = part-within _ _ _ _ _ (c .before .before .before .before .pre)
 
--- src/lib.rt:92:34
 add-put-copy : tie.Need-add-put-copy
 add-put-copy c = search needs
 
--- src/lib.rt:92:42
 add-put-copy-2 : tie.Need-add-put-copy-2
 add-put-copy-2 c = search needs
 
--- src/lib.rt:92:14
 put-copy-requires : tie.Need-put-copy-requires
 put-copy-requires c κs = (omega arith, tag-ready _ _ _ _ _ (c .before .before .before .before .before .before .pre) (c .before .match .keys1))
 
--- src/lib.rt:93:34
 add-put-copy-3 : tie.Need-add-put-copy-3
 add-put-copy-3 c = search needs
 
--- src/lib.rt:93:42
 add-put-copy-4 : tie.Need-add-put-copy-4
 add-put-copy-4 c = search needs
 
--- src/lib.rt:93:14
 put-copy-requires-2 : tie.Need-put-copy-requires-2
 put-copy-requires-2 c κs = (omega arith, byte-ready _ _ _ _ _ (c .before .before .before .before .before .before .pre) (c .before .match .keys2))
 
--- src/lib.rt:94:34
 add-put-operand : tie.Need-add-put-operand
 add-put-operand c = search needs
 
--- src/lib.rt:94:32
 shared-slice-read-put-operand : tie.Need-shared-slice-read-put-operand
 shared-slice-read-put-operand c = let z = operand-ready _ _ _ _ _ (c .before .before .before .before .before .before .pre) (c .before .match .keys3) in omega arith
 
--- src/lib.rt:94:14
 put-operand-requires : tie.Need-put-operand-requires
 put-operand-requires c κs = let z = operand-ready _ _ _ _ _ (c .before .before .before .before .before .before .before .pre) (c .before .before .match .keys3) in (z .1, z .2)
 
--- src/lib.rt:95:43
 add-type-of : tie.Need-add-type-of
 add-type-of c = search needs
 
--- src/lib.rt:95:41
 shared-slice-read-type-of : tie.Need-shared-slice-read-type-of
 shared-slice-read-type-of c = let z = type-ready _ _ _ _ _ (c .before .before .before .before .before .before .pre) (c .before .match .keys4) .0 in omega arith
 
--- src/lib.rt:95:30
 type-of-requires : tie.Need-type-of-requires
 type-of-requires c κs = search needs
 
--- src/lib.rt:95:55
 add-put-type : tie.Need-add-put-type
 add-put-type c = search needs
 
--- src/lib.rt:95:53
 shared-slice-read-put-type : tie.Need-shared-slice-read-put-type
 shared-slice-read-put-type c = let z = type-ready _ _ _ _ _ (c .before .before .before .before .before .before .before .before .pre) (c .before .before .before .match .keys4) .0 in omega arith
 
--- src/lib.rt:95:14
 put-type-requires : tie.Need-put-type-requires
 put-type-requires c κs = can-make _ _ _ _ (c .before .before .type-of .ensures) (type-ready _ _ _ _ _ (c .before .before .before .before .before .before .before .before .before .pre) (c .before .before .before .before .match .keys4) .1)
 
--- src/lib.rt:96:49
 add-type-of-2 : tie.Need-add-type-of-2
 add-type-of-2 c = search needs
 
--- src/lib.rt:96:47
 shared-slice-read-type-of-2 : tie.Need-shared-slice-read-type-of-2
 shared-slice-read-type-of-2 c = let z = expression-ready _ _ _ _ _ (c .before .before .before .before .before .before .pre) (c .before .match .keys5) .0 in omega arith
 
--- src/lib.rt:96:36
 type-of-requires-2 : tie.Need-type-of-requires-2
 type-of-requires-2 c κs = search needs
 
--- src/lib.rt:96:61
 add-put-expression : tie.Need-add-put-expression
 add-put-expression c = search needs
 
--- src/lib.rt:96:59
 shared-slice-read-put-expression : tie.Need-shared-slice-read-put-expression
 shared-slice-read-put-expression c = let z = expression-ready _ _ _ _ _ (c .before .before .before .before .before .before .before .before .pre) (c .before .before .before .match .keys5) .0 in omega arith
 
--- src/lib.rt:96:14
 put-expression-requires : tie.Need-put-expression-requires
 put-expression-requires c κs = can-make _ _ _ _ (c .before .before .type-of2 .ensures) (expression-ready _ _ _ _ _ (c .before .before .before .before .before .before .before .before .before .pre) (c .before .before .before .before .match .keys5) .1)
 
--- src/lib.rt:97:14
 put-copy-requires-3 : tie.Need-put-copy-requires-3
 put-copy-requires-3 c κs = binders-ready _ _ _ _ _ (c .before .before .before .before .before .before .pre) (c .before .match .rest .0 .0 .0 .0 .1) (c .before .match .rest .0 .0 .0 .1) (c .before .match .rest .0 .0 .1) (c .before .match .rest .0 .1) (c .before .match .rest .1)
 
--- src/lib.rt:78:1
 returns : tie.Need-returns
 returns c = tag-put _ _ _ _ _ _ _ _ _ (c .before .before .match .keys1) (c .put-copy .ensures)
 
--- src/lib.rt:78:1
 returns-2 : tie.Need-returns-2
 returns-2 c = byte-put _ _ _ _ _ _ _ _ _ (c .before .before .match .keys2) (c .put-copy2 .ensures)
 
--- src/lib.rt:78:1
 returns-3 : tie.Need-returns-3
 returns-3 c = operand-put _ _ _ _ _ _ _ _ _ (c .before .before .before .match .keys3) (c .put-operand .ensures)
 
--- src/lib.rt:78:1
 returns-4 : tie.Need-returns-4
 returns-4 c = type-put _ _ _ _ _ _ _ _ _ _ (c .before .before .before .type-of .ensures) (c .before .before .before .before .before .match .keys4) (c .put-type .ensures)
 
--- src/lib.rt:78:1
 returns-5 : tie.Need-returns-5
 returns-5 c = expression-put _ _ _ _ _ _ _ _ _ _ (c .before .before .before .type-of2 .ensures) (c .before .before .before .before .before .match .keys5) (c .put-expression .ensures)
 
--- src/lib.rt:78:1
 returns-6 : tie.Need-returns-6
 returns-6 c = binders-put _ _ _ _ _ _ _ _ _ (c .before .before .match .rest .0 .0 .0 .0 .1) (c .before .before .match .rest .0 .0 .0 .1) (c .before .before .match .rest .0 .0 .1) (c .before .before .match .rest .0 .1) (c .before .before .match .rest .1) (c .put-copy3 .ensures)
 

@@ -6,35 +6,27 @@ use borrow.Author.Needs.{needs}
 use Rattle.parts.proofs.put_type.Statement.{statement}
 use Rattle.parts.proofs.put_type.Tie as tie
 
--- src/lib.rt:35:9
 inner-at-requires : tie.Need-inner-at-requires
 inner-at-requires c κs = search needs
 
--- src/lib.rt:36:9
 type-end-requires : tie.Need-type-end-requires
 type-end-requires c κs = as-type _ _ (inner-has _ _ _ _ (c .before .before .pre) (c .inner-at .ensures))
 
--- src/lib.rt:37:8
 is-power-requires : tie.Need-is-power-requires
 is-power-requires c κs = search needs
 
--- src/lib.rt:38:13
 put-byte-requires : tie.Need-put-byte-requires
 put-byte-requires c κs = search needs
 
--- src/lib.rt:39:9
 put-copy-requires : tie.Need-put-copy-requires
 put-copy-requires c κs = let z = type-past _ _ _ (inner-has _ _ _ _ (c .before .before .before .before .before .before .before .before .pre) (c .before .before .before .before .before .before .inner-at .ensures)) (as-end _ _ _ (c .before .before .before .before .before .type-end .ensures)) in (omega arith, z .1)
 
--- src/lib.rt:39:9
 returns : tie.Need-returns
 returns c = type-power _ _ _ _ _ (c .before .before .before .before .before .before .before .inner-at .ensures) (c .before .before .before .before .before .is-power .ensures) _ _ _ _ _ _ _ (as-end _ _ _ (c .before .before .before .before .before .before .type-end .ensures)) (c .before .before .before .before .if1 .taken) (c .before .before .put-byte .ensures) (c .put-copy .ensures)
 
--- src/lib.rt:41:5
 put-copy-requires-2 : tie.Need-put-copy-requires-2
 put-copy-requires-2 c κs = let z = type-past _ _ _ (inner-has _ _ _ _ (c .before .before .before .before .before .before .pre) (c .before .before .before .before .inner-at .ensures)) (as-end _ _ _ (c .before .before .before .type-end .ensures)) in (omega arith, z .1)
 
--- src/lib.rt:31:1
 returns-2 : tie.Need-returns-2
 returns-2 c = type-plain _ _ _ _ _ (c .before .before .before .before .before .inner-at .ensures) (c .before .before .before .is-power .ensures) _ _ _ _ _ (as-end _ _ _ (c .before .before .before .before .type-end .ensures)) (c .before .before .if1 .left) (c .put-copy2 .ensures)
 

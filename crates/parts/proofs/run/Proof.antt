@@ -13,39 +13,30 @@ Inv-loop g start s types r out₀ n at₀ m₀ out at m =
 abbrev μ-loop : tie.MeasureT-loop
 μ-loop g start s types r out₀ n at₀ m₀ out at m = length g - at
 
--- src/lib.rt:129:5
 loop-holds : tie.Need-loop-holds Inv-loop μ-loop
 loop-holds c = (c .before .before .before .pre, run-starts _ _ _ _ _ _ _)
 
--- src/lib.rt:129:11
 shared-slice-read-if1 : tie.Need-shared-slice-read-if1 Inv-loop μ-loop
 shared-slice-read-if1 c = run-within _ _ _ _ _ _ _ (c .before .loop .inv .0) _ _ _ (c .before .loop .inv .1)
 
--- src/lib.rt:130:9
 put-part-requires : tie.Need-put-part-requires Inv-loop μ-loop
 put-part-requires c κs = run-ready _ _ _ _ _ _ _ (c .before .before .before .loop .inv .0) _ _ _ (c .before .before .before .loop .inv .1) (c .before .if1 .taken)
 
--- src/lib.rt:131:23
 shared-slice-read-size-of : tie.Need-shared-slice-read-size-of Inv-loop μ-loop
 shared-slice-read-size-of c = run-within _ _ _ _ _ _ _ (c .before .before .before .before .before .loop .inv .0) _ _ _ (c .before .before .before .before .before .loop .inv .1)
 
--- src/lib.rt:131:15
 size-of-requires : tie.Need-size-of-requires Inv-loop μ-loop
 size-of-requires c κs = tt
 
--- src/lib.rt:131:9
 add-at : tie.Need-add-at Inv-loop μ-loop
 add-at c = let z = run-room _ _ _ _ _ _ _ (c .before .before .before .before .before .before .loop .inv .0) _ _ _ (c .before .before .before .before .before .before .loop .inv .1) (c .before .before .before .before .if1 .taken) _ (c .size-of .ensures) in omega arith
 
--- src/lib.rt:129:5
 loop-less : tie.Need-loop-less Inv-loop μ-loop
 loop-less c = let z = run-room _ _ _ _ _ _ _ (c .before .before .before .before .before .before .loop .inv .0) _ _ _ (c .before .before .before .before .before .before .loop .inv .1) (c .before .before .before .before .if1 .taken) _ (c .size-of .ensures) in omega arith
 
--- src/lib.rt:129:5
 loop-again : tie.Need-loop-again Inv-loop μ-loop
 loop-again c = (c .before .before .before .before .before .before .loop .inv .0, run-again _ _ _ _ _ _ _ (c .before .before .before .before .before .before .loop .inv .0) _ _ _ (c .before .before .before .before .before .before .loop .inv .1) (c .before .before .before .before .if1 .taken) _ (c .size-of .ensures) _ _ (c .before .before .put-part .ensures))
 
--- src/lib.rt:115:1
 returns : tie.Need-returns Inv-loop μ-loop
 returns c = run-ends _ _ _ _ _ _ _ (c .before .before .loop .inv .0) _ _ _ (c .before .before .loop .inv .1) (c .if1 .left)
 

@@ -4,23 +4,18 @@ use borrow.Author.Needs.{needs}
 use Rattle.parts.proofs.second_at.Statement.{statement}
 use Rattle.parts.proofs.second_at.Tie as tie
 
--- src/lib.rt:67:8
 shared-slice-read-if1 : tie.Need-shared-slice-read-if1
 shared-slice-read-if1 c = parts-within _ _ (c .before .before .pre)
 
--- src/lib.rt:68:32
 add-type-end : tie.Need-add-type-end
 add-type-end c = search needs
 
--- src/lib.rt:68:9
 type-end-requires : tie.Need-type-end-requires
 type-end-requires c κs = as-type _ _ (product-has _ _ (c .if1 .taken) (c .before .before .before .pre))
 
--- src/lib.rt:68:9
 returns : tie.Need-returns
 returns c = second-below _ _ (c .before .if1 .taken) _ (as-end _ _ _ (c .type-end .ensures))
 
--- src/lib.rt:63:1
 returns-2 : tie.Need-returns-2
 returns-2 c = second-none _ _ (c .if1 .left)
 

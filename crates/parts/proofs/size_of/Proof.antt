@@ -3,27 +3,21 @@ use borrow.Author.Needs.{needs}
 use Rattle.parts.proofs.size_of.Statement.{statement}
 use Rattle.parts.proofs.size_of.Tie as tie
 
--- src/lib.rt:103:1
 returns : tie.Need-returns
 returns c = search needs
 
--- src/lib.rt:103:1
 returns-2 : tie.Need-returns-2
 returns-2 c = search needs
 
--- src/lib.rt:103:1
 returns-3 : tie.Need-returns-3
 returns-3 c = search needs
 
--- src/lib.rt:103:1
 returns-4 : tie.Need-returns-4
 returns-4 c = search needs
 
--- src/lib.rt:103:1
 returns-5 : tie.Need-returns-5
 returns-5 c = search needs
 
--- src/lib.rt:103:1
 returns-6 : tie.Need-returns-6
 returns-6 c = size-rest _ (c .match .rest .0 .0 .0 .0 .1) (c .match .rest .0 .0 .0 .1) (c .match .rest .0 .0 .1) (c .match .rest .0 .1) (c .match .rest .1)
 

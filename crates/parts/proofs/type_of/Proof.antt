@@ -3,11 +3,9 @@ use borrow.Author.Needs.{needs}
 use Rattle.parts.proofs.type_of.Statement.{statement}
 use Rattle.parts.proofs.type_of.Tie as tie
 
--- src/lib.rt:72:9
 returns : tie.Need-returns
 returns c = search needs
 
--- src/lib.rt:68:1
 returns-2 : tie.Need-returns-2
 returns-2 c = second-type _ _ (c .if1 .left)
 

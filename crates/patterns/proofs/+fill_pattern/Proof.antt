@@ -34,87 +34,66 @@ fill-pattern-below t =
 abbrev calls-fill-pattern : ℕ → fill-pattern-lts.Claims
 calls-fill-pattern t = (fill-pattern-below t, fill-pattern.Post, copy-within-reads.Asked, copy-within-reads.Learnt)
 
--- src/lib.rt:142:9
 fill-pattern-returns : (t : ℕ) → fill-pattern-lts.Need-returns (calls-fill-pattern t) (fill-pattern-at t) fill-pattern.Post
 fill-pattern-returns t c = fill-end (c .before .before .args .p) (c .before .before .args .types .now) (c .before .before .args .m) (c .before .before .args .limit) (c .before .before .args .starts .now) (c .before .before .args .ends .now) (c .before .before .args .k) (c .before .before .pre .1 .room) (c .if1 .taken)
 
--- src/lib.rt:146:13
 fill-pattern-returns-2 : (t : ℕ) → fill-pattern-lts.Need-returns-2 (calls-fill-pattern t) (fill-pattern-at t) fill-pattern.Post
 fill-pattern-returns-2 t c = fill-full (c .before .before .before .before .args .p) (c .before .before .before .before .args .types .now) (c .before .before .before .before .args .m) (c .before .before .before .before .args .limit) (c .before .before .before .before .args .starts .now) (c .before .before .before .before .args .ends .now) (c .before .before .before .before .args .k) (c .before .before .before .before .pre .1 .room) (c .before .before .before .before .args .p % 16) refl (c .before .before .if1 .left) (c .before .if2 .taken) (c .if3 .taken)
 
--- src/lib.rt:148:20
 fill-pattern-cast-types : (t : ℕ) → fill-pattern-lts.Need-cast-types (calls-fill-pattern t) (fill-pattern-at t) fill-pattern.Post
 fill-pattern-cast-types t c = omega arith
 
--- src/lib.rt:148:9
 fill-pattern-slice-write-types : (t : ℕ) → fill-pattern-lts.Need-slice-write-types (calls-fill-pattern t) (fill-pattern-at t) fill-pattern.Post
 fill-pattern-slice-write-types t c = omega (arith, c .before .before .before .before .pre .1 .room)
 
--- src/lib.rt:149:44
 fill-pattern-add-fill-pattern : (t : ℕ) → fill-pattern-lts.Need-add-fill-pattern (calls-fill-pattern t) (fill-pattern-at t) fill-pattern.Post
 fill-pattern-add-fill-pattern t c = omega (arith, c .before .before .before .before .before .pre .1 .room)
 
--- src/lib.rt:149:9
 fill-pattern-fill-pattern-requires : (t : ℕ) → fill-pattern-lts.Need-fill-pattern-requires (calls-fill-pattern t) (fill-pattern-at t) fill-pattern.Post
 fill-pattern-fill-pattern-requires t c κs = (omega arith, fill-fixed-pre (c .before .before .before .before .before .args .p) (c .before .before .before .before .before .args .types .now) (c .before .before .before .before .before .args .m) (c .before .before .before .before .before .args .limit) (c .before .before .before .before .before .args .starts .now) (c .before .before .before .before .before .args .ends .now) (c .before .before .before .before .before .args .k) (c .before .before .before .before .before .pre .1 .room) (c .before .before .before .before .before .args .p % 16) refl (c .before .before .before .if1 .left) (c .before .before .if2 .taken) (c .before .before .before .before .before .args .p % 16) refl (c .before .if3 .left) (c .before .before .before .before .before .pre .1))
 
--- src/lib.rt:149:9
 fill-pattern-same-length : (t : ℕ) → fill-pattern-lts.Need-same-length (calls-fill-pattern t) (fill-pattern-at t) fill-pattern.Post
 fill-pattern-same-length t c = omega (arith, length-set (c .before .before .before .before .before .before .before .before .args .types .now) (c .before .before .before .before .before .before .before .before .args .m) (c .before .before .before .before .before .before .before .before .args .p % 16))
 
--- src/lib.rt:149:9
 fill-pattern-returns-3 : (t : ℕ) → fill-pattern-lts.Need-returns-3 (calls-fill-pattern t) (fill-pattern-at t) fill-pattern.Post
 fill-pattern-returns-3 t c = fill-fixed (c .before .before .before .before .before .before .before .before .args .p) (c .before .before .before .before .before .before .before .before .args .types .now) (c .before .before .before .before .before .before .before .before .args .m) (c .before .before .before .before .before .before .before .before .args .limit) (c .before .before .before .before .before .before .before .before .args .starts .now) (c .before .before .before .before .before .before .before .before .args .ends .now) (c .before .before .before .before .before .before .before .before .args .k) (c .before .before .before .before .before .before .before .before .pre .1 .room) (c .before .before .before .before .before .before .before .before .args .p % 16) refl (c .before .before .before .before .before .before .if1 .left) (c .before .before .before .before .before .if2 .taken) (c .before .before .before .before .before .before .before .before .args .p % 16) refl (c .before .before .before .before .if3 .left) _ _ (c .before .before .fill-pattern .ensures)
 
--- src/lib.rt:153:9
 fill-pattern-returns-4 : (t : ℕ) → fill-pattern-lts.Need-returns-4 (calls-fill-pattern t) (fill-pattern-at t) fill-pattern.Post
 fill-pattern-returns-4 t c = fill-unbound (c .before .before .before .before .args .p) (c .before .before .before .before .args .types .now) (c .before .before .before .before .args .m) (c .before .before .before .before .args .limit) (c .before .before .before .before .args .starts .now) (c .before .before .before .before .args .ends .now) (c .before .before .before .before .args .k) (c .before .before .before .before .pre .1 .room) (c .before .before .before .before .args .p % 16) refl (c .before .before .if1 .left) (c .before .if2 .left) (c .if4 .taken)
 
--- src/lib.rt:155:16
 fill-pattern-mul-from : (t : ℕ) → fill-pattern-lts.Need-mul-from (calls-fill-pattern t) (fill-pattern-at t) fill-pattern.Post
 fill-pattern-mul-from t c = omega (arith, c .before .before .before .before .pre .1 .env .few, c .before .before .before .before .pre .1 .count)
 
--- src/lib.rt:155:16
 fill-pattern-element-copy-out-from : (t : ℕ) → fill-pattern-lts.Need-element-copy-out-from (calls-fill-pattern t) (fill-pattern-at t) fill-pattern.Post
 fill-pattern-element-copy-out-from t c = omega (arith, c .before .before .before .before .pre .1 .env .few, c .before .before .before .before .pre .1 .count)
 
--- src/lib.rt:156:14
 fill-pattern-mul-to : (t : ℕ) → fill-pattern-lts.Need-mul-to (calls-fill-pattern t) (fill-pattern-at t) fill-pattern.Post
 fill-pattern-mul-to t c = omega (arith, c .before .before .before .before .before .pre .1 .env .few, c .before .before .before .before .before .pre .1 .count)
 
--- src/lib.rt:156:14
 fill-pattern-element-copy-out-to : (t : ℕ) → fill-pattern-lts.Need-element-copy-out-to (calls-fill-pattern t) (fill-pattern-at t) fill-pattern.Post
 fill-pattern-element-copy-out-to t c = omega (arith, c .before .before .before .before .before .pre .1 .env .few, c .before .before .before .before .before .pre .1 .count)
 
--- src/lib.rt:157:15
 fill-pattern-sub-len : (t : ℕ) → fill-pattern-lts.Need-sub-len (calls-fill-pattern t) (fill-pattern-at t) fill-pattern.Post
 fill-pattern-sub-len t c = slot-span (c .before .before .before .before .before .before .pre .1 .env) (c .before .before .before .before .before .before .pre .1 .count) (c .before .before .before .before .before .before .args .p % 16 - 5) (c .before .before .if4 .left) .0
 
--- src/lib.rt:158:8
 fill-pattern-sub-if5 : (t : ℕ) → fill-pattern-lts.Need-sub-if5 (calls-fill-pattern t) (fill-pattern-at t) fill-pattern.Post
 fill-pattern-sub-if5 t c = omega (arith, c .before .before .before .before .before .before .pre .1 .room)
 
--- src/lib.rt:159:9
 fill-pattern-returns-5 : (t : ℕ) → fill-pattern-lts.Need-returns-5 (calls-fill-pattern t) (fill-pattern-at t) fill-pattern.Post
 fill-pattern-returns-5 t c = fill-long (c .before .before .before .before .before .before .before .args .p) (c .before .before .before .before .before .before .before .args .types .now) (c .before .before .before .before .before .before .before .args .m) (c .before .before .before .before .before .before .before .args .limit) (c .before .before .before .before .before .before .before .args .starts .now) (c .before .before .before .before .before .before .before .args .ends .now) (c .before .before .before .before .before .before .before .args .k) (c .before .before .before .before .before .before .before .pre .1 .room) (c .before .before .before .before .before .before .before .args .p % 16) refl (c .before .before .before .before .before .if1 .left) (c .before .before .before .before .if2 .left) (c .before .before .before .if4 .left) _ _ refl refl (c .if5 .taken)
 
--- src/lib.rt:161:5
 fill-pattern-copy-within-requires : (t : ℕ) → fill-pattern-lts.Need-copy-within-requires (calls-fill-pattern t) (fill-pattern-at t) fill-pattern.Post
 fill-pattern-copy-within-requires t c κs = fill-copy (c .before .before .before .before .before .before .before .before .args .p) (c .before .before .before .before .before .before .before .before .args .types .now) (c .before .before .before .before .before .before .before .before .args .m) (c .before .before .before .before .before .before .before .before .args .limit) (c .before .before .before .before .before .before .before .before .args .starts .now) (c .before .before .before .before .before .before .before .before .args .ends .now) (c .before .before .before .before .before .before .before .before .args .k) (c .before .before .before .before .before .before .before .before .pre .1 .room) (c .before .before .before .before .before .before .before .before .args .p % 16) refl (c .before .before .before .before .before .before .if1 .left) (c .before .before .before .before .before .if2 .left) (c .before .before .before .before .if4 .left) _ _ refl refl (c .before .if5 .left) (c .before .before .before .before .before .before .before .before .pre .1)
 
--- src/lib.rt:162:33
 fill-pattern-add-fill-pattern-2 : (t : ℕ) → fill-pattern-lts.Need-add-fill-pattern-2 (calls-fill-pattern t) (fill-pattern-at t) fill-pattern.Post
 fill-pattern-add-fill-pattern-2 t c = omega (arith, c .before .before .before .before .before .before .before .before .before .before .before .before .pre .1 .room)
 
--- src/lib.rt:162:5
 fill-pattern-fill-pattern-requires-2 : (t : ℕ) → fill-pattern-lts.Need-fill-pattern-requires-2 (calls-fill-pattern t) (fill-pattern-at t) fill-pattern.Post
 fill-pattern-fill-pattern-requires-2 t c κs = (omega (arith, slot-some (c .before .before .before .before .before .before .before .before .before .before .before .before .pre .1 .env) (c .before .before .before .before .before .before .before .before .before .before .before .before .pre .1 .count) (c .before .before .before .before .before .before .before .before .before .before .before .before .args .p % 16 - 5) (c .before .before .before .before .before .before .before .before .if4 .left)), fill-bound-pre (c .before .before .before .before .before .before .before .before .before .before .before .before .args .p) (c .before .before .before .before .before .before .before .before .before .before .before .before .args .types .now) (c .before .before .before .before .before .before .before .before .before .before .before .before .args .m) (c .before .before .before .before .before .before .before .before .before .before .before .before .args .limit) (c .before .before .before .before .before .before .before .before .before .before .before .before .args .starts .now) (c .before .before .before .before .before .before .before .before .before .before .before .before .args .ends .now) (c .before .before .before .before .before .before .before .before .before .before .before .before .args .k) (c .before .before .before .before .before .before .before .before .before .before .before .before .pre .1 .room) (c .before .before .before .before .before .before .before .before .before .before .before .before .args .p % 16) refl (c .before .before .before .before .before .before .before .before .before .before .if1 .left) (c .before .before .before .before .before .before .before .before .before .if2 .left) (c .before .before .before .before .before .before .before .before .if4 .left) _ _ refl refl (c .before .before .before .before .before .if5 .left) _ (c .before .before .before .copy-within .ensures) (c .before .before .before .before .before .before .before .before .before .before .before .before .pre .1))
 
--- src/lib.rt:128:1
 fill-pattern-same-length-2 : (t : ℕ) → fill-pattern-lts.Need-same-length-2 (calls-fill-pattern t) (fill-pattern-at t) fill-pattern.Post
 fill-pattern-same-length-2 t c = search needs
 
--- src/lib.rt:128:1
 fill-pattern-returns-6 : (t : ℕ) → fill-pattern-lts.Need-returns-6 (calls-fill-pattern t) (fill-pattern-at t) fill-pattern.Post
 fill-pattern-returns-6 t c = fill-bound (c .before .before .before .before .before .before .before .before .before .before .before .before .before .before .before .args .p) (c .before .before .before .before .before .before .before .before .before .before .before .before .before .before .before .args .types .now) (c .before .before .before .before .before .before .before .before .before .before .before .before .before .before .before .args .m) (c .before .before .before .before .before .before .before .before .before .before .before .before .before .before .before .args .limit) (c .before .before .before .before .before .before .before .before .before .before .before .before .before .before .before .args .starts .now) (c .before .before .before .before .before .before .before .before .before .before .before .before .before .before .before .args .ends .now) (c .before .before .before .before .before .before .before .before .before .before .before .before .before .before .before .args .k) (c .before .before .before .before .before .before .before .before .before .before .before .before .before .before .before .pre .1 .room) (c .before .before .before .before .before .before .before .before .before .before .before .before .before .before .before .args .p % 16) refl (c .before .before .before .before .before .before .before .before .before .before .before .before .before .if1 .left) (c .before .before .before .before .before .before .before .before .before .before .before .before .if2 .left) (c .before .before .before .before .before .before .before .before .before .before .before .if4 .left) _ _ refl refl (c .before .before .before .before .before .before .before .before .if5 .left) _ (c .before .before .before .before .before .before .copy-within .ensures) _ _ (c .before .before .fill-pattern2 .ensures)
 

@@ -28,39 +28,30 @@ match-pairs-below t =
 abbrev calls-match-pairs : ℕ → match-pairs-lts.Claims
 calls-match-pairs t = (type-end-reads.Asked, type-end-reads.Learnt, match-pattern-reads.Asked, match-pattern-reads.Learnt, match-pairs-below t, match-pairs.Post)
 
--- src/lib.rt:114:9
 match-pairs-returns : (t : ℕ) → match-pairs-lts.Need-returns (calls-match-pairs t) (match-pairs-at t) match-pairs.Post
 match-pairs-returns t c = λ ps pk. pairs-none ps (c .before .before .args .types .now) (c .before .before .args .at) (c .before .before .args .n) (c .before .before .args .starts .now) (c .before .before .args .ends .now) (c .if1 .taken)
 
--- src/lib.rt:116:9
 match-pairs-type-end-requires : (t : ℕ) → match-pairs-lts.Need-type-end-requires (calls-match-pairs t) (match-pairs-at t) match-pairs.Post
 match-pairs-type-end-requires t c κs = pairs-type (c .before .before .pre .1 .ps) (c .before .before .args .types .now) (c .before .before .args .at) (c .before .before .args .n) (c .before .before .args .starts .now) (c .before .before .args .ends .now) (c .if1 .left) (c .before .before .pre .1)
 
--- src/lib.rt:118:9
 match-pairs-returns-2 : (t : ℕ) → match-pairs-lts.Need-returns-2 (calls-match-pairs t) (match-pairs-at t) match-pairs.Post
 match-pairs-returns-2 t c = λ ps pk. pairs-last ps (c .before .before .before .before .args .types .now) (c .before .before .before .before .args .at) (c .before .before .before .before .args .n) (c .before .before .before .before .args .starts .now) (c .before .before .before .before .args .ends .now) (c .before .before .if1 .left) (c .before .type-end .result) (c .before .type-end .ensures) (c .if2 .taken)
 
--- src/lib.rt:120:9
 match-pairs-match-pattern-requires : (t : ℕ) → match-pairs-lts.Need-match-pattern-requires (calls-match-pairs t) (match-pairs-at t) match-pairs.Post
 match-pairs-match-pattern-requires t c κs = pairs-match (c .before .before .before .before .before .before .pre .1 .ps) (c .before .before .before .before .before .before .args .types .now) (c .before .before .before .before .before .before .args .at) (c .before .before .before .before .before .before .args .n) (c .before .before .before .before .before .before .args .starts .now) (c .before .before .before .before .before .before .args .ends .now) (c .before .before .before .before .if1 .left) (c .before .before .before .before .before .before .pre .1)
 
--- src/lib.rt:122:19
 match-pairs-enum-known-f : (t : ℕ) → match-pairs-lts.Need-enum-known-f (calls-match-pairs t) (match-pairs-at t) match-pairs.Post
 match-pairs-enum-known-f t c = search needs
 
--- src/lib.rt:122:26
 match-pairs-match-pairs-requires : (t : ℕ) → match-pairs-lts.Need-match-pairs-requires (calls-match-pairs t) (match-pairs-at t) match-pairs.Post
 match-pairs-match-pairs-requires t c κs = (omega (arith, pairs-past (c .before .before .before .before .before .before .before .before .before .before .before .before .pre .1 .ps) (c .before .before .before .before .before .before .before .before .before .before .before .before .args .types .now) (c .before .before .before .before .before .before .before .before .before .before .before .before .args .at) (c .before .before .before .before .before .before .before .before .before .before .before .before .args .n) (c .before .before .before .before .before .before .before .before .before .before .before .before .args .starts .now) (c .before .before .before .before .before .before .before .before .before .before .before .before .args .ends .now) (c .before .before .before .before .before .before .before .before .before .before .if1 .left) (c .before .before .before .before .before .before .before .before .before .type-end .result) (c .before .before .before .before .before .before .before .before .before .type-end .ensures) (c .before .before .before .before .before .before .before .before .before .before .before .before .pre .1)), pairs-further (c .before .before .before .before .before .before .before .before .before .before .before .before .pre .1 .ps) (c .before .before .before .before .before .before .before .before .before .before .before .before .args .types .now) (c .before .before .before .before .before .before .before .before .before .before .before .before .args .at) (c .before .before .before .before .before .before .before .before .before .before .before .before .args .n) (c .before .before .before .before .before .before .before .before .before .before .before .before .args .starts .now) (c .before .before .before .before .before .before .before .before .before .before .before .before .args .ends .now) (c .before .before .before .before .before .before .before .before .before .before .if1 .left) (c .before .before .before .before .before .before .before .before .before .type-end .result) (c .before .before .before .before .before .before .before .before .before .type-end .ensures) (c .before .before .before .before .before .before .before .before .if2 .left) _ _ (c .before .before .before .before .before .match-pattern .result) (c .before .before .before .before .before .match-pattern .ensures (c .before .before .before .before .before .before .before .before .before .before .before .before .pre .1 .ps) (c .before .before .before .before .before .before .before .before .before .before .before .before .pre .1 .packed)) _ (c .before .before .before .f .given .1) (c .before .before .before .before .before .before .before .before .before .before .before .before .pre .1))
 
--- src/lib.rt:123:25
 match-pairs-enum-told : (t : ℕ) → match-pairs-lts.Need-enum-told (calls-match-pairs t) (match-pairs-at t) match-pairs.Post
 match-pairs-enum-told t c = search needs
 
--- src/lib.rt:102:1
 match-pairs-returns-3 : (t : ℕ) → match-pairs-lts.Need-returns-3 (calls-match-pairs t) (match-pairs-at t) match-pairs.Post
 match-pairs-returns-3 t c = λ ps pk. pairs-more ps (c .before .before .before .before .before .before .before .before .before .before .before .before .before .args .types .now) (c .before .before .before .before .before .before .before .before .before .before .before .before .before .args .at) (c .before .before .before .before .before .before .before .before .before .before .before .before .before .args .n) (c .before .before .before .before .before .before .before .before .before .before .before .before .before .args .starts .now) (c .before .before .before .before .before .before .before .before .before .before .before .before .before .args .ends .now) (c .before .before .before .before .before .before .before .before .before .before .before .if1 .left) (c .before .before .before .before .before .before .before .before .before .before .type-end .result) (c .before .before .before .before .before .before .before .before .before .before .type-end .ensures) (c .before .before .before .before .before .before .before .before .before .if2 .left) _ _ (c .before .before .before .before .before .before .match-pattern .result) (c .before .before .before .before .before .before .match-pattern .ensures ps pk) _ (c .before .before .before .before .f .given .1) _ _ _ (c .match-pairs .ensures ps pk)
 
--- src/lib.rt:102:1
 match-pairs-returns-4 : (t : ℕ) → match-pairs-lts.Need-returns-4 (calls-match-pairs t) (match-pairs-at t) match-pairs.Post
 match-pairs-returns-4 t c = λ ps pk. pairs-differ ps (c .before .before .before .before .before .before .before .before .before .args .types .now) (c .before .before .before .before .before .before .before .before .before .args .at) (c .before .before .before .before .before .before .before .before .before .args .n) (c .before .before .before .before .before .before .before .before .before .args .starts .now) (c .before .before .before .before .before .before .before .before .before .args .ends .now) (c .before .before .before .before .before .before .before .if1 .left) (c .before .before .before .before .before .before .type-end .result) (c .before .before .before .before .before .before .type-end .ensures) (c .before .before .before .before .before .if2 .left) _ _ (c .before .before .match-pattern .result) (c .before .before .match-pattern .ensures ps pk) (c .enum-told .given .1)
 

@@ -36,123 +36,93 @@ match-pattern-below t =
 abbrev calls-match-pattern : ℕ → match-pattern-lts.Claims
 calls-match-pattern t = (wide-reads.Asked, wide-reads.Learnt, match-pattern-below t, match-pattern.Post, same-bytes-reads.Asked, same-bytes-reads.Learnt, type-end-reads.Asked, type-end-reads.Learnt)
 
--- src/lib.rt:66:9
 match-pattern-returns : (t : ℕ) → match-pattern-lts.Need-returns (calls-match-pattern t) (match-pattern-at t) match-pattern.Post
 match-pattern-returns t c = fit-end (c .before .before .args .p) (c .before .before .args .types .now) (c .before .before .args .at) (c .before .before .args .n) (c .before .before .args .starts .now) (c .before .before .args .ends .now) (c .before .before .args .k) (c .if1 .taken)
 
--- src/lib.rt:69:9
 match-pattern-returns-2 : (t : ℕ) → match-pattern-lts.Need-returns-2 (calls-match-pattern t) (match-pattern-at t) match-pattern.Post
 match-pattern-returns-2 t c = fit-none (c .before .before .before .args .p) (c .before .before .before .args .types .now) (c .before .before .before .args .at) (c .before .before .before .args .n) (c .before .before .before .args .starts .now) (c .before .before .before .args .ends .now) (c .before .before .before .args .k) (c .before .before .before .args .p % 16) refl (c .before .if1 .left) (c .if2 .taken)
 
--- src/lib.rt:72:17
 match-pattern-shared-slice-read-wide : (t : ℕ) → match-pattern-lts.Need-shared-slice-read-wide (calls-match-pattern t) (match-pattern-at t) match-pattern.Post
 match-pattern-shared-slice-read-wide t c = omega (arith, c .before .before .before .before .before .pre .1 .row .span .within)
 
--- src/lib.rt:72:12
 match-pattern-wide-requires : (t : ℕ) → match-pattern-lts.Need-wide-requires (calls-match-pattern t) (match-pattern-at t) match-pattern.Post
 match-pattern-wide-requires t c κs = search needs
 
--- src/lib.rt:73:13
 match-pattern-returns-3 : (t : ℕ) → match-pattern-lts.Need-returns-3 (calls-match-pattern t) (match-pattern-at t) match-pattern.Post
 match-pattern-returns-3 t c = fit-other (c .before .before .before .before .before .before .before .args .p) (c .before .before .before .before .before .before .before .args .types .now) (c .before .before .before .before .before .before .before .args .at) (c .before .before .before .before .before .before .before .args .n) (c .before .before .before .before .before .before .before .args .starts .now) (c .before .before .before .before .before .before .before .args .ends .now) (c .before .before .before .before .before .before .before .args .k) (c .before .before .before .before .before .before .before .args .p % 16) refl (c .before .before .before .before .before .if1 .left) (c .before .before .before .before .if2 .left) (c .before .before .before .if3 .taken) (λ w. c .if4 .taken (c .before .wide .ensures .0 ∙ w))
 
--- src/lib.rt:75:45
 match-pattern-add-match-pattern : (t : ℕ) → match-pattern-lts.Need-add-match-pattern (calls-match-pattern t) (match-pattern-at t) match-pattern.Post
 match-pattern-add-match-pattern t c = omega (arith, c .before .before .before .before .before .before .before .pre .1 .row .span .within)
 
--- src/lib.rt:75:9
 match-pattern-match-pattern-requires : (t : ℕ) → match-pattern-lts.Need-match-pattern-requires (calls-match-pattern t) (match-pattern-at t) match-pattern.Post
 match-pattern-match-pattern-requires t c κs = (omega arith, next-pre (next-fixed (c .before .before .before .before .before .before .before .before .before .args .p) (c .before .before .before .before .before .before .before .before .before .args .types .now) (c .before .before .before .before .before .before .before .before .before .args .at) (c .before .before .before .before .before .before .before .before .before .args .n) (c .before .before .before .before .before .before .before .before .before .args .starts .now) (c .before .before .before .before .before .before .before .before .before .args .ends .now) (c .before .before .before .before .before .before .before .before .before .args .k) (c .before .before .before .before .before .before .before .before .before .args .p % 16) refl (c .before .before .before .before .before .before .before .if1 .left) (c .before .before .before .before .before .before .if2 .left) (c .before .before .before .before .before .if3 .taken) (sym (c .before .before .before .wide .ensures .0) ∙ c .before .before .if4 .left) [] (c .before .before .before .before .before .before .before .before .before .pre .1 .us) (c .before .before .before .before .before .before .before .before .before .pre .1 .ρ) (c .before .before .before .before .before .before .before .before .before .pre .1 .row) (c .before .before .before .before .before .before .before .before .before .pre .1 .env) (c .before .before .before .before .before .before .before .before .before .pre .1 .count)))
 
--- src/lib.rt:75:9
 match-pattern-returns-4 : (t : ℕ) → match-pattern-lts.Need-returns-4 (calls-match-pattern t) (match-pattern-at t) match-pattern.Post
 match-pattern-returns-4 t c = goes-on (c .before .before .before .before .before .before .before .before .before .before .args .p) (c .before .before .before .before .before .before .before .before .before .before .args .types .now) (c .before .before .before .before .before .before .before .before .before .before .args .at) (c .before .before .before .before .before .before .before .before .before .before .args .n) (c .before .before .before .before .before .before .before .before .before .before .args .starts .now) (c .before .before .before .before .before .before .before .before .before .before .args .ends .now) (c .before .before .before .before .before .before .before .before .before .before .args .k) (c .before .before .before .before .before .before .before .before .before .before .args .p % 16) refl (c .before .before .before .before .before .before .before .before .if1 .left) (c .before .before .before .before .before .before .before .if2 .left) _ _ _ _ (next-fixed (c .before .before .before .before .before .before .before .before .before .before .args .p) (c .before .before .before .before .before .before .before .before .before .before .args .types .now) (c .before .before .before .before .before .before .before .before .before .before .args .at) (c .before .before .before .before .before .before .before .before .before .before .args .n) (c .before .before .before .before .before .before .before .before .before .before .args .starts .now) (c .before .before .before .before .before .before .before .before .before .before .args .ends .now) (c .before .before .before .before .before .before .before .before .before .before .args .k) (c .before .before .before .before .before .before .before .before .before .before .args .p % 16) refl (c .before .before .before .before .before .before .before .before .if1 .left) (c .before .before .before .before .before .before .before .if2 .left) (c .before .before .before .before .before .before .if3 .taken) (sym (c .before .before .before .before .wide .ensures .0) ∙ c .before .before .before .if4 .left)) _ _ _ (c .match-pattern .ensures)
 
--- src/lib.rt:78:9
 match-pattern-returns-5 : (t : ℕ) → match-pattern-lts.Need-returns-5 (calls-match-pattern t) (match-pattern-at t) match-pattern.Post
 match-pattern-returns-5 t c = fit-large (c .before .before .before .before .before .args .p) (c .before .before .before .before .before .args .types .now) (c .before .before .before .before .before .args .at) (c .before .before .before .before .before .args .n) (c .before .before .before .before .before .args .starts .now) (c .before .before .before .before .before .args .ends .now) (c .before .before .before .before .before .args .k) (c .before .before .before .before .before .args .p % 16) refl (c .before .before .before .if1 .left) (c .before .before .if2 .left) (c .if5 .taken)
 
--- src/lib.rt:82:20
 match-pattern-mul-from : (t : ℕ) → match-pattern-lts.Need-mul-from (calls-match-pattern t) (match-pattern-at t) match-pattern.Post
 match-pattern-mul-from t c = omega (arith, c .before .before .before .before .before .before .pre .1 .env .few, c .before .before .before .before .before .before .pre .1 .count)
 
--- src/lib.rt:82:20
 match-pattern-element-copy-out-from : (t : ℕ) → match-pattern-lts.Need-element-copy-out-from (calls-match-pattern t) (match-pattern-at t) match-pattern.Post
 match-pattern-element-copy-out-from t c = omega (arith, c .before .before .before .before .before .before .pre .1 .env .few, c .before .before .before .before .before .before .pre .1 .count)
 
--- src/lib.rt:83:19
 match-pattern-mul-len : (t : ℕ) → match-pattern-lts.Need-mul-len (calls-match-pattern t) (match-pattern-at t) match-pattern.Post
 match-pattern-mul-len t c = omega (arith, c .before .before .before .before .before .before .before .pre .1 .env .few, c .before .before .before .before .before .before .before .pre .1 .count)
 
--- src/lib.rt:83:19
 match-pattern-element-copy-out-len : (t : ℕ) → match-pattern-lts.Need-element-copy-out-len (calls-match-pattern t) (match-pattern-at t) match-pattern.Post
 match-pattern-element-copy-out-len t c = omega (arith, c .before .before .before .before .before .before .before .pre .1 .env .few, c .before .before .before .before .before .before .before .pre .1 .count)
 
--- src/lib.rt:83:19
 match-pattern-sub-len : (t : ℕ) → match-pattern-lts.Need-sub-len (calls-match-pattern t) (match-pattern-at t) match-pattern.Post
 match-pattern-sub-len t c = slot-span (c .before .before .before .before .before .before .before .before .pre .1 .env) (c .before .before .before .before .before .before .before .before .pre .1 .count) (c .before .before .before .before .before .before .before .before .args .p % 16 - 5) (c .before .before .if6 .taken) .0
 
--- src/lib.rt:84:12
 match-pattern-sub-if7 : (t : ℕ) → match-pattern-lts.Need-sub-if7 (calls-match-pattern t) (match-pattern-at t) match-pattern.Post
 match-pattern-sub-if7 t c = omega arith
 
--- src/lib.rt:85:13
 match-pattern-returns-6 : (t : ℕ) → match-pattern-lts.Need-returns-6 (calls-match-pattern t) (match-pattern-at t) match-pattern.Post
 match-pattern-returns-6 t c = fit-long (c .before .before .before .before .before .before .before .before .before .args .p) (c .before .before .before .before .before .before .before .before .before .args .types .now) (c .before .before .before .before .before .before .before .before .before .args .at) (c .before .before .before .before .before .before .before .before .before .args .n) (c .before .before .before .before .before .before .before .before .before .args .starts .now) (c .before .before .before .before .before .before .before .before .before .args .ends .now) (c .before .before .before .before .before .before .before .before .before .args .k) (c .before .before .before .before .before .before .before .before .before .args .p % 16) refl (c .before .before .before .before .before .before .before .if1 .left) (c .before .before .before .before .before .before .if2 .left) (c .before .before .before .before .before .if3 .left) (c .before .before .before .before .if5 .left) (c .before .before .before .before .before .before .before .before .before .args .p % 16 - 5) refl (c .before .before .before .if6 .taken) _ _ refl refl (c .if7 .taken)
 
--- src/lib.rt:87:13
 match-pattern-same-bytes-requires : (t : ℕ) → match-pattern-lts.Need-same-bytes-requires (calls-match-pattern t) (match-pattern-at t) match-pattern.Post
 match-pattern-same-bytes-requires t c κs = let w = slot-span (c .before .before .before .before .before .before .before .before .before .pre .1 .env) (c .before .before .before .before .before .before .before .before .before .pre .1 .count) (c .before .before .before .before .before .before .before .before .before .args .p % 16 - 5) (c .before .before .before .if6 .taken) in omega (arith, c .before .before .before .before .before .before .before .before .before .pre .1 .row .span .within)
 
--- src/lib.rt:88:13
 match-pattern-returns-7 : (t : ℕ) → match-pattern-lts.Need-returns-7 (calls-match-pattern t) (match-pattern-at t) match-pattern.Post
 match-pattern-returns-7 t c = fit-differ (c .before .before .before .before .before .before .before .before .before .before .before .args .p) (c .before .before .before .before .before .before .before .before .before .before .before .args .types .now) (c .before .before .before .before .before .before .before .before .before .before .before .args .at) (c .before .before .before .before .before .before .before .before .before .before .before .args .n) (c .before .before .before .before .before .before .before .before .before .before .before .args .starts .now) (c .before .before .before .before .before .before .before .before .before .before .before .args .ends .now) (c .before .before .before .before .before .before .before .before .before .before .before .args .k) (c .before .before .before .before .before .before .before .before .before .before .before .args .p % 16) refl (c .before .before .before .before .before .before .before .before .before .if1 .left) (c .before .before .before .before .before .before .before .before .if2 .left) (c .before .before .before .before .before .before .before .if3 .left) (c .before .before .before .before .before .before .if5 .left) (c .before .before .before .before .before .before .before .before .before .before .before .args .p % 16 - 5) refl (c .before .before .before .before .before .if6 .taken) _ _ refl refl (c .before .same-bytes .result) (c .before .same-bytes .ensures) (not-true _ (c .if8 .taken))
 
--- src/lib.rt:90:45
 match-pattern-add-match-pattern-2 : (t : ℕ) → match-pattern-lts.Need-add-match-pattern-2 (calls-match-pattern t) (match-pattern-at t) match-pattern.Post
 match-pattern-add-match-pattern-2 t c = omega (arith, c .before .before .before .before .before .before .before .before .before .before .before .pre .1 .row .span .within)
 
--- src/lib.rt:90:9
 match-pattern-match-pattern-requires-2 : (t : ℕ) → match-pattern-lts.Need-match-pattern-requires-2 (calls-match-pattern t) (match-pattern-at t) match-pattern.Post
 match-pattern-match-pattern-requires-2 t c κs = (omega (arith, slot-some (c .before .before .before .before .before .before .before .before .before .before .before .before .before .pre .1 .env) (c .before .before .before .before .before .before .before .before .before .before .before .before .before .pre .1 .count) (c .before .before .before .before .before .before .before .before .before .before .before .before .before .args .p % 16 - 5) (c .before .before .before .before .before .before .before .if6 .taken)), next-pre (next-same (c .before .before .before .before .before .before .before .before .before .before .before .before .before .args .p) (c .before .before .before .before .before .before .before .before .before .before .before .before .before .args .types .now) (c .before .before .before .before .before .before .before .before .before .before .before .before .before .args .at) (c .before .before .before .before .before .before .before .before .before .before .before .before .before .args .n) (c .before .before .before .before .before .before .before .before .before .before .before .before .before .args .starts .now) (c .before .before .before .before .before .before .before .before .before .before .before .before .before .args .ends .now) (c .before .before .before .before .before .before .before .before .before .before .before .before .before .args .k) (c .before .before .before .before .before .before .before .before .before .before .before .before .before .args .p % 16) refl (c .before .before .before .before .before .before .before .before .before .before .before .if1 .left) (c .before .before .before .before .before .before .before .before .before .before .if2 .left) (c .before .before .before .before .before .before .before .before .before .if3 .left) (c .before .before .before .before .before .before .before .before .if5 .left) (c .before .before .before .before .before .before .before .before .before .before .before .before .before .args .p % 16 - 5) refl (c .before .before .before .before .before .before .before .if6 .taken) _ _ refl refl (c .before .before .before .before .if7 .left) (c .before .before .before .same-bytes .result) (c .before .before .before .same-bytes .ensures) (not-false _ (c .before .before .if8 .left)) [] (c .before .before .before .before .before .before .before .before .before .before .before .before .before .pre .1 .us) (c .before .before .before .before .before .before .before .before .before .before .before .before .before .pre .1 .ρ) (c .before .before .before .before .before .before .before .before .before .before .before .before .before .pre .1 .row) (c .before .before .before .before .before .before .before .before .before .before .before .before .before .pre .1 .env) (c .before .before .before .before .before .before .before .before .before .before .before .before .before .pre .1 .count)))
 
--- src/lib.rt:90:9
 match-pattern-returns-8 : (t : ℕ) → match-pattern-lts.Need-returns-8 (calls-match-pattern t) (match-pattern-at t) match-pattern.Post
 match-pattern-returns-8 t c = goes-on (c .before .before .before .before .before .before .before .before .before .before .before .before .before .before .args .p) (c .before .before .before .before .before .before .before .before .before .before .before .before .before .before .args .types .now) (c .before .before .before .before .before .before .before .before .before .before .before .before .before .before .args .at) (c .before .before .before .before .before .before .before .before .before .before .before .before .before .before .args .n) (c .before .before .before .before .before .before .before .before .before .before .before .before .before .before .args .starts .now) (c .before .before .before .before .before .before .before .before .before .before .before .before .before .before .args .ends .now) (c .before .before .before .before .before .before .before .before .before .before .before .before .before .before .args .k) (c .before .before .before .before .before .before .before .before .before .before .before .before .before .before .args .p % 16) refl (c .before .before .before .before .before .before .before .before .before .before .before .before .if1 .left) (c .before .before .before .before .before .before .before .before .before .before .before .if2 .left) _ _ _ _ (next-same (c .before .before .before .before .before .before .before .before .before .before .before .before .before .before .args .p) (c .before .before .before .before .before .before .before .before .before .before .before .before .before .before .args .types .now) (c .before .before .before .before .before .before .before .before .before .before .before .before .before .before .args .at) (c .before .before .before .before .before .before .before .before .before .before .before .before .before .before .args .n) (c .before .before .before .before .before .before .before .before .before .before .before .before .before .before .args .starts .now) (c .before .before .before .before .before .before .before .before .before .before .before .before .before .before .args .ends .now) (c .before .before .before .before .before .before .before .before .before .before .before .before .before .before .args .k) (c .before .before .before .before .before .before .before .before .before .before .before .before .before .before .args .p % 16) refl (c .before .before .before .before .before .before .before .before .before .before .before .before .if1 .left) (c .before .before .before .before .before .before .before .before .before .before .before .if2 .left) (c .before .before .before .before .before .before .before .before .before .before .if3 .left) (c .before .before .before .before .before .before .before .before .before .if5 .left) (c .before .before .before .before .before .before .before .before .before .before .before .before .before .before .args .p % 16 - 5) refl (c .before .before .before .before .before .before .before .before .if6 .taken) _ _ refl refl (c .before .before .before .before .before .if7 .left) (c .before .before .before .before .same-bytes .result) (c .before .before .before .before .same-bytes .ensures) (not-false _ (c .before .before .before .if8 .left))) _ _ _ (c .match-pattern2 .ensures)
 
--- src/lib.rt:93:9
 match-pattern-returns-9 : (t : ℕ) → match-pattern-lts.Need-returns-9 (calls-match-pattern t) (match-pattern-at t) match-pattern.Post
 match-pattern-returns-9 t c = fit-gap (c .before .before .before .before .before .before .before .args .p) (c .before .before .before .before .before .before .before .args .types .now) (c .before .before .before .before .before .before .before .args .at) (c .before .before .before .before .before .before .before .args .n) (c .before .before .before .before .before .before .before .args .starts .now) (c .before .before .before .before .before .before .before .args .ends .now) (c .before .before .before .before .before .before .before .args .k) (c .before .before .before .before .before .before .before .args .p % 16) refl (c .before .before .before .before .before .if1 .left) (c .before .before .before .before .if2 .left) (c .before .before .before .if3 .left) (c .before .before .if5 .left) (c .if9 .taken)
 
--- src/lib.rt:95:9
 match-pattern-type-end-requires : (t : ℕ) → match-pattern-lts.Need-type-end-requires (calls-match-pattern t) (match-pattern-at t) match-pattern.Post
 match-pattern-type-end-requires t c κs = first-type (c .before .before .before .before .before .before .before .args .p) (c .before .before .before .before .before .before .before .args .types .now) (c .before .before .before .before .before .before .before .args .at) (c .before .before .before .before .before .before .before .args .n) (c .before .before .before .before .before .before .before .args .starts .now) (c .before .before .before .before .before .before .before .args .ends .now) (c .before .before .before .before .before .before .before .args .k) (c .before .before .before .before .before .before .before .args .p % 16) refl (c .before .before .before .before .before .if1 .left) (c .before .before .before .before .if2 .left) (c .before .before .before .before .before .before .before .pre .1 .us) (c .before .before .before .before .before .before .before .pre .1 .ρ) (c .before .before .before .before .before .before .before .pre .1 .row) (c .before .before .before .before .before .before .before .pre .1 .env) (c .before .before .before .before .before .before .before .pre .1 .count)
 
--- src/lib.rt:96:5
 match-pattern-mul-starts : (t : ℕ) → match-pattern-lts.Need-mul-starts (calls-match-pattern t) (match-pattern-at t) match-pattern.Post
 match-pattern-mul-starts t c = omega arith
 
--- src/lib.rt:96:5
 match-pattern-element-write-starts : (t : ℕ) → match-pattern-lts.Need-element-write-starts (calls-match-pattern t) (match-pattern-at t) match-pattern.Post
 match-pattern-element-write-starts t c = omega arith
 
--- src/lib.rt:97:5
 match-pattern-mul-ends : (t : ℕ) → match-pattern-lts.Need-mul-ends (calls-match-pattern t) (match-pattern-at t) match-pattern.Post
 match-pattern-mul-ends t c = omega arith
 
--- src/lib.rt:97:5
 match-pattern-element-write-ends : (t : ℕ) → match-pattern-lts.Need-element-write-ends (calls-match-pattern t) (match-pattern-at t) match-pattern.Post
 match-pattern-element-write-ends t c = omega arith
 
--- src/lib.rt:98:54
 match-pattern-add-match-pattern-3 : (t : ℕ) → match-pattern-lts.Need-add-match-pattern-3 (calls-match-pattern t) (match-pattern-at t) match-pattern.Post
 match-pattern-add-match-pattern-3 t c = omega (arith, c .before .before .before .before .before .before .before .before .before .before .pre .1 .env .few, c .before .before .before .before .before .before .before .before .before .before .pre .1 .count)
 
--- src/lib.rt:98:5
 match-pattern-match-pattern-requires-3 : (t : ℕ) → match-pattern-lts.Need-match-pattern-requires-3 (calls-match-pattern t) (match-pattern-at t) match-pattern.Post
 match-pattern-match-pattern-requires-3 t c κs = (omega (arith, first-past (c .before .before .before .before .before .before .before .before .before .before .args .p) (c .before .before .before .before .before .before .before .before .before .before .args .types .now) (c .before .before .before .before .before .before .before .before .before .before .args .at) (c .before .before .before .before .before .before .before .before .before .before .args .n) (c .before .before .before .before .before .before .before .before .before .before .args .starts .now) (c .before .before .before .before .before .before .before .before .before .before .args .ends .now) (c .before .before .before .before .before .before .before .before .before .before .args .k) (c .before .before .before .before .before .before .before .before .before .before .args .p % 16) refl (c .before .before .before .before .before .before .before .before .if1 .left) (c .before .before .before .before .before .before .before .if2 .left) (c .before .before .type-end .result) (c .before .before .type-end .ensures) (c .before .before .before .before .before .before .before .before .before .before .pre .1 .us) (c .before .before .before .before .before .before .before .before .before .before .pre .1 .row)), next-pre (next-new (c .before .before .before .before .before .before .before .before .before .before .args .p) (c .before .before .before .before .before .before .before .before .before .before .args .types .now) (c .before .before .before .before .before .before .before .before .before .before .args .at) (c .before .before .before .before .before .before .before .before .before .before .args .n) (c .before .before .before .before .before .before .before .before .before .before .args .starts .now) (c .before .before .before .before .before .before .before .before .before .before .args .ends .now) (c .before .before .before .before .before .before .before .before .before .before .args .k) (c .before .before .before .before .before .before .before .before .before .before .args .p % 16) refl (c .before .before .before .before .before .before .before .before .if1 .left) (c .before .before .before .before .before .before .before .if2 .left) (c .before .before .before .before .before .before .if3 .left) (c .before .before .before .before .before .if5 .left) (c .before .before .before .before .before .before .before .before .before .before .args .p % 16 - 5) refl (omega arith) (c .before .before .type-end .result) (c .before .before .type-end .ensures) [] (c .before .before .before .before .before .before .before .before .before .before .pre .1 .us) (c .before .before .before .before .before .before .before .before .before .before .pre .1 .ρ) (c .before .before .before .before .before .before .before .before .before .before .pre .1 .row) (c .before .before .before .before .before .before .before .before .before .before .pre .1 .env) (c .before .before .before .before .before .before .before .before .before .before .pre .1 .count)))
 
--- src/lib.rt:52:1
 match-pattern-returns-10 : (t : ℕ) → match-pattern-lts.Need-returns-10 (calls-match-pattern t) (match-pattern-at t) match-pattern.Post
 match-pattern-returns-10 t c = goes-on (c .before .before .before .before .before .before .before .before .before .before .before .args .p) (c .before .before .before .before .before .before .before .before .before .before .before .args .types .now) (c .before .before .before .before .before .before .before .before .before .before .before .args .at) (c .before .before .before .before .before .before .before .before .before .before .before .args .n) (c .before .before .before .before .before .before .before .before .before .before .before .args .starts .now) (c .before .before .before .before .before .before .before .before .before .before .before .args .ends .now) (c .before .before .before .before .before .before .before .before .before .before .before .args .k) (c .before .before .before .before .before .before .before .before .before .before .before .args .p % 16) refl (c .before .before .before .before .before .before .before .before .before .if1 .left) (c .before .before .before .before .before .before .before .before .if2 .left) _ _ _ _ (next-new (c .before .before .before .before .before .before .before .before .before .before .before .args .p) (c .before .before .before .before .before .before .before .before .before .before .before .args .types .now) (c .before .before .before .before .before .before .before .before .before .before .before .args .at) (c .before .before .before .before .before .before .before .before .before .before .before .args .n) (c .before .before .before .before .before .before .before .before .before .before .before .args .starts .now) (c .before .before .before .before .before .before .before .before .before .before .before .args .ends .now) (c .before .before .before .before .before .before .before .before .before .before .before .args .k) (c .before .before .before .before .before .before .before .before .before .before .before .args .p % 16) refl (c .before .before .before .before .before .before .before .before .before .if1 .left) (c .before .before .before .before .before .before .before .before .if2 .left) (c .before .before .before .before .before .before .before .if3 .left) (c .before .before .before .before .before .before .if5 .left) (c .before .before .before .before .before .before .before .before .before .before .before .args .p % 16 - 5) refl (omega arith) (c .before .before .before .type-end .result) (c .before .before .before .type-end .ensures)) _ _ _ (c .match-pattern3 .ensures)
 

@@ -9,23 +9,18 @@ use borrow.Author.Needs.{needs}
 use Rattle.patterns.proofs.judge_types.Statement.{statement}
 use Rattle.patterns.proofs.judge_types.Tie as tie
 
--- src/lib.rt:170:9
 rule-of-requires : tie.Need-rule-of-requires
 rule-of-requires c κs = search needs
 
--- src/lib.rt:171:16
 row-word-requires : tie.Need-row-word-requires
 row-word-requires c κs = search needs
 
--- src/lib.rt:171:39
 mul-row : tie.Need-mul-row
 mul-row c = search needs
 
--- src/lib.rt:171:16
 shr-row : tie.Need-shr-row
 shr-row c = search needs
 
--- src/lib.rt:174:9
 pattern-requires : tie.Need-pattern-requires
 pattern-requires c κs = search needs
 
@@ -33,23 +28,18 @@ pattern-requires c κs = search needs
 row : (c : tie.After-row-word) → RowOf (ruleAt (classOf (c .before .before .before .args .tag))) (c .row-word .result / 2 ^ (32 * (c .before .rule-of .result % 2)) % 4294967296)
 row c = rule-row (classOf (c .before .before .before .args .tag)) _ _ (c .before .rule-of .ensures .0) (c .row-word .ensures)
 
--- src/lib.rt:175:9
 match-pairs-requires : tie.Need-match-pairs-requires
 match-pairs-requires c κs = pairs-pre ((ruleAt (classOf (c .before .before .before .before .before .before .before .args .tag))) .pair) _ (pair-packed (row (c .before .before .before .before)) (c .before .before .before .pattern .result) (c .before .before .before .pattern .ensures)) (record { from = refl; to = refl }) (c .before .before .before .before .before .before .before .pre)
 
--- src/lib.rt:176:21
 enum-known-pairs : tie.Need-enum-known-pairs
 enum-known-pairs c = search needs
 
--- src/lib.rt:177:9
 enum-told : tie.Need-enum-told
 enum-told c = search needs
 
--- src/lib.rt:177:9
 same-length : tie.Need-same-length
 same-length c = search needs
 
--- src/lib.rt:177:9
 returns : tie.Need-returns
 returns c = judge-unpaired (record { from = refl; to = refl }) (c .before .before .match-pairs .ensures _ (pair-packed (row (c .before .before .before .before .before .before .before)) (c .before .before .before .before .before .before .pattern .result) (c .before .before .before .before .before .before .pattern .ensures))) (c .enum-told .given .1) _
 
@@ -57,27 +47,21 @@ returns c = judge-unpaired (record { from = refl; to = refl }) (c .before .befor
 paired : (c : tie.After-pairs) → Paired (ruleAt (classOf (c .before .before .before .before .before .before .before .before .before .before .args .tag))) (c .before .before .before .before .before .before .before .before .before .before .args .types .now) (c .before .before .before .before .before .before .before .before .before .before .args .from) (c .before .before .before .before .before .before .before .before .before .before .args .n) (c .before .before .match-pairs .last .1 .1 .1 .1 .0) (c .before .before .match-pairs .last .1 .1 .1 .1 .1 .0) (c .pairs .given .0 .0)
 paired c = paired-by (record { from = refl; to = refl }) (c .before .before .match-pairs .ensures _ (pair-packed (row (c .before .before .before .before .before .before .before)) (c .before .before .before .before .before .before .pattern .result) (c .before .before .before .before .before .before .pattern .ensures))) (c .pairs .given .1)
 
--- src/lib.rt:179:9
 pattern-requires-2 : tie.Need-pattern-requires-2
 pattern-requires-2 c κs = search needs
 
--- src/lib.rt:180:9
 match-pattern-requires : tie.Need-match-pattern-requires
 match-pattern-requires c κs = first-pre (paired (c .before .before .before .before .before)) (c .before .before .before .before .before .before .before .before .before .before .before .before .before .before .before .pre)
 
--- src/lib.rt:181:19
 enum-known-first : tie.Need-enum-known-first
 enum-known-first c = search needs
 
--- src/lib.rt:182:9
 enum-told-2 : tie.Need-enum-told-2
 enum-told-2 c = search needs
 
--- src/lib.rt:182:9
 same-length-2 : tie.Need-same-length-2
 same-length-2 c = search needs
 
--- src/lib.rt:182:9
 returns-2 : tie.Need-returns-2
 returns-2 c = judge-first-off (paired (c .before .before .before .before .before .before .before .before)) (c .before .before .match-pattern .ensures _ (first-packed (row (c .before .before .before .before .before .before .before .before .before .before .before .before .before .before .before)) (c .before .before .before .before .before .before .pattern2 .result) (c .before .before .before .before .before .before .pattern2 .ensures))) (c .enum-told2 .given .1) _
 
@@ -85,27 +69,21 @@ returns-2 c = judge-first-off (paired (c .before .before .before .before .before
 fitted : (c : tie.After-first) → Fitted (ruleAt (classOf (c .before .before .before .before .before .before .before .before .before .before .before .before .before .before .before .before .before .before .args .tag))) (c .before .before .before .before .before .before .before .before .before .before .before .before .before .before .before .before .before .before .args .types .now) (c .before .before .before .before .before .before .before .before .before .before .before .before .before .before .before .before .before .before .args .from) (c .before .before .before .before .before .before .before .before .before .before .before .before .before .before .before .before .before .before .args .n) (c .before .before .match-pattern .last .1 .1 .1 .1 .0) (c .before .before .match-pattern .last .1 .1 .1 .1 .1 .0) (c .before .before .before .before .before .before .before .before .pairs .given .0 .0) (c .first .given .0 .0)
 fitted c = fitted-by (paired (c .before .before .before .before .before .before .before .before)) (c .before .before .match-pattern .ensures _ (first-packed (row (c .before .before .before .before .before .before .before .before .before .before .before .before .before .before .before)) (c .before .before .before .before .before .before .pattern2 .result) (c .before .before .before .before .before .before .pattern2 .ensures))) (c .first .given .1)
 
--- src/lib.rt:184:9
 pattern-requires-3 : tie.Need-pattern-requires-3
 pattern-requires-3 c κs = search needs
 
--- src/lib.rt:185:9
 match-pattern-requires-2 : tie.Need-match-pattern-requires-2
 match-pattern-requires-2 c κs = last-pre (fitted (c .before .before .before .before .before)) (c .before .before .before .before .before .before .before .before .before .before .before .before .before .before .before .before .before .before .before .before .before .before .before .pre)
 
--- src/lib.rt:186:19
 enum-known-second : tie.Need-enum-known-second
 enum-known-second c = search needs
 
--- src/lib.rt:187:9
 enum-told-3 : tie.Need-enum-told-3
 enum-told-3 c = search needs
 
--- src/lib.rt:187:9
 same-length-3 : tie.Need-same-length-3
 same-length-3 c = search needs
 
--- src/lib.rt:187:9
 returns-3 : tie.Need-returns-3
 returns-3 c = judge-last-off (fitted (c .before .before .before .before .before .before .before .before)) (c .before .before .match-pattern2 .ensures _ (last-packed (row (c .before .before .before .before .before .before .before .before .before .before .before .before .before .before .before .before .before .before .before .before .before .before .before)) (c .before .before .before .before .before .before .pattern3 .result) (c .before .before .before .before .before .before .pattern3 .ensures))) (c .enum-told3 .given .1) _
 
@@ -113,31 +91,24 @@ returns-3 c = judge-last-off (fitted (c .before .before .before .before .before 
 lasted : (c : tie.After-second) → Lasted (ruleAt (classOf (c .before .before .before .before .before .before .before .before .before .before .before .before .before .before .before .before .before .before .before .before .before .before .before .before .before .before .args .tag))) (c .before .before .before .before .before .before .before .before .before .before .before .before .before .before .before .before .before .before .before .before .before .before .before .before .before .before .args .types .now) (c .before .before .before .before .before .before .before .before .before .before .before .before .before .before .before .before .before .before .before .before .before .before .before .before .before .before .args .from) (c .before .before .before .before .before .before .before .before .before .before .before .before .before .before .before .before .before .before .before .before .before .before .before .before .before .before .args .n) (c .before .before .match-pattern2 .last .1 .1 .1 .1 .0) (c .before .before .match-pattern2 .last .1 .1 .1 .1 .1 .0) (c .second .given .0 .0)
 lasted c = lasted-by (fitted (c .before .before .before .before .before .before .before .before)) (c .before .before .match-pattern2 .ensures _ (last-packed (row (c .before .before .before .before .before .before .before .before .before .before .before .before .before .before .before .before .before .before .before .before .before .before .before)) (c .before .before .before .before .before .before .pattern3 .result) (c .before .before .before .before .before .before .pattern3 .ensures))) (c .second .given .1)
 
--- src/lib.rt:189:9
 pattern-requires-4 : tie.Need-pattern-requires-4
 pattern-requires-4 c κs = search needs
 
--- src/lib.rt:190:53
 add-fill-pattern : tie.Need-add-fill-pattern
 add-fill-pattern c = omega (arith, c .before .before .before .before .before .before .before .before .before .before .before .before .before .before .before .before .before .before .before .before .before .before .before .before .before .before .before .before .before .pre .room, c .before .before .before .before .before .before .before .before .before .before .before .before .before .before .before .before .before .before .before .before .before .before .before .before .before .before .before .before .before .good)
 
--- src/lib.rt:190:9
 fill-pattern-requires : tie.Need-fill-pattern-requires
 fill-pattern-requires c κs = fill-pre (lasted (c .before .before .before .before .before)) (c .before .before .before .before .before .before .before .before .before .before .before .before .before .before .before .before .before .before .before .before .before .before .before .before .before .before .before .before .before .before .before .pre)
 
--- src/lib.rt:191:20
 enum-known-filled : tie.Need-enum-known-filled
 enum-known-filled c = search needs
 
--- src/lib.rt:192:9
 enum-told-4 : tie.Need-enum-told-4
 enum-told-4 c = search needs
 
--- src/lib.rt:192:9
 same-length-4 : tie.Need-same-length-4
 same-length-4 c = search needs
 
--- src/lib.rt:192:9
 returns-4 : tie.Need-returns-4
 returns-4 c = judge-over (lasted (c .before .before .before .before .before .before .before .before .before .before)) (c .before .before .before .before .fill-pattern .ensures _ (result-packed (row (c .before .before .before .before .before .before .before .before .before .before .before .before .before .before .before .before .before .before .before .before .before .before .before .before .before .before .before .before .before .before .before .before .before)) (c .before .before .before .before .before .before .before .before .pattern4 .result) (c .before .before .before .before .before .before .before .before .pattern4 .ensures))) (c .enum-told4 .given .1) _
 
@@ -145,23 +116,18 @@ returns-4 c = judge-over (lasted (c .before .before .before .before .before .bef
 done : (c : tie.After-filled) → Done (ruleAt (classOf (c .before .before .before .before .before .before .before .before .before .before .before .before .before .before .before .before .before .before .before .before .before .before .before .before .before .before .before .before .before .before .before .before .before .before .before .before .args .tag))) (c .before .before .before .before .before .before .before .before .before .before .before .before .before .before .before .before .before .before .before .before .before .before .before .before .before .before .before .before .before .before .before .before .before .before .before .before .args .types .now) (c .before .before .before .before .before .before .before .before .before .before .before .before .before .before .before .before .before .before .before .before .before .before .before .before .before .before .before .before .before .before .before .before .before .before .before .before .args .from) (c .before .before .before .before .before .before .before .before .before .before .before .before .before .before .before .before .before .before .before .before .before .before .before .before .before .before .before .before .before .before .before .before .before .before .before .before .args .n) (c .before .before .before .before .fill-pattern .last .1 .0) (c .filled .given .0 .0)
 done c = done-by (lasted (c .before .before .before .before .before .before .before .before .before .before)) (c .before .before .before .before .fill-pattern .ensures _ (result-packed (row (c .before .before .before .before .before .before .before .before .before .before .before .before .before .before .before .before .before .before .before .before .before .before .before .before .before .before .before .before .before .before .before .before .before)) (c .before .before .before .before .before .before .before .before .pattern4 .result) (c .before .before .before .before .before .before .before .before .pattern4 .ensures))) (c .filled .given .1)
 
--- src/lib.rt:194:5
 copy-within-requires : tie.Need-copy-within-requires
 copy-within-requires c κs = copy-pre (done (c .before .before)) (c .before .before .before .before .before .before .before .before .before .before .before .before .before .before .before .before .before .before .before .before .before .before .before .before .before .before .before .before .before .before .before .before .before .before .before .before .before .before .pre)
 
--- src/lib.rt:195:23
 sub-t25 : tie.Need-sub-t25
 sub-t25 c = copy-pre (done (c .before .before .before .before .before)) (c .before .before .before .before .before .before .before .before .before .before .before .before .before .before .before .before .before .before .before .before .before .before .before .before .before .before .before .before .before .before .before .before .before .before .before .before .before .before .before .before .before .pre) .0
 
--- src/lib.rt:195:15
 add-t22 : tie.Need-add-t22
 add-t22 c = let p = copy-pre (done (c .before .before .before .before .before)) (c .before .before .before .before .before .before .before .before .before .before .before .before .before .before .before .before .before .before .before .before .before .before .before .before .before .before .before .before .before .before .before .before .before .before .before .before .before .before .before .before .before .pre) in omega (arith, c .before .before .before .before .before .before .before .before .before .before .before .before .before .before .before .before .before .before .before .before .before .before .before .before .before .before .before .before .before .before .before .before .before .before .before .before .before .before .before .before .before .good, c .before .before .before .before .before .before .before .before .before .before .before .before .before .before .before .before .before .before .before .before .before .before .before .before .before .before .before .before .before .before .before .before .before .before .before .before .before .before .before .before .before .pre .row .span .long, c .before .before .before .before .before .before .before .before .before .before .before .before .before .before .before .before .before .before .before .before .before .before .before .before .before .before .before .before .before .before .before .before .before .before .before .before .before .before .before .before .before .pre .room, p .1, p .2)
 
--- src/lib.rt:166:1
 same-length-5 : tie.Need-same-length-5
 same-length-5 c = search needs
 
--- src/lib.rt:166:1
 returns-5 : tie.Need-returns-5
 returns-5 c = judge-typed (done (c .before .before .before .before .before)) _ (c .before .before .copy-within .ensures)
 

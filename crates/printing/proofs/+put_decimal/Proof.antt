@@ -28,47 +28,36 @@ put-decimal-below t =
 abbrev calls-put-decimal : ℕ → put-decimal-lts.Claims
 calls-put-decimal t = (put-byte-reads.Asked, put-byte-reads.Learnt, put-decimal-below t, put-decimal.Post)
 
--- src/lib.rt:38:39
 put-decimal-cast-put-byte : (t : ℕ) → put-decimal-lts.Need-cast-put-byte (calls-put-decimal t) (put-decimal-at t) put-decimal.Post
 put-decimal-cast-put-byte t c = omega arith
 
--- src/lib.rt:38:34
 put-decimal-add-put-byte : (t : ℕ) → put-decimal-lts.Need-add-put-byte (calls-put-decimal t) (put-decimal-at t) put-decimal.Post
 put-decimal-add-put-byte t c = omega arith
 
--- src/lib.rt:38:9
 put-decimal-put-byte-requires : (t : ℕ) → put-decimal-lts.Need-put-byte-requires (calls-put-decimal t) (put-decimal-at t) put-decimal.Post
 put-decimal-put-byte-requires t c κs = omega (arith, decimal-single (c .before .before .before .args .n) (c .before .if1 .taken))
 
--- src/lib.rt:38:9
 put-decimal-same-length : (t : ℕ) → put-decimal-lts.Need-same-length (calls-put-decimal t) (put-decimal-at t) put-decimal.Post
 put-decimal-same-length t c = search needs
 
--- src/lib.rt:38:9
 put-decimal-returns : (t : ℕ) → put-decimal-lts.Need-returns (calls-put-decimal t) (put-decimal-at t) put-decimal.Post
 put-decimal-returns t c = appends-as _ _ _ _ _ _ (sym (decimal-one _ (c .before .before .before .before .if1 .taken))) (c .before .before .put-byte .ensures)
 
--- src/lib.rt:40:9
 put-decimal-put-decimal-requires : (t : ℕ) → put-decimal-lts.Need-put-decimal-requires (calls-put-decimal t) (put-decimal-at t) put-decimal.Post
 put-decimal-put-decimal-requires t c κs = (omega arith, omega (arith, decimal-length (c .before .before .before .args .n) (c .before .if1 .left)))
 
--- src/lib.rt:41:29
 put-decimal-cast-put-byte-2 : (t : ℕ) → put-decimal-lts.Need-cast-put-byte-2 (calls-put-decimal t) (put-decimal-at t) put-decimal.Post
 put-decimal-cast-put-byte-2 t c = omega arith
 
--- src/lib.rt:41:24
 put-decimal-add-put-byte-2 : (t : ℕ) → put-decimal-lts.Need-add-put-byte-2 (calls-put-decimal t) (put-decimal-at t) put-decimal.Post
 put-decimal-add-put-byte-2 t c = omega arith
 
--- src/lib.rt:41:5
 put-decimal-put-byte-requires-2 : (t : ℕ) → put-decimal-lts.Need-put-byte-requires-2 (calls-put-decimal t) (put-decimal-at t) put-decimal.Post
 put-decimal-put-byte-requires-2 t c κs = omega (arith, decimal-length (c .before .before .before .before .before .before .before .args .n) (c .before .before .before .before .before .if1 .left), c .before .before .before .put-decimal .ensures .after)
 
--- src/lib.rt:33:1
 put-decimal-same-length-2 : (t : ℕ) → put-decimal-lts.Need-same-length-2 (calls-put-decimal t) (put-decimal-at t) put-decimal.Post
 put-decimal-same-length-2 t c = search needs
 
--- src/lib.rt:33:1
 put-decimal-returns-2 : (t : ℕ) → put-decimal-lts.Need-returns-2 (calls-put-decimal t) (put-decimal-at t) put-decimal.Post
 put-decimal-returns-2 t c = appends-as _ _ _ _ _ _ (sym (decimal-more _ (c .before .before .before .before .before .before .before .before .if1 .left))) (appends-then _ _ _ _ _ _ _ _ (c .before .before .before .before .before .before .put-decimal .ensures) (c .before .before .put-byte2 .ensures))
 

@@ -6,35 +6,27 @@ use borrow.Author.Needs.{needs}
 use Rattle.printing.proofs.put_ended.Statement.{statement}
 use Rattle.printing.proofs.put_ended.Tie as tie
 
--- src/lib.rt:58:9
 put-text-requires : tie.Need-put-text-requires
 put-text-requires c κs = omega (arith, ended-length (now (c .before .before .before .before .args .word)) (c .before .before .before .before .args .count) (now (c .before .before .before .before .args .frame)))
 
--- src/lib.rt:59:9
 put-byte-requires : tie.Need-put-byte-requires
 put-byte-requires c κs = omega (arith, ended-length (now (c .before .before .before .before .before .before .before .before .args .word)) (c .before .before .before .before .before .before .before .before .args .count) (now (c .before .before .before .before .before .before .before .before .args .frame)), c .before .before .before .put-text .ensures .after)
 
--- src/lib.rt:60:9
 put-decimal-requires : tie.Need-put-decimal-requires
 put-decimal-requires c κs = omega (arith, ended-length (now (c .before .before .before .before .before .before .before .before .before .before .before .before .args .word)) (c .before .before .before .before .before .before .before .before .before .before .before .before .args .count) (now (c .before .before .before .before .before .before .before .before .before .before .before .before .args .frame)), c .before .before .before .before .before .before .before .put-text .ensures .after, c .before .before .before .put-byte .ensures .after)
 
--- src/lib.rt:61:9
 put-byte-requires-2 : tie.Need-put-byte-requires-2
 put-byte-requires-2 c κs = omega (arith, ended-length (now (c .before .before .before .before .before .before .before .before .before .before .before .before .before .before .before .before .args .word)) (c .before .before .before .before .before .before .before .before .before .before .before .before .before .before .before .before .args .count) (now (c .before .before .before .before .before .before .before .before .before .before .before .before .before .before .before .before .args .frame)), c .before .before .before .before .before .before .before .before .before .before .before .put-text .ensures .after, c .before .before .before .before .before .before .before .put-byte .ensures .after, c .before .before .before .put-decimal .ensures .after)
 
--- src/lib.rt:62:9
 put-frame-requires : tie.Need-put-frame-requires
 put-frame-requires c κs = omega (arith, ended-length (now (c .before .before .before .before .before .before .before .before .before .before .before .before .before .before .before .before .before .before .before .before .args .word)) (c .before .before .before .before .before .before .before .before .before .before .before .before .before .before .before .before .before .before .before .before .args .count) (now (c .before .before .before .before .before .before .before .before .before .before .before .before .before .before .before .before .before .before .before .before .args .frame)), c .before .before .before .before .before .before .before .before .before .before .before .before .before .before .before .put-text .ensures .after, c .before .before .before .before .before .before .before .before .before .before .before .put-byte .ensures .after, c .before .before .before .before .before .before .before .put-decimal .ensures .after, c .before .before .before .put-byte2 .ensures .after)
 
--- src/lib.rt:63:5
 put-byte-requires-3 : tie.Need-put-byte-requires-3
 put-byte-requires-3 c κs = omega (arith, ended-length (now (c .before .before .before .before .before .before .before .before .before .before .before .before .before .before .before .before .before .before .before .before .before .before .before .before .args .word)) (c .before .before .before .before .before .before .before .before .before .before .before .before .before .before .before .before .before .before .before .before .before .before .before .before .args .count) (now (c .before .before .before .before .before .before .before .before .before .before .before .before .before .before .before .before .before .before .before .before .before .before .before .before .args .frame)), c .before .before .before .before .before .before .before .before .before .before .before .before .before .before .before .before .before .before .before .put-text .ensures .after, c .before .before .before .before .before .before .before .before .before .before .before .before .before .before .before .put-byte .ensures .after, c .before .before .before .before .before .before .before .before .before .before .before .put-decimal .ensures .after, c .before .before .before .before .before .before .before .put-byte2 .ensures .after, c .before .before .before .put-frame .ensures .after)
 
--- src/lib.rt:54:1
 same-length : tie.Need-same-length
 same-length c = search needs
 
--- src/lib.rt:54:1
 returns : tie.Need-returns
 unfolding endedText
 returns c = appends-then _ _ _ _ _ _ _ _ (appends-then _ _ _ _ _ _ _ _ (appends-then _ _ _ _ _ _ _ _ (appends-then _ _ _ _ _ _ _ _ (appends-then _ _ _ _ _ _ _ _ (c .before .before .before .before .before .before .before .before .before .before .before .before .before .before .before .before .before .before .before .before .before .before .put-text .ensures) (c .before .before .before .before .before .before .before .before .before .before .before .before .before .before .before .before .before .before .put-byte .ensures)) (c .before .before .before .before .before .before .before .before .before .before .before .before .before .before .put-decimal .ensures)) (c .before .before .before .before .before .before .before .before .before .before .put-byte2 .ensures)) (c .before .before .before .before .before .before .put-frame .ensures)) (c .before .before .put-byte3 .ensures)

@@ -5,31 +5,24 @@ use borrow.Author.Needs.{needs}
 use Rattle.printing.proofs.put_refused.Statement.{statement}
 use Rattle.printing.proofs.put_refused.Tie as tie
 
--- src/lib.rt:71:31
 slice-aggregate-put-text : tie.Need-slice-aggregate-put-text
 slice-aggregate-put-text c = search needs
 
--- src/lib.rt:71:9
 put-text-requires : tie.Need-put-text-requires
 put-text-requires c κs = omega (arith, refused-length (c .before .before .before .args .number))
 
--- src/lib.rt:72:9
 put-byte-requires : tie.Need-put-byte-requires
 put-byte-requires c κs = omega (arith, refused-length (c .before .before .before .before .before .before .before .args .number), c .before .before .before .put-text .ensures .after)
 
--- src/lib.rt:73:9
 put-decimal-requires : tie.Need-put-decimal-requires
 put-decimal-requires c κs = omega (arith, refused-length (c .before .before .before .before .before .before .before .before .before .before .before .args .number), c .before .before .before .before .before .before .before .put-text .ensures .after, c .before .before .before .put-byte .ensures .after)
 
--- src/lib.rt:74:5
 put-byte-requires-2 : tie.Need-put-byte-requires-2
 put-byte-requires-2 c κs = omega (arith, refused-length (c .before .before .before .before .before .before .before .before .before .before .before .before .before .before .before .args .number), c .before .before .before .before .before .before .before .before .before .before .before .put-text .ensures .after, c .before .before .before .before .before .before .before .put-byte .ensures .after, c .before .before .before .put-decimal .ensures .after)
 
--- src/lib.rt:67:1
 same-length : tie.Need-same-length
 same-length c = search needs
 
--- src/lib.rt:67:1
 returns : tie.Need-returns
 unfolding refusedText
 returns c = appends-then _ _ _ _ _ _ _ _ (appends-then _ _ _ _ _ _ _ _ (appends-then _ _ _ _ _ _ _ _ (c .before .before .before .before .before .before .before .before .before .before .before .before .before .before .put-text .ensures) (c .before .before .before .before .before .before .before .before .before .before .put-byte .ensures)) (c .before .before .before .before .before .before .put-decimal .ensures)) (c .before .before .put-byte2 .ensures)

@@ -15,43 +15,33 @@ Inv-loop out₀ at text i₀ out i = (i ≤ length text) × (out ≡ sets out₀
 abbrev μ-loop : tie.MeasureT-loop
 μ-loop out₀ at text i₀ out i = length text - i
 
--- src/lib.rt:25:5
 loop-holds : tie.Need-loop-holds Inv-loop μ-loop
 loop-holds c = (omega arith, refl)
 
--- src/lib.rt:26:23
 shared-slice-read-out : tie.Need-shared-slice-read-out Inv-loop μ-loop
 shared-slice-read-out c = omega arith
 
--- src/lib.rt:26:13
 add-out : tie.Need-add-out Inv-loop μ-loop
 add-out c = omega arith
 
--- src/lib.rt:26:9
 slice-write-out : tie.Need-slice-write-out Inv-loop μ-loop
 slice-write-out c = omega (arith, ap (λ (l : List ℕ). length l) (c .before .before .loop .inv .1) ∙ length-sets (now (c .before .before .before .args .out)) (c .before .before .before .args .at) (take (c .before .before .loop .i) (now (c .before .before .before .args .text))))
 
--- src/lib.rt:27:9
 add-i : tie.Need-add-i Inv-loop μ-loop
 add-i c = omega arith
 
--- src/lib.rt:25:5
 loop-less : tie.Need-loop-less Inv-loop μ-loop
 loop-less c = omega arith
 
--- src/lib.rt:25:5
 loop-again : tie.Need-loop-again Inv-loop μ-loop
 loop-again c = (omega arith, text-more _ _ _ _ _ (c .before .loop-test .taken) (c .before .before .loop .inv .1))
 
--- src/lib.rt:29:5
 add-result : tie.Need-add-result Inv-loop μ-loop
 add-result c = omega arith
 
--- src/lib.rt:20:1
 same-length : tie.Need-same-length Inv-loop μ-loop
 same-length c = ap (λ (l : List ℕ). length l) (c .before .loop .inv .1) ∙ length-sets (now (c .before .before .args .out)) (c .before .before .args .at) (take (c .before .loop .i) (now (c .before .before .args .text)))
 
--- src/lib.rt:20:1
 returns : tie.Need-returns Inv-loop μ-loop
 returns c = text-all _ _ _ _ _ (omega arith) (c .before .loop .inv .1)
 

@@ -3,19 +3,15 @@ use borrow.Author.Needs.{needs}
 use Rattle.put.proofs.put_byte.Statement.{statement}
 use Rattle.put.proofs.put_byte.Tie as tie
 
--- src/lib.rt:16:9
 element-write-out : tie.Need-element-write-out
 element-write-out c = search needs
 
--- src/lib.rt:17:16
 add-result : tie.Need-add-result
 add-result c = search needs
 
--- src/lib.rt:17:9
 returns : tie.Need-returns
 returns c = put-in _ _ _ (c .if1 .taken)
 
--- src/lib.rt:12:1
 returns-2 : tie.Need-returns-2
 returns-2 c = put-over _ _ _ (c .if1 .left)
 

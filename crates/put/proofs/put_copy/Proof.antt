@@ -14,31 +14,24 @@ Inv-loop out₀ n s a b i₀ m₀ out i m = (a ≤ i) × (i ≤ b) × (b ≤ len
 abbrev μ-loop : tie.MeasureT-loop
 μ-loop out₀ n s a b i₀ m₀ out i m = b - i
 
--- src/lib.rt:38:5
 loop-holds : tie.Need-loop-holds Inv-loop μ-loop
 loop-holds c = (omega arith, omega arith, omega arith, copy-none (now (c .before .args .s)) (c .before .args .a) _ _)
 
--- src/lib.rt:39:30
 shared-slice-read-put-byte : tie.Need-shared-slice-read-put-byte Inv-loop μ-loop
 shared-slice-read-put-byte c = omega arith
 
--- src/lib.rt:39:9
 put-byte-requires : tie.Need-put-byte-requires Inv-loop μ-loop
 put-byte-requires c κs = tt
 
--- src/lib.rt:40:9
 add-i : tie.Need-add-i Inv-loop μ-loop
 add-i c = omega arith
 
--- src/lib.rt:38:5
 loop-less : tie.Need-loop-less Inv-loop μ-loop
 loop-less c = omega arith
 
--- src/lib.rt:38:5
 loop-again : tie.Need-loop-again Inv-loop μ-loop
 loop-again c = (omega arith, omega arith, omega arith, copy-more _ _ _ _ _ _ _ _ _ (c .before .before .before .before .loop .inv .0) (omega arith) (c .before .before .before .before .loop .inv .3) (c .put-byte .ensures))
 
--- src/lib.rt:32:1
 returns : tie.Need-returns Inv-loop μ-loop
 returns c = copy-end _ _ _ _ _ _ _ _ (c .before .loop .inv .1) (c .loop-test .left) (c .before .loop .inv .3)
 

@@ -3,23 +3,18 @@ use borrow.Author.Needs.{needs}
 use Rattle.put.proofs.put_word.Statement.{statement}
 use Rattle.put.proofs.put_word.Tie as tie
 
--- src/lib.rt:27:30
 cast-put-byte : tie.Need-cast-put-byte
 cast-put-byte c = search needs
 
--- src/lib.rt:27:9
 put-byte-requires : tie.Need-put-byte-requires
 put-byte-requires c κs = search needs
 
--- src/lib.rt:28:22
 cast-put-byte-2 : tie.Need-cast-put-byte-2
 cast-put-byte-2 c = search needs
 
--- src/lib.rt:28:5
 put-byte-requires-2 : tie.Need-put-byte-requires-2
 put-byte-requires-2 c κs = search needs
 
--- src/lib.rt:23:1
 returns : tie.Need-returns
 returns c = puts-as _ _ _ _ _ _ (word-bytes (c .before .before .before .before .args .w)) (puts-then _ _ _ _ _ _ _ _ (c .before .before .put-byte .ensures) (c .put-byte2 .ensures))
 

@@ -11,39 +11,30 @@ Inv-loop s at starts₀ k p₀ j₀ starts p j = Placing s at k starts₀ p j st
 abbrev μ-loop : tie.MeasureT-loop
 μ-loop s at starts₀ k p₀ j₀ starts p j = length s - p
 
--- src/lib.rt:129:5
 loop-holds : tie.Need-loop-holds Inv-loop μ-loop
 loop-holds c = placing-begins _ _ _ _ (c .before .pre)
 
--- src/lib.rt:130:21
 cast-starts : tie.Need-cast-starts Inv-loop μ-loop
 cast-starts c = let w = c .before .loop .inv .left .room in omega (arith, w .within, w .short)
 
--- src/lib.rt:130:9
 mul-starts : tie.Need-mul-starts Inv-loop μ-loop
 mul-starts c = let w = c .before .loop .inv .left .room in omega (arith, w .within, w .short, w .room)
 
--- src/lib.rt:130:9
 element-write-starts : tie.Need-element-write-starts Inv-loop μ-loop
 element-write-starts c = let w = c .before .loop .inv .left .room in omega (arith, w .within, w .short, w .room, c .loop-test .taken)
 
--- src/lib.rt:131:9
 head-end-requires : tie.Need-head-end-requires Inv-loop μ-loop
 head-end-requires c κs = placing-stands _ (λ i. c .before .before .shared-slice-known .given i .fits) _ _ _ _ _ _ (c .before .loop .inv) (c .loop-test .taken)
 
--- src/lib.rt:132:9
 add-j : tie.Need-add-j Inv-loop μ-loop
 add-j c = let w = c .before .before .loop .inv .left .room in omega (arith, w .within, w .short, w .room)
 
--- src/lib.rt:129:5
 loop-less : tie.Need-loop-less Inv-loop μ-loop
 loop-less c = let g = placing-goes _ (λ i. c .before .before .before .shared-slice-known .given i .fits) _ _ _ _ _ _ (c .before .before .loop .inv) (c .before .loop-test .taken) _ (c .head-end .ensures) in omega (arith, g .0, g .1)
 
--- src/lib.rt:129:5
 loop-again : tie.Need-loop-again Inv-loop μ-loop
 loop-again c = placing-goes _ (λ i. c .before .before .before .shared-slice-known .given i .fits) _ _ _ _ _ _ (c .before .before .loop .inv) (c .before .loop-test .taken) _ (c .head-end .ensures) .2
 
--- src/lib.rt:123:1
 returns : tie.Need-returns Inv-loop μ-loop
 returns c = placing-done _ (λ i. c .before .before .shared-slice-known .given i .fits) _ _ _ _ _ _ (c .before .loop .inv) (c .loop-test .left)
 

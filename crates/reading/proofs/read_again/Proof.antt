@@ -4,11 +4,9 @@ use lib.ListN.{length-replicate}
 use Rattle.reading.proofs.read_again.Statement.{statement}
 use Rattle.reading.proofs.read_again.Tie as tie
 
--- src/lib.rt:131:9
 place-nodes-requires : tie.Need-place-nodes-requires
 place-nodes-requires c κs = again-pre _ (λ i. c .before .shared-slice-known .given i .fits) (c .before .before .pre .0) (c .before .before .pre .1) _ (length-replicate {A = ℕ} 2048 0)
 
--- src/lib.rt:126:1
 returns : tie.Need-returns
 returns c = again _ (λ i. c .before .before .shared-slice-known .given i .fits) (c .before .before .before .pre .0) (c .before .before .before .pre .1) _ _ (c .place-nodes .ensures)
 

@@ -26,35 +26,27 @@ count-minus-below t =
 abbrev calls-count-minus : ℕ → count-minus-lts.Claims
 calls-count-minus t = (next-at-reads.Asked, next-at-reads.Learnt, count-minus-below t, count-minus.Post, tag-at-reads.Asked, tag-at-reads.Learnt)
 
--- src/lib.rt:118:9
 count-minus-returns : (t : ℕ) → count-minus-lts.Need-returns (calls-count-minus t) (count-minus-at t) count-minus.Post
 count-minus-returns t c = minus-none _ _ _ _ _ _ (c .if1 .taken)
 
--- src/lib.rt:120:9
 count-minus-next-at-requires : (t : ℕ) → count-minus-lts.Need-next-at-requires (calls-count-minus t) (count-minus-at t) count-minus.Post
 count-minus-next-at-requires t c κs = in-few _ _ _ _ _ (row-first _ _ _ _ _ _ (c .if1 .left) (c .before .before .pre .1 .0))
 
--- src/lib.rt:121:52
 count-minus-sub-count-minus : (t : ℕ) → count-minus-lts.Need-sub-count-minus (calls-count-minus t) (count-minus-at t) count-minus.Post
 count-minus-sub-count-minus t c = let z = c .before .if1 .left in omega arith
 
--- src/lib.rt:121:9
 count-minus-count-minus-requires : (t : ℕ) → count-minus-lts.Need-count-minus-requires (calls-count-minus t) (count-minus-at t) count-minus.Post
 count-minus-count-minus-requires t c κs = (let z = c .before .if1 .left in let y = c .before .before .before .pre .0 in omega arith, (row-rest _ _ _ _ _ _ (c .before .if1 .left) (c .before .before .before .pre .1 .0) _ (c .next-at .ensures .0), let z = c .before .before .before .pre .1 .1 in omega arith))
 
--- src/lib.rt:122:8
 count-minus-tag-at-requires : (t : ℕ) → count-minus-lts.Need-tag-at-requires (calls-count-minus t) (count-minus-at t) count-minus.Post
 count-minus-tag-at-requires t c κs = in-placed _ _ _ _ _ (row-first _ _ _ _ _ _ (c .before .before .if1 .left) (c .before .before .before .before .pre .1 .0))
 
--- src/lib.rt:123:16
 count-minus-add-result : (t : ℕ) → count-minus-lts.Need-add-result (calls-count-minus t) (count-minus-at t) count-minus.Post
 count-minus-add-result t c = let z = c .before .before .count-minus .ensures .few in let y = c .before .before .before .before .before .before .pre .1 .1 in omega arith
 
--- src/lib.rt:123:9
 count-minus-returns-2 : (t : ℕ) → count-minus-lts.Need-returns-2 (calls-count-minus t) (count-minus-at t) count-minus.Post
 count-minus-returns-2 t c = minus-yes _ _ _ _ _ _ (c .before .before .before .before .if1 .left) _ (c .before .before .before .next-at .ensures .0) _ (c .before .before .count-minus .ensures) _ (c .before .tag-at .ensures) (c .if2 .taken)
 
--- src/lib.rt:106:1
 count-minus-returns-3 : (t : ℕ) → count-minus-lts.Need-returns-3 (calls-count-minus t) (count-minus-at t) count-minus.Post
 count-minus-returns-3 t c = minus-no _ _ _ _ _ _ (c .before .before .before .before .if1 .left) _ (c .before .before .before .next-at .ensures .0) _ (c .before .before .count-minus .ensures) _ (c .before .tag-at .ensures) (c .if2 .left)
 

@@ -26,35 +26,27 @@ put-kept-below t =
 abbrev calls-put-kept : ℕ → put-kept-lts.Claims
 calls-put-kept t = (wide16-reads.Asked, wide16-reads.Learnt, copy-at-reads.Asked, copy-at-reads.Learnt, put-kept-below t, put-kept.Post)
 
--- src/lib.rt:144:9
 put-kept-returns : (t : ℕ) → put-kept-lts.Need-returns (calls-put-kept t) (put-kept-at t) put-kept.Post
 put-kept-returns t c = kept-none _ _ _ _ _ (c .before .before .pre .1 .long) _ _ (c .if1 .taken) _ _
 
--- src/lib.rt
 put-kept-mul-wide16 : (t : ℕ) → put-kept-lts.Need-mul-wide16 (calls-put-kept t) (put-kept-at t) put-kept.Post
 put-kept-mul-wide16 t c = let z = c .before .before .pre .1 .few in let y = c .if1 .left in omega arith
 
--- src/lib.rt
 put-kept-element-copy-out-wide16 : (t : ℕ) → put-kept-lts.Need-element-copy-out-wide16 (calls-put-kept t) (put-kept-at t) put-kept.Post
 put-kept-element-copy-out-wide16 t c = let z = c .before .before .pre .1 .few in let y = c .if1 .left in omega arith
 
--- src/lib.rt
 put-kept-wide16-requires : (t : ℕ) → put-kept-lts.Need-wide16-requires (calls-put-kept t) (put-kept-at t) put-kept.Post
 put-kept-wide16-requires t c κs = tt
 
--- src/lib.rt
 put-kept-copy-at-requires : (t : ℕ) → put-kept-lts.Need-copy-at-requires (calls-put-kept t) (put-kept-at t) put-kept.Post
 put-kept-copy-at-requires t c κs = kept-place _ _ _ _ _ (c .before .before .before .before .before .pre .1 .long) _ _ (c .before .before .before .if1 .left) (c .before .before .before .before .before .pre .1) _ (c .before .wide16 .ensures .0)
 
--- src/lib.rt
 put-kept-add-put-kept : (t : ℕ) → put-kept-lts.Need-add-put-kept (calls-put-kept t) (put-kept-at t) put-kept.Post
 put-kept-add-put-kept t c = let z = c .before .before .before .before .before .before .pre .1 .few in let y = c .before .before .before .before .if1 .left in omega arith
 
--- src/lib.rt
 put-kept-put-kept-requires : (t : ℕ) → put-kept-lts.Need-put-kept-requires (calls-put-kept t) (put-kept-at t) put-kept.Post
 put-kept-put-kept-requires t c κs = (let z = c .before .before .before .before .before .if1 .left in let y = c .before .before .before .before .before .before .before .pre .0 in omega arith, kept-rest _ _ _ _ _ (c .before .before .before .before .before .before .before .pre .1 .long) _ _ (c .before .before .before .before .before .if1 .left) (c .before .before .before .before .before .before .before .pre .1))
 
--- src/lib.rt:129:1
 put-kept-returns-2 : (t : ℕ) → put-kept-lts.Need-returns-2 (calls-put-kept t) (put-kept-at t) put-kept.Post
 put-kept-returns-2 t c = kept-more _ _ _ _ _ (c .before .before .before .before .before .before .before .before .pre .1 .long) _ _ (c .before .before .before .before .before .before .if1 .left) (c .before .before .before .before .before .before .before .before .pre .1 .few) _ (c .before .before .before .before .wide16 .ensures .0) _ _ _ _ (c .before .before .copy-at .ensures) _ _ (c .put-kept .ensures)
 

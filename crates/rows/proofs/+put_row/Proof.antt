@@ -24,27 +24,21 @@ put-row-below t = and 4 put-row-kinds.ps (falls 4 put-row-kinds.ps _<_ μ-put-ro
 abbrev calls-put-row : ℕ → put-row-lts.Claims
 calls-put-row t = (put-share-reads.Asked, put-share-reads.Learnt, next-at-reads.Asked, next-at-reads.Learnt, put-row-below t, put-row.Post)
 
--- src/lib.rt:98:9
 put-row-returns : (t : ℕ) → put-row-lts.Need-returns (calls-put-row t) (put-row-at t) put-row.Post
 put-row-returns t c = row-none _ _ _ _ _ _ (c .if1 .taken) _ _ _
 
--- src/lib.rt:100:9
 put-row-put-share-requires : (t : ℕ) → put-row-lts.Need-put-share-requires (calls-put-row t) (put-row-at t) put-row.Post
 put-row-put-share-requires t c κs = row-first _ _ _ _ _ _ (c .before .if1 .left) (c .before .before .before .pre .1)
 
--- src/lib.rt:101:9
 put-row-next-at-requires : (t : ℕ) → put-row-lts.Need-next-at-requires (calls-put-row t) (put-row-at t) put-row.Post
 put-row-next-at-requires t c κs = in-few _ _ _ _ _ (row-first _ _ _ _ _ _ (c .before .before .if1 .left) (c .before .before .before .before .pre .1))
 
--- src/lib.rt:102:37
 put-row-sub-put-row : (t : ℕ) → put-row-lts.Need-sub-put-row (calls-put-row t) (put-row-at t) put-row.Post
 put-row-sub-put-row t c = let z = c .before .before .before .if1 .left in omega arith
 
--- src/lib.rt:102:5
 put-row-put-row-requires : (t : ℕ) → put-row-lts.Need-put-row-requires (calls-put-row t) (put-row-at t) put-row.Post
 put-row-put-row-requires t c κs = (let z = c .before .before .before .before .if1 .left in let y = c .before .before .before .before .before .before .pre .0 in omega arith, row-rest _ _ _ _ _ _ (c .before .before .before .before .if1 .left) (c .before .before .before .before .before .before .pre .1) _ (c .before .next-at .ensures .0))
 
--- src/lib.rt:83:1
 put-row-returns-2 : (t : ℕ) → put-row-lts.Need-returns-2 (calls-put-row t) (put-row-at t) put-row.Post
 put-row-returns-2 t c = row-more _ _ _ _ _ _ (c .before .before .before .before .before .if1 .left) _ _ _ _ _ (c .before .before .before .put-share .ensures) _ (c .before .before .next-at .ensures .0) _ _ (c .put-row .ensures)
 

@@ -3,19 +3,15 @@ use borrow.Author.Needs.{needs}
 use Rattle.rows.proofs.copy_at.Statement.{statement}
 use Rattle.rows.proofs.copy_at.Tie as tie
 
--- src/lib.rt:40:9
 start-at-requires : tie.Need-start-at-requires
 start-at-requires c κs = in-few _ _ _ _ _ (c .before .pre)
 
--- src/lib.rt:41:9
 end-at-requires : tie.Need-end-at-requires
 end-at-requires c κs = search needs
 
--- src/lib.rt:42:5
 put-copy-requires : tie.Need-put-copy-requires
 put-copy-requires c κs = copy-range _ _ _ _ _ _ (c .before .before .start-at .ensures .0) _ (c .before .end-at .ensures) (c .before .before .before .before .pre)
 
--- src/lib.rt:28:1
 returns : tie.Need-returns
 returns c = copy-done _ _ _ _ _ _ (c .before .before .before .start-at .ensures .0) _ (c .before .before .end-at .ensures) _ _ _ _ (c .put-copy .ensures)
 

@@ -4,71 +4,54 @@ use borrow.Author.Needs.{needs}
 use Rattle.rows.proofs.put_share.Statement.{statement}
 use Rattle.rows.proofs.put_share.Tie as tie
 
--- src/lib.rt:60:24
 enum-known-share : tie.Need-enum-known-share
 enum-known-share c = search needs
 
--- src/lib.rt:62:17
 returns : tie.Need-returns
 returns c = besides-none _ _ _ _ _ _ _ _ _ (c .before .before .share .given .1) (c .if1 .taken)
 
--- src/lib.rt:64:13
 copy-at-requires : tie.Need-copy-at-requires
 copy-at-requires c κs = search needs
 
--- src/lib.rt:67:16
 enum-told : tie.Need-enum-told
 enum-told c = search needs
 
--- src/lib.rt:67:16
 tag-at-requires : tie.Need-tag-at-requires
 tag-at-requires c κs = in-placed _ _ _ _ _ (c .before .before .before .pre)
 
--- src/lib.rt:68:53
 add-copy-at : tie.Need-add-copy-at
 add-copy-at c = search needs
 
--- src/lib.rt:68:17
 copy-at-requires-2 : tie.Need-copy-at-requires-2
 copy-at-requires-2 c κs = left-in _ _ _ _ _ [] 0 _ (c .before .before .tag-at .ensures) (c .before .if2 .taken) (c .before .before .before .before .before .before .pre)
 
--- src/lib.rt:68:17
 returns-2 : tie.Need-returns-2
 returns-2 c = minuend-left _ _ _ _ _ _ _ _ (c .before .before .before .tag-at .ensures) _ _ _ (c .before .before .before .before .enum-told .given .1) (c .before .before .if2 .taken) (c .copy-at2 .ensures)
 
--- src/lib.rt:70:13
 copy-at-requires-3 : tie.Need-copy-at-requires-3
 copy-at-requires-3 c κs = search needs
 
--- src/lib.rt:73:16
 enum-told-2 : tie.Need-enum-told-2
 enum-told-2 c = search needs
 
--- src/lib.rt:73:16
 tag-at-requires-2 : tie.Need-tag-at-requires-2
 tag-at-requires-2 c κs = in-placed _ _ _ _ _ (c .before .before .before .pre)
 
--- src/lib.rt:74:21
 second-of-requires : tie.Need-second-of-requires
 second-of-requires c κs = in-few _ _ _ _ _ (c .before .before .before .before .before .pre)
 
--- src/lib.rt:75:17
 copy-at-requires-4 : tie.Need-copy-at-requires-4
 copy-at-requires-4 c κs = right-in _ _ _ _ _ [] 0 _ (c .before .before .before .tag-at2 .ensures) (c .before .before .if3 .taken) _ (c .before .second-of .ensures) (c .before .before .before .before .before .before .before .pre)
 
--- src/lib.rt:75:17
 returns-3 : tie.Need-returns-3
 returns-3 c = subtrahend-right _ _ _ _ _ _ _ _ (c .before .before .before .before .tag-at2 .ensures) _ _ _ (c .before .before .before .before .before .enum-told2 .given .1) (c .before .before .before .if3 .taken) _ (c .before .before .second-of .ensures) (c .copy-at4 .ensures)
 
--- src/lib.rt:46:1
 returns-4 : tie.Need-returns-4
 returns-4 c = besides-some _ _ _ _ _ _ _ _ _ _ _ (c .before .before .before .before .share .given .1) (c .before .before .if1 .left) (c .copy-at .ensures)
 
--- src/lib.rt:46:1
 returns-5 : tie.Need-returns-5
 returns-5 c = minuend-whole _ _ _ _ _ _ _ _ (c .before .before .before .tag-at .ensures) _ _ _ (c .before .before .before .before .enum-told .given .1) (c .before .before .if2 .left) (c .copy-at3 .ensures)
 
--- src/lib.rt:46:1
 returns-6 : tie.Need-returns-6
 returns-6 c = subtrahend-none _ _ _ _ _ _ _ _ (c .before .tag-at2 .ensures) _ (c .before .before .enum-told2 .given .1) (c .if3 .left)
 

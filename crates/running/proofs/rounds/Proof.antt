@@ -13,75 +13,57 @@ Inv-loop held₀ start budget scratch₀ n₀ left₀ count₀ held scratch n le
 abbrev μ-loop : tie.MeasureT-loop
 μ-loop held₀ start budget scratch₀ n₀ left₀ count₀ held scratch n left count = left
 
--- src/lib.rt:27:5
 loop-holds : tie.Need-loop-holds Inv-loop μ-loop
 loop-holds c = (going-starts _ _ _ (c .before .pre) _ refl, λ i. c .slice-known .given i .fits)
 
--- src/lib.rt:28:31
 slice-reshare-prefix-first-step : tie.Need-slice-reshare-prefix-first-step Inv-loop μ-loop
 slice-reshare-prefix-first-step c = let z = c .loop .inv .0 .fits in let y = c .loop .inv .0 .long in omega arith
 
--- src/lib.rt:28:31
 slice-aggregate-first-step : tie.Need-slice-aggregate-first-step Inv-loop μ-loop
 slice-aggregate-first-step c = sym (length-take-le _ _ (let z = c .before .loop .inv .0 .fits in let y = c .before .loop .inv .0 .long in omega arith))
 
--- src/lib.rt:28:13
 first-step-requires : tie.Need-first-step-requires Inv-loop μ-loop
 first-step-requires c κs = going-first _ _ _ (c .before .before .before .before .pre) _ _ _ _ _ (c .before .before .loop .inv .0)
 
--- src/lib.rt:32:29
 enum-told : tie.Need-enum-told Inv-loop μ-loop
 enum-told c = search needs
 
--- src/lib.rt:31:17
 same-length : tie.Need-same-length Inv-loop μ-loop
 same-length c = c .before .before .before .before .before .loop .inv .0 .long ∙ sym (c .before .before .before .before .before .before .before .pre .long)
 
--- src/lib.rt:31:17
 returns : tie.Need-returns Inv-loop μ-loop
 returns c = going-rests _ _ _ (c .before .before .before .before .before .before .before .pre) _ _ _ _ _ (c .before .before .before .before .before .loop .inv .0) (c .before .before .before .before .before .loop .inv .1) _ _ (c .before .before .first-step .ensures) (c .enum-told .given .1) _ refl refl
 
--- src/lib.rt:36:26
 enum-known-next : tie.Need-enum-known-next Inv-loop μ-loop
 enum-known-next c = search needs
 
--- src/lib.rt:38:21
 same-length-2 : tie.Need-same-length-2 Inv-loop μ-loop
 same-length-2 c = c .before .before .before .before .before .before .before .loop .inv .0 .long ∙ sym (c .before .before .before .before .before .before .before .before .before .pre .long)
 
--- src/lib.rt:38:21
 returns-2 : tie.Need-returns-2 Inv-loop μ-loop
 returns-2 c = going-spent _ _ _ (c .before .before .before .before .before .before .before .before .before .pre) _ _ _ _ _ (c .before .before .before .before .before .before .before .loop .inv .0) (c .before .before .before .before .before .before .before .loop .inv .1) _ _ (c .before .before .before .before .first-step .ensures) _ (c .before .before .next .given .1) (c .if1 .taken) _ refl refl
 
--- src/lib.rt:44:21
 same-length-3 : tie.Need-same-length-3 Inv-loop μ-loop
 same-length-3 c = c .before .before .before .before .before .before .before .before .loop .inv .0 .long ∙ sym (c .before .before .before .before .before .before .before .before .before .before .pre .long)
 
--- src/lib.rt:44:21
 returns-3 : tie.Need-returns-3 Inv-loop μ-loop
 returns-3 c = going-full _ _ _ (c .before .before .before .before .before .before .before .before .before .before .pre) _ _ _ _ _ (c .before .before .before .before .before .before .before .before .loop .inv .0) (c .before .before .before .before .before .before .before .before .loop .inv .1) _ _ (c .before .before .before .before .before .first-step .ensures) _ (c .before .before .before .next .given .1) (c .before .if1 .left) (c .if2 .taken) _ refl refl
 
--- src/lib.rt:49:25
 slice-aggregate-copy-in : tie.Need-slice-aggregate-copy-in Inv-loop μ-loop
 slice-aggregate-copy-in c = search needs
 
--- src/lib.rt:49:17
 copy-in-requires : tie.Need-copy-in-requires Inv-loop μ-loop
 copy-in-requires c κs = going-copy _ _ _ (c .before .before .before .before .before .before .before .before .before .before .before .before .pre) _ _ _ _ _ (c .before .before .before .before .before .before .before .before .before .before .loop .inv .0) (c .before .before .before .before .before .before .before .before .before .before .loop .inv .1) _ _ (c .before .before .before .before .before .before .before .first-step .ensures) _ (c .before .before .before .before .before .next .given .1) (c .before .before .before .if1 .left) (c .before .before .if2 .left)
 
--- src/lib.rt:51:17
 sub-left : tie.Need-sub-left Inv-loop μ-loop
 sub-left c = let z = c .before .before .before .before .before .before .if1 .left in omega arith
 
--- src/lib.rt:52:17
 add-count : tie.Need-add-count Inv-loop μ-loop
 add-count c = let z = c .before .before .before .before .before .before .if1 .left in let y = c .before .before .before .before .before .before .before .before .before .before .before .before .before .loop .inv .0 .sum in let w = c .before .before .before .before .before .before .before .before .before .before .before .before .before .before .before .fits .budget in omega arith
 
--- src/lib.rt:27:5
 loop-less : tie.Need-loop-less Inv-loop μ-loop
 loop-less c = let z = c .before .before .before .before .before .before .if1 .left in omega arith
 
--- src/lib.rt:27:5
 loop-again : tie.Need-loop-again Inv-loop μ-loop
 loop-again c = (going-on _ _ _ (c .before .before .before .before .before .before .before .before .before .before .before .before .before .before .before .pre) _ _ _ _ _ (c .before .before .before .before .before .before .before .before .before .before .before .before .before .loop .inv .0) (c .before .before .before .before .before .before .before .before .before .before .before .before .before .loop .inv .1) _ _ (c .before .before .before .before .before .before .before .before .before .before .first-step .ensures) _ (c .before .before .before .before .before .before .before .before .next .given .1) (c .before .before .before .before .before .before .if1 .left) (c .before .before .before .before .before .if2 .left) _ (c .before .before .copy-in .ensures), λ i. c .slice-known2 .given i .fits)
 

@@ -4,35 +4,27 @@ use borrow.Author.Needs.{needs}
 use Rattle.running.proofs.run_checked.Statement.{statement}
 use Rattle.running.proofs.run_checked.Tie as tie
 
--- src/lib.rt:65:22
 slice-aggregate-copy-in : tie.Need-slice-aggregate-copy-in
 slice-aggregate-copy-in c = search needs
 
--- src/lib.rt:65:5
 copy-in-requires : tie.Need-copy-in-requires
 copy-in-requires c κs = checked-copy _ (λ i. c .before .before .shared-slice-known .given i .fits) 0 _ (c .before .before .before .pre) _ refl
 
--- src/lib.rt:66:20
 slice-aggregate-rounds : tie.Need-slice-aggregate-rounds
 slice-aggregate-rounds c = search needs
 
--- src/lib.rt:66:9
 rounds-requires : tie.Need-rounds-requires
 rounds-requires c κs = checked-rounds _ (λ i. c .before .before .before .before .before .shared-slice-known .given i .fits) 0 _ (c .before .before .before .before .before .before .pre) _ _ refl (c .before .before .copy-in .ensures)
 
--- src/lib.rt:68:13
 slice-aggregate-copy-in-2 : tie.Need-slice-aggregate-copy-in-2
 slice-aggregate-copy-in-2 c = search needs
 
--- src/lib.rt:68:5
 copy-in-requires-2 : tie.Need-copy-in-requires-2
 copy-in-requires-2 c κs = checked-out _ (λ i. c .before .before .before .before .before .before .before .before .before .shared-slice-known .given i .fits) _ _ (c .before .before .before .before .before .before .before .before .before .before .pre) _ _ refl (c .before .before .before .before .before .before .copy-in .ensures) _ _ (c .before .before .before .rounds .ensures)
 
--- src/lib.rt:59:1
 same-length : tie.Need-same-length
 same-length c = search needs
 
--- src/lib.rt:59:1
 returns : tie.Need-returns
 returns c = checked-done _ (λ i. c .before .before .before .before .before .before .before .before .before .before .before .before .shared-slice-known .given i .fits) _ _ (c .before .before .before .before .before .before .before .before .before .before .before .before .before .pre) _ _ refl (c .before .before .before .before .before .before .before .before .before .copy-in .ensures) _ _ (c .before .before .before .before .before .before .rounds .ensures) _ (c .before .before .copy-in2 .ensures)
 

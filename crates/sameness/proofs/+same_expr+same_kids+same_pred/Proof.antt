@@ -61,111 +61,84 @@ calls-same-kids t = (same-expr-below t, same-expr.Post, same-kids-below t, same-
 abbrev calls-same-pred : ℕ → same-pred-lts.Claims
 calls-same-pred t = (same-heads-reads.Asked, same-heads-reads.Learnt, same-kids-below t, same-kids.Post)
 
--- src/lib.rt:93:9
 same-expr-same-heads-requires : (t : ℕ) → same-expr-lts.Need-same-heads-requires (calls-same-expr t) (same-expr-at t) same-expr.Post
 same-expr-same-heads-requires t c κs = c .before .pre .1
 
--- src/lib.rt:95:26
 same-expr-enum-told : (t : ℕ) → same-expr-lts.Need-enum-told (calls-same-expr t) (same-expr-at t) same-expr.Post
 same-expr-enum-told t c = search needs
 
--- src/lib.rt:96:22
 same-expr-enum-known-h : (t : ℕ) → same-expr-lts.Need-enum-known-h (calls-same-expr t) (same-expr-at t) same-expr.Post
 same-expr-enum-known-h t c = search needs
 
--- src/lib.rt:96:48
 same-expr-same-kids-requires : (t : ℕ) → same-expr-lts.Need-same-kids-requires (calls-same-expr t) (same-expr-at t) same-expr.Post
 same-expr-same-kids-requires t c κs = let r = node-both _ _ _ _ _ (c .before .before .before .same-heads .ensures) _ _ _ _ _ (c .before .h .given .1) (c .before .before .before .before .before .pre .1) in (omega (arith, r .1, r .2), r .0)
 
--- src/lib.rt:89:1
 same-expr-returns : (t : ℕ) → same-expr-lts.Need-returns (calls-same-expr t) (same-expr-at t) same-expr.Post
 same-expr-returns t c = node-differ _ _ _ _ _ (c .before .before .same-heads .ensures) (c .enum-told .given .1)
 
--- src/lib.rt:89:1
 same-expr-returns-2 : (t : ℕ) → same-expr-lts.Need-returns-2 (calls-same-expr t) (same-expr-at t) same-expr.Post
 same-expr-returns-2 t c = node-kids _ _ _ _ _ (c .before .before .before .before .same-heads .ensures) _ _ _ _ _ (c .before .before .h .given .1) _ (c .same-kids .ensures)
 
--- src/lib.rt:106:9
 same-kids-returns : (t : ℕ) → same-kids-lts.Need-returns (calls-same-kids t) (same-kids-at t) same-kids.Post
 same-kids-returns t c = kids-none _ _ _ _ _ _ (c .if1 .taken)
 
--- src/lib.rt:109:13
 same-kids-same-expr-requires : (t : ℕ) → same-kids-lts.Need-same-expr-requires (calls-same-kids t) (same-kids-at t) same-kids.Post
 same-kids-same-expr-requires t c κs = let r = kids-first _ _ (c .before .before .before .args .first) (c .before .before .before .args .later) _ _ (c .before .if1 .left) (c .before .before .before .pre .1) in (omega (arith, r .1), at-sort (c .if2 .taken) (r .0))
 
--- src/lib.rt
 same-kids-enum-told : (t : ℕ) → same-kids-lts.Need-enum-told (calls-same-kids t) (same-kids-at t) same-kids.Post
 same-kids-enum-told t c = search needs
 
--- src/lib.rt
 same-kids-enum-known-x : (t : ℕ) → same-kids-lts.Need-enum-known-x (calls-same-kids t) (same-kids-at t) same-kids.Post
 same-kids-enum-known-x t c = search needs
 
--- src/lib.rt
 same-kids-sub-same-kids : (t : ℕ) → same-kids-lts.Need-sub-same-kids (calls-same-kids t) (same-kids-at t) same-kids.Post
 same-kids-sub-same-kids t c = omega arith
 
--- src/lib.rt
 same-kids-same-kids-requires : (t : ℕ) → same-kids-lts.Need-same-kids-requires (calls-same-kids t) (same-kids-at t) same-kids.Post
 same-kids-same-kids-requires t c κs = let r = kids-rest _ _ (c .before .before .before .before .before .before .before .args .first) (c .before .before .before .before .before .before .before .args .later) _ _ (c .before .before .before .before .before .if1 .left) _ (of-sort (c .before .before .before .before .if2 .taken) (c .before .before .before .same-expr .ensures)) _ _ (c .before .x .given .1) (c .before .before .before .before .before .before .before .pre .1) in (omega (arith, r .1, r .2), r .0)
 
--- src/lib.rt
 same-kids-same-pred-requires : (t : ℕ) → same-kids-lts.Need-same-pred-requires (calls-same-kids t) (same-kids-at t) same-kids.Post
 same-kids-same-pred-requires t c κs = let r = kids-first _ _ (c .before .before .before .args .first) (c .before .before .before .args .later) _ _ (c .before .if1 .left) (c .before .before .before .pre .1) in (omega (arith, r .1), at-sort (c .if2 .left) (r .0))
 
--- src/lib.rt
 same-kids-enum-told-2 : (t : ℕ) → same-kids-lts.Need-enum-told-2 (calls-same-kids t) (same-kids-at t) same-kids.Post
 same-kids-enum-told-2 t c = search needs
 
--- src/lib.rt
 same-kids-enum-known-x-2 : (t : ℕ) → same-kids-lts.Need-enum-known-x-2 (calls-same-kids t) (same-kids-at t) same-kids.Post
 same-kids-enum-known-x-2 t c = search needs
 
--- src/lib.rt
 same-kids-sub-same-kids-2 : (t : ℕ) → same-kids-lts.Need-sub-same-kids-2 (calls-same-kids t) (same-kids-at t) same-kids.Post
 same-kids-sub-same-kids-2 t c = omega arith
 
--- src/lib.rt
 same-kids-same-kids-requires-2 : (t : ℕ) → same-kids-lts.Need-same-kids-requires-2 (calls-same-kids t) (same-kids-at t) same-kids.Post
 same-kids-same-kids-requires-2 t c κs = let r = kids-rest _ _ (c .before .before .before .before .before .before .before .args .first) (c .before .before .before .before .before .before .before .args .later) _ _ (c .before .before .before .before .before .if1 .left) _ (of-sort (c .before .before .before .before .if2 .left) (c .before .before .before .same-pred .ensures)) _ _ (c .before .x2 .given .1) (c .before .before .before .before .before .before .before .pre .1) in (omega (arith, r .1, r .2), r .0)
 
--- src/lib.rt:101:1
 same-kids-returns-2 : (t : ℕ) → same-kids-lts.Need-returns-2 (calls-same-kids t) (same-kids-at t) same-kids.Post
 same-kids-returns-2 t c = kids-no _ _ (c .before .before .before .before .before .before .args .first) (c .before .before .before .before .before .before .args .later) _ _ (c .before .before .before .before .if1 .left) _ (of-sort (c .before .before .before .if2 .taken) (c .before .before .same-expr .ensures)) (c .enum-told .given .1)
 
--- src/lib.rt:101:1
 same-kids-returns-3 : (t : ℕ) → same-kids-lts.Need-returns-3 (calls-same-kids t) (same-kids-at t) same-kids.Post
 same-kids-returns-3 t c = kids-yes _ _ (c .before .before .before .before .before .before .before .before .args .first) (c .before .before .before .before .before .before .before .before .args .later) _ _ (c .before .before .before .before .before .before .if1 .left) _ (of-sort (c .before .before .before .before .before .if2 .taken) (c .before .before .before .before .same-expr .ensures)) _ _ (c .before .before .x .given .1) _ (c .same-kids .ensures)
 
--- src/lib.rt:101:1
 same-kids-returns-4 : (t : ℕ) → same-kids-lts.Need-returns-4 (calls-same-kids t) (same-kids-at t) same-kids.Post
 same-kids-returns-4 t c = kids-no _ _ (c .before .before .before .before .before .before .args .first) (c .before .before .before .before .before .before .args .later) _ _ (c .before .before .before .before .if1 .left) _ (of-sort (c .before .before .before .if2 .left) (c .before .before .same-pred .ensures)) (c .enum-told2 .given .1)
 
--- src/lib.rt:101:1
 same-kids-returns-5 : (t : ℕ) → same-kids-lts.Need-returns-5 (calls-same-kids t) (same-kids-at t) same-kids.Post
 same-kids-returns-5 t c = kids-yes _ _ (c .before .before .before .before .before .before .before .before .args .first) (c .before .before .before .before .before .before .before .before .args .later) _ _ (c .before .before .before .before .before .before .if1 .left) _ (of-sort (c .before .before .before .before .before .if2 .left) (c .before .before .before .before .same-pred .ensures)) _ _ (c .before .before .x2 .given .1) _ (c .same-kids2 .ensures)
 
--- src/lib.rt:81:9
 same-pred-same-heads-requires : (t : ℕ) → same-pred-lts.Need-same-heads-requires (calls-same-pred t) (same-pred-at t) same-pred.Post
 same-pred-same-heads-requires t c κs = c .before .pre .1
 
--- src/lib.rt:83:26
 same-pred-enum-told : (t : ℕ) → same-pred-lts.Need-enum-told (calls-same-pred t) (same-pred-at t) same-pred.Post
 same-pred-enum-told t c = search needs
 
--- src/lib.rt:84:22
 same-pred-enum-known-h : (t : ℕ) → same-pred-lts.Need-enum-known-h (calls-same-pred t) (same-pred-at t) same-pred.Post
 same-pred-enum-known-h t c = search needs
 
--- src/lib.rt:84:48
 same-pred-same-kids-requires : (t : ℕ) → same-pred-lts.Need-same-kids-requires (calls-same-pred t) (same-pred-at t) same-pred.Post
 same-pred-same-kids-requires t c κs = let r = node-both _ _ _ _ _ (c .before .before .before .same-heads .ensures) _ _ _ _ _ (c .before .h .given .1) (c .before .before .before .before .before .pre .1) in (omega (arith, r .1, r .2), r .0)
 
--- src/lib.rt:77:1
 same-pred-returns : (t : ℕ) → same-pred-lts.Need-returns (calls-same-pred t) (same-pred-at t) same-pred.Post
 same-pred-returns t c = node-differ _ _ _ _ _ (c .before .before .same-heads .ensures) (c .enum-told .given .1)
 
--- src/lib.rt:77:1
 same-pred-returns-2 : (t : ℕ) → same-pred-lts.Need-returns-2 (calls-same-pred t) (same-pred-at t) same-pred.Post
 same-pred-returns-2 t c = node-kids _ _ _ _ _ (c .before .before .before .before .same-heads .ensures) _ _ _ _ _ (c .before .before .h .given .1) _ (c .same-kids .ensures)
 

@@ -4,19 +4,15 @@ use borrow.Author.Needs.{needs}
 use Rattle.searching.proofs.decide_at.Statement.{statement}
 use Rattle.searching.proofs.decide_at.Tie as tie
 
--- src/lib.rt:29:8
 is-expression-at-requires : tie.Need-is-expression-at-requires
 is-expression-at-requires c κs = here-placed (c .before .pre .here)
 
--- src/lib.rt:30:9
 returns : tie.Need-returns
 returns c = at-expression _ _ _ _ _ (c .before .is-expression-at .ensures) (c .if1 .taken) _ (c .before .before .before .pre .long)
 
--- src/lib.rt:32:5
 decide-requires : tie.Need-decide-requires
 decide-requires c κs = search needs
 
--- src/lib.rt:19:1
 returns-2 : tie.Need-returns-2
 returns-2 c = at-decided _ _ _ _ _ (c .before .before .before .is-expression-at .ensures) (c .before .before .if1 .left) _ _ (c .decide .ensures)
 

@@ -13,39 +13,30 @@ Inv-loop s n starts nexts leaves scratch₀ kept₀ k₀ scratch kept k = Search
 abbrev μ-loop : tie.MeasureT-loop
 μ-loop s n starts nexts leaves scratch₀ kept₀ k₀ scratch kept k = n - k
 
--- src/lib.rt:49:5
 loop-holds : tie.Need-loop-holds Inv-loop μ-loop
 loop-holds c = (search-starts _ _ _ _ _ _ refl, refl)
 
--- src/lib.rt:50:13
 decide-at-requires : tie.Need-decide-at-requires Inv-loop μ-loop
 decide-at-requires c κs = search-at _ _ _ _ _ _ (c .before .before .before .before .pre) _ (c .before .loop-test .taken) _ (c .before .before .loop .inv .0)
 
--- src/lib.rt:51:13
 rests-requires : tie.Need-rests-requires Inv-loop μ-loop
 rests-requires c κs = tt
 
--- src/lib.rt:52:17
 splice-requires : tie.Need-splice-requires Inv-loop μ-loop
 splice-requires c κs = search-splice _ _ _ _ _ _ (pre-now _ _ _ _ _ _ _ (c .before .before .before .before .before .before .before .loop .inv .1) (c .before .before .before .before .before .before .before .before .before .pre)) _ (c .before .before .before .before .before .before .loop-test .taken) _ _ (c .before .before .before .before .decide-at .ensures) (sym (c .before .before .before .rests .ensures) ∙ not-true _ (c .before .before .if1 .taken))
 
--- src/lib.rt:53:13
 returns : tie.Need-returns Inv-loop μ-loop
 returns c = search-writes _ _ _ _ _ _ (c .before .before .before .before .before .before .before .before .before .before .pre) _ (c .before .before .before .before .before .before .before .loop-test .taken) _ _ (c .before .before .before .before .before .decide-at .ensures) _ (c .before .before .before .before .before .before .before .before .loop .inv .0) (sym (c .before .before .before .before .rests .ensures) ∙ not-true _ (c .before .before .before .if1 .taken)) _ _ (c .splice .ensures)
 
--- src/lib.rt:55:9
 add-k : tie.Need-add-k Inv-loop μ-loop
 add-k c = let z = c .before .before .before .before .loop-test .taken in omega arith
 
--- src/lib.rt:49:5
 loop-less : tie.Need-loop-less Inv-loop μ-loop
 loop-less c = let z = c .before .before .before .before .loop-test .taken in omega arith
 
--- src/lib.rt:49:5
 loop-again : tie.Need-loop-again Inv-loop μ-loop
 loop-again c = (search-next _ _ _ _ _ _ (c .before .before .before .before .before .before .before .pre) _ (c .before .before .before .before .loop-test .taken) _ _ (c .before .before .decide-at .ensures) _ (c .before .before .before .before .before .loop .inv .0) (sym (c .before .rests .ensures) ∙ not-false _ (c .if1 .left)), c .before .before .before .before .before .loop .inv .1)
 
--- src/lib.rt:36:1
 returns-2 : tie.Need-returns-2 Inv-loop μ-loop
 returns-2 c = search-rests _ _ _ _ _ _ (pre-now _ _ _ _ _ _ _ (c .before .loop .inv .1) (c .before .before .before .pre)) _ _ (c .before .loop .inv .0) (c .loop-test .left)
 

@@ -5,47 +5,36 @@ use borrow.Author.Needs.{needs}
 use Rattle.stepping.proofs.step_held.Statement.{statement}
 use Rattle.stepping.proofs.step_held.Tie as tie
 
--- src/lib.rt:29:9
 returns : tie.Need-returns
 returns c = held-none _ _ _ _ (c .before .before .before .pre) _ _ (c .if1 .taken)
 
--- src/lib.rt:31:8
 is-expression-at-requires : tie.Need-is-expression-at-requires
 is-expression-at-requires c κs = held-placed _ _ _ _ (c .before .before .before .pre) _ [] (c .if1 .left)
 
--- src/lib.rt:32:9
 returns-2 : tie.Need-returns-2
 returns-2 c = held-expression _ _ _ _ (c .before .before .before .before .before .pre) _ _ (c .before .before .if1 .left) _ (c .before .is-expression-at .ensures) (c .if2 .taken)
 
--- src/lib.rt:35:5
 nexts-requires : tie.Need-nexts-requires
 nexts-requires c κs = held-nexts _ _ _ _ (c .before .before .before .before .before .before .pre) _ [] (c .before .before .before .if1 .left) _ (c .before .before .is-expression-at .ensures) (c .before .if2 .left) _ refl
 
--- src/lib.rt:37:9
 decide-requires : tie.Need-decide-requires
 decide-requires c κs = held-decide _ _ _ _ (c .before .before .before .before .before .before .before .before .before .pre) _ [] (c .before .before .before .before .before .before .if1 .left) _ (c .before .before .before .before .before .is-expression-at .ensures) (c .before .before .before .before .if2 .left) _ (c .before .before .nexts .ensures) _ refl
 
--- src/lib.rt:38:8
 rests-requires : tie.Need-rests-requires
 rests-requires c κs = search needs
 
--- src/lib.rt:39:9
 returns-3 : tie.Need-returns-3
 returns-3 c = held-rests _ _ _ _ (c .before .before .before .before .before .before .before .before .before .before .before .before .pre) _ _ (c .before .before .before .before .before .before .before .before .before .if1 .left) _ (c .before .before .before .before .before .before .before .before .is-expression-at .ensures) (c .before .before .before .before .before .before .before .if2 .left) _ (c .before .before .before .before .before .nexts .ensures) _ _ (c .before .before .decide .ensures) _ (c .before .rests .ensures) (c .if3 .taken)
 
--- src/lib.rt:42:9
 splice-requires : tie.Need-splice-requires
 splice-requires c κs = held-splice _ _ _ _ (c .before .before .before .before .before .before .before .before .before .before .before .before .before .before .before .pre) _ [] (c .before .before .before .before .before .before .before .before .before .before .before .before .if1 .left) _ (c .before .before .before .before .before .before .before .before .before .before .before .is-expression-at .ensures) (c .before .before .before .before .before .before .before .before .before .before .if2 .left) _ (c .before .before .before .before .before .before .before .before .nexts .ensures) _ _ (c .before .before .before .before .before .decide .ensures) _ refl
 
--- src/lib.rt:53:5
 write-out-requires : tie.Need-write-out-requires
 write-out-requires c κs = held-out _ _ _ _ (c .before .before .before .before .before .before .before .before .before .before .before .before .before .before .before .before .before .before .pre) _ [] (c .before .before .before .before .before .before .before .before .before .before .before .before .before .before .before .if1 .left) _ (c .before .before .before .before .before .before .before .before .before .before .before .before .before .before .is-expression-at .ensures) (c .before .before .before .before .before .before .before .before .before .before .before .before .before .if2 .left) _ (c .before .before .before .before .before .before .before .before .before .before .before .nexts .ensures) _ _ (c .before .before .before .before .before .before .before .before .decide .ensures) _ (c .before .before .before .before .before .before .before .rests .ensures) (c .before .before .before .before .before .before .if3 .left) _ _ (c .before .before .splice .ensures)
 
--- src/lib.rt:17:1
 same-length : tie.Need-same-length
 same-length c = search needs
 
--- src/lib.rt:17:1
 returns-4 : tie.Need-returns-4
 returns-4 c = held-done _ _ _ _ (c .before .before .before .before .before .before .before .before .before .before .before .before .before .before .before .before .before .before .before .before .before .pre) _ _ (c .before .before .before .before .before .before .before .before .before .before .before .before .before .before .before .before .before .before .if1 .left) _ (c .before .before .before .before .before .before .before .before .before .before .before .before .before .before .before .before .before .is-expression-at .ensures) (c .before .before .before .before .before .before .before .before .before .before .before .before .before .before .before .before .if2 .left) _ (c .before .before .before .before .before .before .before .before .before .before .before .before .before .before .nexts .ensures) _ _ (c .before .before .before .before .before .before .before .before .before .before .before .decide .ensures) _ (c .before .before .before .before .before .before .before .before .before .before .rests .ensures) (c .before .before .before .before .before .before .before .before .before .if3 .left) _ _ (c .before .before .before .before .before .splice .ensures) _ _ (c .before .before .write-out .ensures)
 

@@ -4,31 +4,24 @@ use borrow.Author.Needs.{needs}
 use Rattle.stepping.proofs.step_read.Statement.{statement}
 use Rattle.stepping.proofs.step_read.Tie as tie
 
--- src/lib.rt:68:9
 check-tree-requires : tie.Need-check-tree-requires
 check-tree-requires c κs = (c .before .before .before .pre .was, refl)
 
--- src/lib.rt:70:30
 enum-known-a : tie.Need-enum-known-a
 enum-known-a c = search needs
 
--- src/lib.rt:71:31
 enum-known-a-2 : tie.Need-enum-known-a-2
 enum-known-a-2 c = search needs
 
--- src/lib.rt:71:38
 step-held-requires : tie.Need-step-held-requires
 step-held-requires c κs = read-held _ (λ i. c .before .before .before .before .before .before .before .before .shared-slice-known .given i .fits) _ _ (c .before .before .before .before .before .before .before .before .before .pre) _ _ (c .before .before .before .before .before .check-tree .ensures) _ (c .before .before .before .a2 .given .1)
 
--- src/lib.rt:57:1
 returns : tie.Need-returns
 returns c = read-refused _ _ _ _ _ (c .before .before .before .check-tree .ensures) _ (c .before .a .given .1)
 
--- src/lib.rt:57:1
 same-length : tie.Need-same-length
 same-length c = search needs
 
--- src/lib.rt:57:1
 returns-2 : tie.Need-returns-2
 returns-2 c = search needs
 

@@ -15,75 +15,57 @@ Inv-loop piece buf₀ out₀ line₀ at₀ n₀ buf out line at n = Fed (take at
 abbrev μ-loop : tie.MeasureT-loop
 μ-loop piece buf₀ out₀ line₀ at₀ n₀ buf out line at n = length piece - at
 
--- src/lib.rt:46:5
 loop-holds : tie.Need-loop-holds Inv-loop μ-loop
 loop-holds c = (fed-start (now (c .before .before .args .piece)) _ _ _, omega arith, omega arith, refl, omega arith)
 
--- src/lib.rt:47:12
 sub-if1 : tie.Need-sub-if1 Inv-loop μ-loop
 sub-if1 c = omega arith
 
--- src/lib.rt:48:13
 same-length : tie.Need-same-length Inv-loop μ-loop
 same-length c = c .before .before .loop .inv .3
 
--- src/lib.rt:48:13
 returns : tie.Need-returns Inv-loop μ-loop
 returns c = record { fed = c .before .before .loop .inv .0; some = λ l. omega (arith, c .before .before .before .before .before .pre); within = c .before .before .loop .inv .1; room = c .before .before .loop .inv .2 }
 
--- src/lib.rt:54:13
 end-of-line-requires : tie.Need-end-of-line-requires Inv-loop μ-loop
 end-of-line-requires c κs = omega arith
 
--- src/lib.rt:55:33
 sub-line-piece : tie.Need-sub-line-piece Inv-loop μ-loop
 sub-line-piece c = omega (arith, c .end-of-line .ensures .from)
 
--- src/lib.rt:55:33
 part-line-piece-start : tie.Need-part-line-piece-start Inv-loop μ-loop
 part-line-piece-start c = c .end-of-line .ensures .from
 
--- src/lib.rt:55:33
 part-line-piece-end : tie.Need-part-line-piece-end Inv-loop μ-loop
 part-line-piece-end c = c .end-of-line .ensures .within
 
--- src/lib.rt:55:9
 line-piece-requires : tie.Need-line-piece-requires Inv-loop μ-loop
 line-piece-requires c κs = tt
 
--- src/lib.rt:57:13
 same-length-2 : tie.Need-same-length-2 Inv-loop μ-loop
 same-length-2 c = c .before .before .before .before .before .before .before .loop .inv .3
 
--- src/lib.rt:57:13
 returns-2 : tie.Need-returns-2 Inv-loop μ-loop
 returns-2 c = record { fed = fed-part _ _ _ _ _ _ (c .before .before .before .before .end-of-line .ensures) _ _ _ _ (c .before .before .before .before .before .before .before .loop .inv .0) _ _ (c .before .line-piece .ensures); some = λ l. omega arith; within = c .before .before .before .before .end-of-line .ensures .within; room = c .before .before .before .before .before .before .before .loop .inv .2 }
 
--- src/lib.rt:63:9
 put-line-requires : tie.Need-put-line-requires Inv-loop μ-loop
 put-line-requires c κs = omega arith
 
--- src/lib.rt:64:9
 line-start-requires : tie.Need-line-start-requires Inv-loop μ-loop
 line-start-requires c κs = tt
 
--- src/lib.rt:65:14
 add-at : tie.Need-add-at Inv-loop μ-loop
 add-at c = omega arith
 
--- src/lib.rt:46:5
 loop-less : tie.Need-loop-less Inv-loop μ-loop
 loop-less c = omega (arith, c .before .before .before .before .before .before .before .before .before .before .end-of-line .ensures .from)
 
--- src/lib.rt:46:5
 loop-again : tie.Need-loop-again Inv-loop μ-loop
 loop-again c = (fed-end _ _ _ _ _ _ (c .before .before .before .before .before .before .before .before .before .before .end-of-line .ensures) (c .before .before .before .before .before .before .if2 .left) _ _ _ _ (fed-part _ _ _ _ _ _ (c .before .before .before .before .before .before .before .before .before .before .end-of-line .ensures) _ _ _ _ (c .before .before .before .before .before .before .before .before .before .before .before .before .before .loop .inv .0) _ _ (c .before .before .before .before .before .before .before .line-piece .ensures)) _ _ (c .before .before .before .put-line .ensures) _ (c .line-start .ensures), omega arith, omega (arith, c .before .before .before .put-line .ensures .room), omega arith, omega (arith, c .before .before .before .put-line .ensures .room, c .before .before .before .before .before .before .before .before .before .before .end-of-line .ensures .from))
 
--- src/lib.rt:39:1
 same-length-3 : tie.Need-same-length-3 Inv-loop μ-loop
 same-length-3 c = c .before .loop .inv .3
 
--- src/lib.rt:39:1
 returns-3 : tie.Need-returns-3 Inv-loop μ-loop
 returns-3 c = record { fed = c .before .loop .inv .0; some = λ l. omega arith; within = c .before .loop .inv .1; room = c .before .loop .inv .2 }
 

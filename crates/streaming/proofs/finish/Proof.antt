@@ -4,19 +4,15 @@ use borrow.Author.Needs.{needs}
 use Rattle.streaming.proofs.finish.Statement.{statement}
 use Rattle.streaming.proofs.finish.Tie as tie
 
--- src/lib.rt:81:9
 returns : tie.Need-returns
 returns c = finish-none _ _ _ (c .if1 .taken)
 
--- src/lib.rt:83:5
 put-line-requires : tie.Need-put-line-requires
 put-line-requires c κs = search needs
 
--- src/lib.rt:75:1
 same-length : tie.Need-same-length
 same-length c = search needs
 
--- src/lib.rt:75:1
 returns-2 : tie.Need-returns-2
 returns-2 c = finish-line _ _ _ (c .before .before .before .before .if1 .left) (c .before .before .before .before .before .before .pre) _ _ (omega arith) (c .before .before .put-line .ensures)
 

@@ -3,27 +3,21 @@ use borrow.Author.Needs.{needs}
 use Rattle.synthesis.proofs.all_turns.Statement.{statement}
 use Rattle.synthesis.proofs.all_turns.Tie as tie
 
--- src/lib.rt:248:9
 judge-types-requires : tie.Need-judge-types-requires
 judge-types-requires c κs = leaf-judge (c .before .before .before .before .before .args .first) (c .before .before .before .before .before .args .s .now) (c .before .before .before .before .before .args .leaves .now) (c .before .before .before .before .before .args .types .now) (c .before .before .before .before .before .args .start) (c .before .before .before .before .before .pre) (c .before .if1 .taken)
 
--- src/lib.rt:248:9
 same-length : tie.Need-same-length
 same-length c = search needs
 
--- src/lib.rt:248:9
 returns : tie.Need-returns
 returns c = leaf-turns (c .before .before .before .before .before .before .before .before .args .first) (c .before .before .before .before .before .before .before .before .args .s .now) (c .before .before .before .before .before .before .before .before .args .leaves .now) (c .before .before .before .before .before .before .before .before .args .types .now) (c .before .before .before .before .before .before .before .before .args .start) (c .before .before .before .before .before .before .before .before .pre) (c .before .before .before .before .if1 .taken) _ (λ i. c .slice-known2 .given i .fits) _ (c .before .before .judge-types .ensures)
 
--- src/lib.rt:250:5
 lent-turns-requires : tie.Need-lent-turns-requires
 lent-turns-requires c κs = search needs
 
--- src/lib.rt:237:1
 same-length-2 : tie.Need-same-length-2
 same-length-2 c = search needs
 
--- src/lib.rt:237:1
 returns-2 : tie.Need-returns-2
 returns-2 c = search needs
 

@@ -3,43 +3,33 @@ use borrow.Author.Needs.{needs}
 use Rattle.synthesis.proofs.close_top.Statement.{statement}
 use Rattle.synthesis.proofs.close_top.Tie as tie
 
--- src/lib.rt:157:9
 judge-types-requires : tie.Need-judge-types-requires
 judge-types-requires c κs = search needs
 
--- src/lib.rt:159:36
 enum-told : tie.Need-enum-told
 enum-told c = search needs
 
--- src/lib.rt:160:19
 enum-known-t : tie.Need-enum-known-t
 enum-known-t c = search needs
 
--- src/lib.rt:162:17
 same-length : tie.Need-same-length
 same-length c = search needs
 
--- src/lib.rt:162:17
 returns : tie.Need-returns
 returns c = close-last _ _ _ _ _ _ (c .before .before .before .before .before .before .judge-types .ensures) _ (c .before .before .t .given .1) (c .if1 .taken)
 
--- src/lib.rt:168:22
 sub-t14 : tie.Need-sub-t14
 sub-t14 c = search needs
 
--- src/lib.rt:152:1
 same-length-2 : tie.Need-same-length-2
 same-length-2 c = search needs
 
--- src/lib.rt:152:1
 returns-2 : tie.Need-returns-2
 returns-2 c = close-bad _ _ _ _ _ _ (c .before .before .before .before .judge-types .ensures) (c .enum-told .given .1)
 
--- src/lib.rt:152:1
 same-length-3 : tie.Need-same-length-3
 same-length-3 c = search needs
 
--- src/lib.rt:152:1
 returns-3 : tie.Need-returns-3
 returns-3 c = close-on _ _ _ _ _ _ (c .before .before .before .before .before .before .judge-types .ensures) _ (c .before .before .t .given .1) (c .if1 .left)
 

@@ -4,67 +4,51 @@ use borrow.Author.Needs.{needs}
 use Rattle.synthesis.proofs.one_turn.Statement.{statement}
 use Rattle.synthesis.proofs.one_turn.Tie as tie
 
--- src/lib.rt:167:9
 close-top-requires : tie.Need-close-top-requires
 close-top-requires c κs = step-judge (c .before .before .before .before .before .args .node) (c .before .before .before .before .before .args .s .now) (c .before .before .before .before .before .args .leaves .now) (c .before .before .before .before .before .args .types .now) (c .before .before .before .before .before .args .state) (c .before .before .before .before .before .pre)
 
--- src/lib.rt:167:9
 same-length : tie.Need-same-length
 same-length c = search needs
 
--- src/lib.rt:167:9
 returns : tie.Need-returns
 returns c = step-close (c .before .before .before .before .before .before .before .before .args .node) (c .before .before .before .before .before .before .before .before .args .s .now) (c .before .before .before .before .before .before .before .before .args .leaves .now) (c .before .before .before .before .before .before .before .before .args .types .now) (c .before .before .before .before .before .before .before .before .args .state) (c .before .before .before .before .before .before .before .before .pre) (c .before .before .before .before .if1 .taken) _ (λ i. c .slice-known2 .given i .fits) _ (c .before .before .close-top .ensures)
 
--- src/lib.rt:171:23
 mul-wide16 : tie.Need-mul-wide16
 mul-wide16 c = omega (arith, step-space (c .before .before .before .before .args .node) (c .before .before .before .before .args .s .now) (c .before .before .before .before .args .leaves .now) (c .before .before .before .before .args .types .now) (c .before .before .before .before .args .state) (λ i. c .before .before .before .shared-slice-known .given i .fits) (c .before .before .before .before .pre) (c .if1 .left) .1)
 
--- src/lib.rt:171:23
 element-copy-out-wide16 : tie.Need-element-copy-out-wide16
 element-copy-out-wide16 c = step-space (c .before .before .before .before .args .node) (c .before .before .before .before .args .s .now) (c .before .before .before .before .args .leaves .now) (c .before .before .before .before .args .types .now) (c .before .before .before .before .args .state) (λ i. c .before .before .before .shared-slice-known .given i .fits) (c .before .before .before .before .pre) (c .if1 .left) .1
 
--- src/lib.rt:171:9
 wide16-requires : tie.Need-wide16-requires
 wide16-requires c κs = search needs
 
--- src/lib.rt:172:9
 open-node-requires : tie.Need-open-node-requires
 open-node-requires c κs = step-pre (c .before .before .before .before .before .before .before .args .node) (c .before .before .before .before .before .before .before .args .s .now) (c .before .before .before .before .before .before .before .args .leaves .now) (c .before .before .before .before .before .before .before .args .types .now) (c .before .before .before .before .before .before .before .args .state) (λ i. c .before .before .before .before .before .before .shared-slice-known .given i .fits) (c .before .before .before .before .before .before .before .pre) (c .before .before .before .if1 .left) _ (c .before .wide16 .ensures .0)
 
--- src/lib.rt:174:37
 enum-told : tie.Need-enum-told
 enum-told c = search needs
 
--- src/lib.rt:175:20
 enum-known-o : tie.Need-enum-known-o
 enum-known-o c = search needs
 
--- src/lib.rt:178:23
 sub-t26 : tie.Need-sub-t26
 sub-t26 c = search needs
 
--- src/lib.rt:183:24
 add-t26 : tie.Need-add-t26
 add-t26 c = omega (arith, step-space (c .before .before .before .before .before .before .before .before .before .before .before .before .before .before .args .node) (c .before .before .before .before .before .before .before .before .before .before .before .before .before .before .args .s .now) (c .before .before .before .before .before .before .before .before .before .before .before .before .before .before .args .leaves .now) (c .before .before .before .before .before .before .before .before .before .before .before .before .before .before .args .types .now) (c .before .before .before .before .before .before .before .before .before .before .before .before .before .before .args .state) (λ i. c .before .before .before .before .before .before .before .before .before .before .before .before .before .shared-slice-known .given i .fits) (c .before .before .before .before .before .before .before .before .before .before .before .before .before .before .pre) (c .before .before .before .before .before .before .before .before .before .before .if1 .left) .1)
 
--- src/lib.rt:185:22
 add-t27 : tie.Need-add-t27
 add-t27 c = omega (arith, step-space (c .before .before .before .before .before .before .before .before .before .before .before .before .before .before .before .args .node) (c .before .before .before .before .before .before .before .before .before .before .before .before .before .before .before .args .s .now) (c .before .before .before .before .before .before .before .before .before .before .before .before .before .before .before .args .leaves .now) (c .before .before .before .before .before .before .before .before .before .before .before .before .before .before .before .args .types .now) (c .before .before .before .before .before .before .before .before .before .before .before .before .before .before .before .args .state) (λ i. c .before .before .before .before .before .before .before .before .before .before .before .before .before .before .shared-slice-known .given i .fits) (c .before .before .before .before .before .before .before .before .before .before .before .before .before .before .before .pre) (c .before .before .before .before .before .before .before .before .before .before .before .if1 .left) .0)
 
--- src/lib.rt:156:1
 same-length-2 : tie.Need-same-length-2
 same-length-2 c = search needs
 
--- src/lib.rt:156:1
 returns-2 : tie.Need-returns-2
 returns-2 c = step-bad (c .before .before .before .before .before .before .before .before .before .before .before .before .args .node) (c .before .before .before .before .before .before .before .before .before .before .before .before .args .s .now) (c .before .before .before .before .before .before .before .before .before .before .before .before .args .leaves .now) (c .before .before .before .before .before .before .before .before .before .before .before .before .args .types .now) (c .before .before .before .before .before .before .before .before .before .before .before .before .args .state) (λ i. c .before .before .before .before .before .before .before .before .before .before .before .shared-slice-known .given i .fits) (c .before .before .before .before .before .before .before .before .before .before .before .before .pre) (c .before .before .before .before .before .before .before .before .if1 .left) _ (c .before .before .before .before .before .before .wide16 .ensures .0) _ (c .before .before .before .before .open-node .result) (c .before .before .before .before .open-node .ensures) (c .enum-told .given .1)
 
--- src/lib.rt:156:1
 same-length-3 : tie.Need-same-length-3
 same-length-3 c = search needs
 
--- src/lib.rt:156:1
 returns-3 : tie.Need-returns-3
 returns-3 c = step-open (c .before .before .before .before .before .before .before .before .before .before .before .before .before .before .before .args .node) (c .before .before .before .before .before .before .before .before .before .before .before .before .before .before .before .args .s .now) (c .before .before .before .before .before .before .before .before .before .before .before .before .before .before .before .args .leaves .now) (c .before .before .before .before .before .before .before .before .before .before .before .before .before .before .before .args .types .now) (c .before .before .before .before .before .before .before .before .before .before .before .before .before .before .before .args .state) (λ i. c .before .before .before .before .before .before .before .before .before .before .before .before .before .before .shared-slice-known .given i .fits) (c .before .before .before .before .before .before .before .before .before .before .before .before .before .before .before .pre) (c .before .before .before .before .before .before .before .before .before .before .before .if1 .left) _ (c .before .before .before .before .before .before .before .before .before .wide16 .ensures .0) _ (c .before .before .before .before .before .before .before .open-node .result) (c .before .before .before .before .before .before .before .open-node .ensures) _ _ _ (c .before .before .before .o .given .1)
 

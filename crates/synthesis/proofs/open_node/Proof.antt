@@ -5,47 +5,36 @@ use borrow.Author.Needs.{needs}
 use Rattle.synthesis.proofs.open_node.Statement.{statement}
 use Rattle.synthesis.proofs.open_node.Tie as tie
 
--- src/lib.rt:95:9
 known-head-requires : tie.Need-known-head-requires
 known-head-requires c κs = let h = c .before .before .pre in (h .sort, h .tree, h .to, h .stands)
 
--- src/lib.rt:105:29
 enum-known-h : tie.Need-enum-known-h
 enum-known-h c = search needs
 
--- src/lib.rt:107:13
 enum-known-h-2 : tie.Need-enum-known-h-2
 enum-known-h-2 c = search needs
 
--- src/lib.rt:115:17
 own-type-requires : tie.Need-own-type-requires
 own-type-requires c κs = open-own (c .before .before .before .before .before .before .before .args .s .now) (λ i. c .before .before .before .before .before .before .shared-slice-known .given i .fits) (c .before .before .before .before .before .before .before .args .at) (c .before .before .before .before .before .before .before .args .leaf) [] [] [] 0 (c .before .before .before .before .before .before .before .args .types .now) (c .before .before .before .before .before .before .before .args .end) (c .before .before .before .before .known-head .result) (c .before .before .before .before .known-head .ensures) (c .before .before .h2 .given .0 .0) _ _ _ _ _ _ (c .before .before .h2 .given .1) (c .before .before .before .before .before .before .before .pre)
 
--- src/lib.rt:117:31
 enum-told : tie.Need-enum-told
 enum-told c = search needs
 
--- src/lib.rt:118:27
 enum-known-own : tie.Need-enum-known-own
 enum-known-own c = search needs
 
--- src/lib.rt:99:1
 returns : tie.Need-returns
 returns c = record { opens = λ t l f top. open-refused (c .before .before .before .before .before .before .args .s .now) (λ i. c .before .before .before .before .before .shared-slice-known .given i .fits) (c .before .before .before .before .before .before .args .at) (c .before .before .before .before .before .before .args .leaf) t l f top (c .before .before .before .before .before .before .args .types .now) (c .before .before .before .before .before .before .args .end) (c .before .before .before .known-head .result) (c .before .before .before .known-head .ensures) _ (c .before .h .given .1) _ _ _ _ }
 
--- src/lib.rt:99:1
 same-length : tie.Need-same-length
 same-length c = search needs
 
--- src/lib.rt:99:1
 returns-2 : tie.Need-returns-2
 returns-2 c = record { opens = λ t l f top. open-bad (c .before .before .before .before .before .before .before .before .before .before .before .before .args .s .now) (λ i. c .before .before .before .before .before .before .before .before .before .before .before .shared-slice-known .given i .fits) (c .before .before .before .before .before .before .before .before .before .before .before .before .args .at) (c .before .before .before .before .before .before .before .before .before .before .before .before .args .leaf) t l f top (c .before .before .before .before .before .before .before .before .before .before .before .before .args .types .now) (c .before .before .before .before .before .before .before .before .before .before .before .before .args .end) (c .before .before .before .before .before .before .before .before .before .known-head .result) (c .before .before .before .before .before .before .before .before .before .known-head .ensures) (c .before .before .before .before .before .before .before .h2 .given .0 .0) _ _ _ _ _ _ (c .before .before .before .before .before .before .before .h2 .given .1) _ (c .before .before .before .before .own-type .result) (c .before .before .before .before .own-type .ensures) (c .enum-told .given .1) _ _ _ }
 
--- src/lib.rt:99:1
 same-length-2 : tie.Need-same-length-2
 same-length-2 c = search needs
 
--- src/lib.rt:99:1
 returns-3 : tie.Need-returns-3
 returns-3 c = record { opens = λ t l f top. open-to (c .before .before .before .before .before .before .before .before .before .before .before .before .before .args .s .now) (λ i. c .before .before .before .before .before .before .before .before .before .before .before .before .shared-slice-known .given i .fits) (c .before .before .before .before .before .before .before .before .before .before .before .before .before .args .at) (c .before .before .before .before .before .before .before .before .before .before .before .before .before .args .leaf) t l f top (c .before .before .before .before .before .before .before .before .before .before .before .before .before .args .types .now) (c .before .before .before .before .before .before .before .before .before .before .before .before .before .args .end) (c .before .before .before .before .before .before .before .before .before .before .known-head .result) (c .before .before .before .before .before .before .before .before .before .before .known-head .ensures) (c .before .before .before .before .before .before .before .before .h2 .given .0 .0) _ _ _ _ _ _ (c .before .before .before .before .before .before .before .before .h2 .given .1) _ (c .before .before .before .before .before .own-type .result) (c .before .before .before .before .before .own-type .ensures) _ (c .before .own .given .1) _ _ _ _ refl refl refl }
 

@@ -4,35 +4,27 @@ use borrow.Author.Needs.{needs}
 use Rattle.synthesis.proofs.put_type.Statement.{statement}
 use Rattle.synthesis.proofs.put_type.Tie as tie
 
--- src/lib.rt:79:9
 type-end-requires : tie.Need-type-end-requires
 type-end-requires c κs = record { type = c .before .before .pre .type; end = c .before .before .pre .to; span = c .before .before .pre .span }
 
--- src/lib.rt:80:21
 sub-if1 : tie.Need-sub-if1
 sub-if1 c = put-room _ _ _ _ _ (c .type-end .ensures) (c .before .before .before .pre) .0
 
--- src/lib.rt:81:9
 returns : tie.Need-returns
 returns c = put-bad _ _ _ _ _ (c .before .type-end .ensures) (c .if1 .taken)
 
--- src/lib.rt:83:5
 copy-in-requires : tie.Need-copy-in-requires
 copy-in-requires c κs = let p = put-room _ _ _ _ _ (c .before .before .type-end .ensures) (c .before .before .before .before .before .pre) in omega (arith, c .before .before .before .before .before .pre .room)
 
--- src/lib.rt:84:22
 sub-t6 : tie.Need-sub-t6
 sub-t6 c = put-room _ _ _ _ _ (c .before .before .before .before .before .type-end .ensures) (c .before .before .before .before .before .before .before .before .pre) .0
 
--- src/lib.rt:84:15
 add-t11 : tie.Need-add-t11
 add-t11 c = omega (arith, c .before .before .before .before .before .before .before .before .pre .room, c .before .before .before .before .before .before .before .before .good)
 
--- src/lib.rt:75:1
 same-length : tie.Need-same-length
 same-length c = search needs
 
--- src/lib.rt:75:1
 returns-2 : tie.Need-returns-2
 returns-2 c = put-is _ _ _ _ _ (c .before .before .before .before .before .type-end .ensures) (c .before .before .before .before .before .before .before .before .pre) (c .before .before .before .before .if1 .left) _ (c .before .before .copy-in .ensures)
 

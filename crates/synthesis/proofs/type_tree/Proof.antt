@@ -4,51 +4,39 @@ use borrow.Author.Needs.{needs}
 use Rattle.synthesis.proofs.type_tree.Statement.{statement}
 use Rattle.synthesis.proofs.type_tree.Tie as tie
 
--- src/lib.rt:249:23
 mul-wide16 : tie.Need-mul-wide16
 mul-wide16 c = search needs
 
--- src/lib.rt:249:23
 element-copy-out-wide16 : tie.Need-element-copy-out-wide16
 element-copy-out-wide16 c = type-place (c .before .before .args .s .now) (c .before .before .args .at) (c .before .before .args .place) (c .before .before .args .leaves .now) (c .before .before .pre)
 
--- src/lib.rt:249:9
 wide16-requires : tie.Need-wide16-requires
 wide16-requires c κs = search needs
 
--- src/lib.rt:250:9
 open-node-requires : tie.Need-open-node-requires
 open-node-requires c κs = tree-open (c .before .before .before .before .before .args .s .now) (c .before .before .before .before .before .args .at) (c .before .before .before .before .before .args .place) (c .before .before .before .before .before .args .leaves .now) (c .before .before .before .before .before .pre) _ (c .before .wide16 .ensures .0)
 
--- src/lib.rt:251:20
 enum-known-o : tie.Need-enum-known-o
 enum-known-o c = search needs
 
--- src/lib.rt:252:9
 enum-told : tie.Need-enum-told
 enum-told c = search needs
 
--- src/lib.rt:252:9
 same-length : tie.Need-same-length
 same-length c = search needs
 
--- src/lib.rt:252:9
 returns : tie.Need-returns
 returns c = tree-bad (c .before .before .before .before .before .before .before .before .before .before .args .s .now) (c .before .before .before .before .before .before .before .before .before .before .args .at) (c .before .before .before .before .before .before .before .before .before .before .args .place) (c .before .before .before .before .before .before .before .before .before .before .args .leaves .now) (c .before .before .before .before .before .before .before .before .before .before .args .types .now) _ (c .before .before .before .before .before .before .wide16 .ensures .0) _ (c .before .before .before .before .open-node .result) (c .before .before .before .before .open-node .ensures) (c .enum-told .given .1)
 
--- src/lib.rt:256:16
 add-t12 : tie.Need-add-t12
 add-t12 c = search needs
 
--- src/lib.rt:260:5
 all-turns-requires : tie.Need-all-turns-requires
 all-turns-requires c κs = tree-turns (c .before .before .before .before .before .before .before .before .before .before .before .before .args .s .now) (c .before .before .before .before .before .before .before .before .before .before .before .before .args .at) (c .before .before .before .before .before .before .before .before .before .before .before .before .args .place) (c .before .before .before .before .before .before .before .before .before .before .before .before .args .leaves .now) (c .before .before .before .before .before .before .before .before .before .before .before .before .args .types .now) _ (c .before .before .before .before .before .before .before .before .wide16 .ensures .0) _ (c .before .before .before .before .before .before .open-node .result) (c .before .before .before .before .before .before .open-node .ensures) (c .before .before .before .before .before .before .before .before .before .before .before .before .pre .frame) _ _ _ (c .before .before .o .given .1) (c .before .before .before .before .before .before .before .before .before .before .before .before .pre)
 
--- src/lib.rt:245:1
 same-length-2 : tie.Need-same-length-2
 same-length-2 c = search needs
 
--- src/lib.rt:245:1
 returns-2 : tie.Need-returns-2
 returns-2 c = tree-ends (c .before .before .before .before .before .before .before .before .before .before .before .before .before .before .before .args .s .now) (c .before .before .before .before .before .before .before .before .before .before .before .before .before .before .before .args .at) (c .before .before .before .before .before .before .before .before .before .before .before .before .before .before .before .args .place) (c .before .before .before .before .before .before .before .before .before .before .before .before .before .before .before .args .leaves .now) (c .before .before .before .before .before .before .before .before .before .before .before .before .before .before .before .args .types .now) _ (c .before .before .before .before .before .before .before .before .before .before .before .wide16 .ensures .0) _ (c .before .before .before .before .before .before .before .before .before .open-node .result) (c .before .before .before .before .before .before .before .before .before .open-node .ensures) (c .before .before .before .before .before .before .before .before .before .before .before .before .before .before .before .pre .frame) _ _ _ (c .before .before .before .before .before .o .given .1) _ _ (omega arith) (c .before .before .all-turns .ensures)
 

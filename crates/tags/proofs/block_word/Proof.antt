@@ -4,23 +4,18 @@ use borrow.Author.Needs.{needs}
 use Rattle.tags.proofs.block_word.Statement.{statement}
 use Rattle.tags.proofs.block_word.Tie as tie
 
--- src/lib.rt:36:1
 returns : tie.Need-returns
 returns c = search needs
 
--- src/lib.rt:36:1
 returns-2 : tie.Need-returns-2
 returns-2 c = search needs
 
--- src/lib.rt:36:1
 returns-3 : tie.Need-returns-3
 returns-3 c = search needs
 
--- src/lib.rt:36:1
 returns-4 : tie.Need-returns-4
 returns-4 c = search needs
 
--- src/lib.rt:36:1
 returns-5 : tie.Need-returns-5
 returns-5 c = last-entry blockWords (c .before .args .i) 4 (c .before .pre) (c .match .rest)
 

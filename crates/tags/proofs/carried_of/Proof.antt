@@ -3,11 +3,9 @@ use borrow.Author.Needs.{needs}
 use Rattle.tags.proofs.carried_of.Statement.{statement}
 use Rattle.tags.proofs.carried_of.Tie as tie
 
--- src/lib.rt:143:6
 shr-result : tie.Need-shr-result
 shr-result c = search needs
 
--- src/lib.rt:139:1
 returns : tie.Need-returns
 returns c = carried-at (c .args .form) (c .pre)
 

@@ -3,11 +3,9 @@ use borrow.Author.Needs.{needs}
 use Rattle.tags.proofs.first_of.Statement.{statement}
 use Rattle.tags.proofs.first_of.Tie as tie
 
--- src/lib.rt:158:6
 shr-result : tie.Need-shr-result
 shr-result c = search needs
 
--- src/lib.rt:154:1
 returns : tie.Need-returns
 returns c = first-at (c .args .form) (c .pre)
 

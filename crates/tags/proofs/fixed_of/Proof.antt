@@ -3,15 +3,12 @@ use borrow.Author.Needs.{needs}
 use Rattle.tags.proofs.fixed_of.Statement.{statement}
 use Rattle.tags.proofs.fixed_of.Tie as tie
 
--- src/lib.rt:150:19
 mul-result : tie.Need-mul-result
 mul-result c = search needs
 
--- src/lib.rt:150:6
 shr-result : tie.Need-shr-result
 shr-result c = search needs
 
--- src/lib.rt:146:1
 returns : tie.Need-returns
 returns c = fixed-at (c .args .form) (c .pre)
 

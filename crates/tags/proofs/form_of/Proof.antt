@@ -3,27 +3,21 @@ use borrow.Author.Needs.{needs}
 use Rattle.tags.proofs.form_of.Statement.{statement}
 use Rattle.tags.proofs.form_of.Tie as tie
 
--- src/lib.rt:90:9
 row-of-requires : tie.Need-row-of-requires
 row-of-requires c κs = search needs
 
--- src/lib.rt:92:9
 returns : tie.Need-returns
 returns c = row-zero (c .before .before .args .tag) _ (c .before .row-of .ensures .0) (c .if1 .taken)
 
--- src/lib.rt:94:6
 form-word-requires : tie.Need-form-word-requires
 form-word-requires c κs = search needs
 
--- src/lib.rt:94:30
 mul-result : tie.Need-mul-result
 mul-result c = search needs
 
--- src/lib.rt:94:6
 shr-result : tie.Need-shr-result
 shr-result c = search needs
 
--- src/lib.rt:87:1
 returns-2 : tie.Need-returns-2
 returns-2 c = row-form (c .before .before .before .args .tag) _ _ (c .before .before .row-of .ensures .0) (c .form-word .ensures)
 

@@ -3,11 +3,9 @@ use borrow.Author.Needs.{needs}
 use Rattle.tags.proofs.later_of.Statement.{statement}
 use Rattle.tags.proofs.later_of.Tie as tie
 
--- src/lib.rt:166:6
 shr-result : tie.Need-shr-result
 shr-result c = search needs
 
--- src/lib.rt:162:1
 returns : tie.Need-returns
 returns c = later-at (c .args .form) (c .pre)
 

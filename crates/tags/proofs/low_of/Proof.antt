@@ -3,15 +3,12 @@ use borrow.Author.Needs.{needs}
 use Rattle.tags.proofs.low_of.Statement.{statement}
 use Rattle.tags.proofs.low_of.Tie as tie
 
--- src/lib.rt:124:15
 mul-result : tie.Need-mul-result
 mul-result c = search needs
 
--- src/lib.rt:124:6
 shr-result : tie.Need-shr-result
 shr-result c = search needs
 
--- src/lib.rt:120:1
 returns : tie.Need-returns
 returns c = low-at (c .args .form) (c .pre)
 

@@ -5,31 +5,24 @@ use borrow.Author.Needs.{needs}
 use Rattle.tags.proofs.row_of.Statement.{statement}
 use Rattle.tags.proofs.row_of.Tie as tie
 
--- src/lib.rt:56:9
 returns : tie.Need-returns
 returns c = row-far (c .before .args .tag) (c .if1 .taken)
 
--- src/lib.rt:58:18
 block-word-requires : tie.Need-block-word-requires
 block-word-requires c κs = search needs
 
--- src/lib.rt:58:44
 mul-entry : tie.Need-mul-entry
 mul-entry c = search needs
 
--- src/lib.rt:58:18
 shr-entry : tie.Need-shr-entry
 shr-entry c = search needs
 
--- src/lib.rt:61:9
 returns-2 : tie.Need-returns-2
 returns-2 c = row-none (c .before .before .before .args .tag) (c .before .before .if1 .left) _ (ap (λ (w : ℕ). w / 2 ^ (16 * (c .before .before .before .args .tag / 50 % 4)) % 65536) (c .before .block-word .ensures)) (c .if2 .taken)
 
--- src/lib.rt:63:5
 add-result : tie.Need-add-result
 add-result c = search needs
 
--- src/lib.rt:51:1
 returns-3 : tie.Need-returns-3
 returns-3 c = row-some (c .before .before .before .args .tag) (c .before .before .if1 .left) _ (ap (λ (w : ℕ). w / 2 ^ (16 * (c .before .before .before .args .tag / 50 % 4)) % 65536) (c .before .block-word .ensures)) (c .if2 .left)
 

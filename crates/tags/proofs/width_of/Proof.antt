@@ -5,19 +5,15 @@ use borrow.Author.Needs.{needs}
 use Rattle.tags.proofs.width_of.Statement.{statement}
 use Rattle.tags.proofs.width_of.Tie as tie
 
--- src/lib.rt:109:28
 mul-code : tie.Need-mul-code
 mul-code c = search needs
 
--- src/lib.rt:109:17
 shr-code : tie.Need-shr-code
 shr-code c = search needs
 
--- src/lib.rt:105:1
 returns : tie.Need-returns
 returns c = let z = width-eight (c .before .args .form) (c .before .pre) (c .if1 .taken) in (z, subst (λ (x : ℕ). x ≤ 8) (sym z) (width-small (c .before .args .form) (c .before .pre)))
 
--- src/lib.rt:105:1
 returns-2 : tie.Need-returns-2
 returns-2 c = let z = width-own (c .before .args .form) (c .before .pre) (c .if1 .left) in (z, subst (λ (x : ℕ). x ≤ 8) (sym z) (width-small (c .before .args .form) (c .before .pre)))
 

@@ -2,11 +2,9 @@ use Rattle.type_bytes.proofs.BufferLaws.{type-stands, type-ends}
 use Rattle.type_bytes.proofs.type_end.Statement.{statement}
 use Rattle.type_bytes.proofs.type_end.Tie as tie
 
--- src/lib.rt:12:5
 skip-types-requires : tie.Need-skip-types-requires
 skip-types-requires c κs = type-stands _ _ (c .before .pre)
 
--- src/lib.rt:8:1
 returns : tie.Need-returns
 returns c = type-ends _ _ _ (c .skip-types .ensures)
 

@@ -27,31 +27,24 @@ contains-in-below t =
 abbrev calls-contains-in : ℕ → contains-in-lts.Claims
 calls-contains-in t = (matches-at-reads.Asked, matches-at-reads.Learnt, next-at-reads.Asked, next-at-reads.Learnt, contains-in-below t, contains-in.Post)
 
--- src/contains.rt:22:9
 contains-in-returns : (t : ℕ) → contains-in-lts.Need-returns (calls-contains-in t) (contains-in-at t) contains-in.Post
 contains-in-returns t c = contains-none _ _ _ _ _ _ _ (c .if1 .taken)
 
--- src/contains.rt:24:8
 contains-in-matches-at-requires : (t : ℕ) → contains-in-lts.Need-matches-at-requires (calls-contains-in t) (contains-in-at t) contains-in.Post
 contains-in-matches-at-requires t c κs = both-placed (row-first _ _ _ _ _ _ (c .if1 .left) (c .before .before .pre .1))
 
--- src/contains.rt:25:9
 contains-in-returns-2 : (t : ℕ) → contains-in-lts.Need-returns-2 (calls-contains-in t) (contains-in-at t) contains-in.Post
 contains-in-returns-2 t c = contains-first _ _ _ _ _ _ (c .before .before .if1 .left) _ _ (c .before .matches-at .ensures) (c .if2 .taken)
 
--- src/contains.rt:27:9
 contains-in-next-at-requires : (t : ℕ) → contains-in-lts.Need-next-at-requires (calls-contains-in t) (contains-in-at t) contains-in.Post
 contains-in-next-at-requires t c κs = two-few (row-first _ _ _ _ _ _ (c .before .before .if1 .left) (c .before .before .before .before .pre .1)) .0
 
--- src/contains.rt:28:38
 contains-in-sub-contains-in : (t : ℕ) → contains-in-lts.Need-sub-contains-in (calls-contains-in t) (contains-in-at t) contains-in.Post
 contains-in-sub-contains-in t c = let z = c .before .before .before .if1 .left in omega arith
 
--- src/contains.rt:28:5
 contains-in-contains-in-requires : (t : ℕ) → contains-in-lts.Need-contains-in-requires (calls-contains-in t) (contains-in-at t) contains-in.Post
 contains-in-contains-in-requires t c κs = (let z = c .before .before .before .if1 .left in let y = c .before .before .before .before .before .pre .0 in omega arith, row-rest _ _ _ _ _ _ (c .before .before .before .if1 .left) (c .before .before .before .before .before .pre .1) _ (c .next-at .ensures .0))
 
--- src/contains.rt:17:1
 contains-in-returns-3 : (t : ℕ) → contains-in-lts.Need-returns-3 (calls-contains-in t) (contains-in-at t) contains-in.Post
 contains-in-returns-3 t c = contains-more _ _ _ _ _ _ (c .before .before .before .before .if1 .left) _ _ (c .before .before .before .matches-at .ensures) (c .before .before .if2 .left) _ (c .before .next-at .ensures .0) _ (c .contains-in .ensures)
 

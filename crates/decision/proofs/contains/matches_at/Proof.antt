@@ -3,19 +3,15 @@ use borrow.Author.Needs.{needs}
 use Rattle.decision.proofs.contains.matches_at.Statement.{statement}
 use Rattle.decision.proofs.contains.matches_at.Tie as tie
 
--- src/contains.rt:40:9
 opposite-requires : tie.Need-opposite-requires
 opposite-requires c κs = search needs
 
--- src/contains.rt:40:9
 returns : tie.Need-returns
 returns c = match-opposite _ _ _ _ _ _ (c .before .if1 .taken) (c .opposite .ensures)
 
--- src/contains.rt:42:5
 same-at-requires : tie.Need-same-at-requires
 same-at-requires c κs = search needs
 
--- src/contains.rt:35:1
 returns-2 : tie.Need-returns-2
 returns-2 c = match-same _ _ _ _ _ _ (c .before .if1 .left) (c .same-at .ensures)
 

@@ -5,23 +5,18 @@ use borrow.Author.Needs.{needs}
 use Rattle.decision.proofs.contains.negates.Statement.{statement}
 use Rattle.decision.proofs.contains.negates.Tie as tie
 
--- src/contains.rt:17:8
 tag-at-requires : tie.Need-tag-at-requires
 tag-at-requires c κs = search needs
 
--- src/contains.rt:18:9
 returns : tie.Need-returns
 returns c = negates-none _ _ _ _ _ (c .before .tag-at .ensures) (c .if1 .taken)
 
--- src/contains.rt:20:24
 add-same-at : tie.Need-add-same-at
 add-same-at c = let z = placed-root _ _ _ (c .before .before .before .pre .left) .0 in omega arith
 
--- src/contains.rt:20:5
 same-at-requires : tie.Need-same-at-requires
 same-at-requires c κs = record { left = inner-placed _ _ _ _ (c .before .tag-at .ensures) (c .if1 .left) (c .before .before .before .pre .left); right = c .before .before .before .pre .right }
 
--- src/contains.rt:13:1
 returns-2 : tie.Need-returns-2
 returns-2 c = negates-inner _ _ _ _ _ (c .before .before .tag-at .ensures) (c .before .if1 .left) _ (c .same-at .ensures)
 

@@ -5,27 +5,21 @@ use borrow.Author.Needs.{needs}
 use Rattle.decision.proofs.contains.opposite.Statement.{statement}
 use Rattle.decision.proofs.contains.opposite.Tie as tie
 
--- src/contains.rt:28:8
 tag-at-requires : tie.Need-tag-at-requires
 tag-at-requires c κs = search needs
 
--- src/contains.rt:29:38
 add-same-at : tie.Need-add-same-at
 add-same-at c = let z = placed-root _ _ _ (c .before .before .before .pre .right) .0 in omega arith
 
--- src/contains.rt:29:9
 same-at-requires : tie.Need-same-at-requires
 same-at-requires c κs = record { left = c .before .before .before .pre .left; right = inner-placed _ _ _ _ (c .before .tag-at .ensures) (c .if1 .taken) (c .before .before .before .pre .right) }
 
--- src/contains.rt:29:9
 returns : tie.Need-returns
 returns c = opposite-child _ _ _ _ _ (c .before .before .tag-at .ensures) (c .before .if1 .taken) _ (c .same-at .ensures)
 
--- src/contains.rt:31:5
 negates-requires : tie.Need-negates-requires
 negates-requires c κs = search needs
 
--- src/contains.rt:24:1
 returns-2 : tie.Need-returns-2
 returns-2 c = opposite-new _ _ _ _ _ (c .before .before .tag-at .ensures) (c .before .if1 .left) _ (c .negates .ensures)
 

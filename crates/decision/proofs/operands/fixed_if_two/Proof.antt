@@ -3,15 +3,12 @@ use borrow.Author.Needs.{needs}
 use Rattle.decision.proofs.operands.fixed_if_two.Statement.{statement}
 use Rattle.decision.proofs.operands.fixed_if_two.Tie as tie
 
--- src/operands.rt:50:9
 fixed-requires : tie.Need-fixed-requires
 fixed-requires c κs = search needs
 
--- src/operands.rt:50:9
 returns : tie.Need-returns
 returns c = rw (eq-eqb _ 2 (c .before .if1 .taken)) (c .fixed .ensures)
 
--- src/operands.rt:46:1
 returns-2 : tie.Need-returns-2
 returns-2 c = rw (ne-eqb _ 2 (c .if1 .left))
 

@@ -4,31 +4,24 @@ use Rattle.decision.proofs.Shapes.{first-placed, second-placed}
 use Rattle.equals.proofs.equality.empty_rules_at.Statement.{statement}
 use Rattle.equals.proofs.equality.empty_rules_at.Tie as tie
 
--- src/equality.rt:35:9
 tag-at-requires : tie.Need-tag-at-requires
 tag-at-requires c κs = second-placed (c .before .pre)
 
--- src/equality.rt:37:9
 rewrite-equals-empty-set-requires : tie.Need-rewrite-equals-empty-set-requires
 rewrite-equals-empty-set-requires c κs = search needs
 
--- src/equality.rt:37:9
 returns : tie.Need-returns
 returns c = empty-right _ _ _ _ _ _ (c .before .before .tag-at .ensures) (c .before .if1 .taken) _ (c .rewrite-equals-empty-set .ensures)
 
--- src/equality.rt:39:9
 tag-at-requires-2 : tie.Need-tag-at-requires-2
 tag-at-requires-2 c κs = first-placed (c .before .before .before .pre)
 
--- src/equality.rt:41:9
 rewrite-equals-empty-set-requires-2 : tie.Need-rewrite-equals-empty-set-requires-2
 rewrite-equals-empty-set-requires-2 c κs = search needs
 
--- src/equality.rt:41:9
 returns-2 : tie.Need-returns-2
 returns-2 c = empty-left _ _ _ _ _ _ (c .before .before .before .before .tag-at .ensures) (c .before .before .before .if1 .left) _ (c .before .before .tag-at2 .ensures) (c .before .if2 .taken) _ (c .rewrite-equals-empty-set2 .ensures)
 
--- src/equality.rt:25:1
 returns-3 : tie.Need-returns-3
 returns-3 c = empty-none _ _ _ _ _ _ (c .before .before .before .tag-at .ensures) (c .before .before .if1 .left) _ (c .before .tag-at2 .ensures) (c .if2 .left)
 

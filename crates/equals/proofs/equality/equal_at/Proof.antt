@@ -5,35 +5,27 @@ use borrow.Author.Needs.{needs}
 use Rattle.equals.proofs.equality.equal_at.Statement.{statement}
 use Rattle.equals.proofs.equality.equal_at.Tie as tie
 
--- src/equality.rt
 empty-rules-at-requires : tie.Need-empty-rules-at-requires
 empty-rules-at-requires c κs = search needs
 
--- src/equality.rt
 rests-requires : tie.Need-rests-requires
 rests-requires c κs = search needs
 
--- src/equality.rt
 returns : tie.Need-returns
 returns c = equal-empty _ _ _ _ _ _ (c .before .before .empty-rules-at .ensures) (sym (c .before .rests .ensures) ∙ not-true _ (c .if1 .taken))
 
--- src/equality.rt
 type-rule-at-requires : tie.Need-type-rule-at-requires
 type-rule-at-requires c κs = search needs
 
--- src/equality.rt
 rests-requires-2 : tie.Need-rests-requires-2
 rests-requires-2 c κs = search needs
 
--- src/equality.rt
 returns-2 : tie.Need-returns-2
 returns-2 c = equal-right _ _ _ _ _ _ (c .before .before .before .before .before .empty-rules-at .ensures) (sym (c .before .before .before .before .rests .ensures) ∙ not-false _ (c .before .before .before .if1 .left)) _ (c .before .before .type-rule-at .ensures) (sym (c .before .rests2 .ensures) ∙ not-true _ (c .if2 .taken))
 
--- src/equality.rt
 type-rule-at-requires-2 : tie.Need-type-rule-at-requires-2
 type-rule-at-requires-2 c κs = search needs
 
--- src/equality.rt:64:1
 returns-3 : tie.Need-returns-3
 returns-3 c = equal-left _ _ _ _ _ _ (c .before .before .before .before .before .before .empty-rules-at .ensures) (sym (c .before .before .before .before .before .rests .ensures) ∙ not-false _ (c .before .before .before .before .if1 .left)) _ (c .before .before .before .type-rule-at .ensures) (sym (c .before .before .rests2 .ensures) ∙ not-false _ (c .before .if2 .left)) _ (c .type-rule-at2 .ensures)
 

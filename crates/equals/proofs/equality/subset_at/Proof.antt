@@ -4,19 +4,15 @@ use Rattle.decision.proofs.Shapes.{second-placed}
 use Rattle.equals.proofs.equality.subset_at.Statement.{statement}
 use Rattle.equals.proofs.equality.subset_at.Tie as tie
 
--- src/equality.rt:18:8
 tag-at-requires : tie.Need-tag-at-requires
 tag-at-requires c κs = second-placed (c .before .pre)
 
--- src/equality.rt:19:9
 returns : tie.Need-returns
 returns c = within-none _ _ _ _ _ _ (c .before .tag-at .ensures) (c .if1 .taken)
 
--- src/equality.rt:21:5
 rewrite-equals-empty-set-requires : tie.Need-rewrite-equals-empty-set-requires
 rewrite-equals-empty-set-requires c κs = search needs
 
--- src/equality.rt:8:1
 returns-2 : tie.Need-returns-2
 returns-2 c = within-empty _ _ _ _ _ _ (c .before .before .tag-at .ensures) (c .before .if1 .left) _ (c .rewrite-equals-empty-set .ensures)
 

@@ -3,19 +3,15 @@ use Rattle.equals.proofs.PairTurns.{type-right, type-none}
 use Rattle.equals.proofs.equality.type_rule_at.Statement.{statement}
 use Rattle.equals.proofs.equality.type_rule_at.Tie as tie
 
--- src/equality.rt:57:8
 own-type-at-requires : tie.Need-own-type-at-requires
 own-type-at-requires c κs = search needs
 
--- src/equality.rt:58:9
 rewrite-equals-type-requires : tie.Need-rewrite-equals-type-requires
 rewrite-equals-type-requires c κs = search needs
 
--- src/equality.rt:58:9
 returns : tie.Need-returns
 returns c = type-right _ _ _ _ _ _ (c .before .before .own-type-at .ensures) (c .before .if1 .taken) _ (c .rewrite-equals-type .ensures)
 
--- src/equality.rt:47:1
 returns-2 : tie.Need-returns-2
 returns-2 c = type-none _ _ _ _ _ _ (c .before .own-type-at .ensures) (c .if1 .left)
 

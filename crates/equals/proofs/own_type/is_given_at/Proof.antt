@@ -5,27 +5,21 @@ use borrow.Author.Needs.{needs}
 use Rattle.equals.proofs.own_type.is_given_at.Statement.{statement}
 use Rattle.equals.proofs.own_type.is_given_at.Tie as tie
 
--- src/own_type.rt:11:9
 start-at-requires : tie.Need-start-at-requires
 start-at-requires c κs = name-read _ _ _ _ refl (c .before .pre) .0
 
--- src/own_type.rt:12:39
 add-number : tie.Need-add-number
 add-number c = search needs
 
--- src/own_type.rt:12:9
 number-requires : tie.Need-number-requires
 number-requires c κs = let z = name-read _ _ _ _ (c .start-at .ensures .0) (c .before .before .pre) in (omega arith, omega arith)
 
--- src/own_type.rt:13:38
 add-is-power : tie.Need-add-is-power
 add-is-power c = search needs
 
--- src/own_type.rt:13:5
 is-power-requires : tie.Need-is-power-requires
 is-power-requires c κs = let z = name-read _ _ _ _ (c .before .start-at .ensures .0) (c .before .before .before .pre) in (z .1, z .2, rw (c .number .ensures) (z .3))
 
--- src/own_type.rt:7:1
 returns : tie.Need-returns
 returns c = name-done _ _ _ _ (c .before .before .start-at .ensures .0) _ (c .before .number .ensures) _ (c .is-power .ensures)
 

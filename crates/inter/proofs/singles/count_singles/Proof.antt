@@ -13,47 +13,36 @@ Inv-loop s starts nexts k n m₀ c₀ i₀ m c i = (i ≤ n) × (m ≤ i) × Lef
 abbrev μ-loop : tie.MeasureT-loop
 μ-loop s starts nexts k n m₀ c₀ i₀ m c i = n - i
 
--- src/singles.rt:29:9
 arity-at-requires : tie.Need-arity-at-requires Inv-loop μ-loop
 arity-at-requires c κs = inter-placed _ _ _ _ (c .before .pre) .0
 
--- src/singles.rt:31:17
 add-c : tie.Need-add-c Inv-loop μ-loop
 add-c c = let z = inter-placed _ _ _ _ (c .before .before .pre) .1 in omega arith
 
--- src/singles.rt:33:5
 loop-holds : tie.Need-loop-holds Inv-loop μ-loop
 loop-holds c = (omega arith, omega arith, count-first _ _ _ _)
 
--- src/singles.rt:34:21
 is-single-requires : tie.Need-is-single-requires Inv-loop μ-loop
 is-single-requires c κs = inter-child _ _ _ _ _ _ (c .before .before .arity-at .ensures) _ _ (c .before .loop .inv .2) (c .loop-test .taken) (c .before .before .before .before .pre) .0
 
--- src/singles.rt:34:14
 one-if-requires : tie.Need-one-if-requires Inv-loop μ-loop
 one-if-requires c κs = search needs
 
--- src/singles.rt:34:9
 add-m : tie.Need-add-m Inv-loop μ-loop
 add-m c = let z = one-small (c .before .is-single .result) _ (c .one-if .ensures) in omega arith
 
--- src/singles.rt:35:9
 next-at-requires : tie.Need-next-at-requires Inv-loop μ-loop
 next-at-requires c κs = inter-child _ _ _ _ _ _ (c .before .before .before .before .arity-at .ensures) _ _ (c .before .before .before .loop .inv .2) (c .before .before .loop-test .taken) (c .before .before .before .before .before .before .pre) .1
 
--- src/singles.rt:36:9
 add-i : tie.Need-add-i Inv-loop μ-loop
 add-i c = omega arith
 
--- src/singles.rt:33:5
 loop-less : tie.Need-loop-less Inv-loop μ-loop
 loop-less c = omega arith
 
--- src/singles.rt:33:5
 loop-again : tie.Need-loop-again Inv-loop μ-loop
 loop-again c = (omega arith, (let z = one-small (c .before .before .is-single .result) _ (c .before .one-if .ensures) in omega arith), count-next _ _ _ _ _ (c .before .before .before .before .before .arity-at .ensures) _ _ _ (c .before .before .before .before .loop .inv .2) (c .before .before .before .loop-test .taken) _ (c .before .before .is-single .ensures) _ (c .before .one-if .ensures) _ (c .next-at .ensures .0))
 
--- src/singles.rt:25:1
 returns : tie.Need-returns Inv-loop μ-loop
 returns c = count-end _ _ _ _ _ (c .before .before .arity-at .ensures) _ _ _ (c .before .loop .inv .2) (c .loop-test .left)
 

@@ -12,43 +12,33 @@ Inv-loop s starts nexts k n c₀ i₀ c i = (i ≤ n) × Lefts s starts nexts k 
 abbrev μ-loop : tie.MeasureT-loop
 μ-loop s starts nexts k n c₀ i₀ c i = n - i
 
--- src/singles.rt:46:9
 arity-at-requires : tie.Need-arity-at-requires Inv-loop μ-loop
 arity-at-requires c κs = inter-placed _ _ _ _ (c .before .pre) .0
 
--- src/singles.rt:47:17
 add-c : tie.Need-add-c Inv-loop μ-loop
 add-c c = let z = inter-placed _ _ _ _ (c .before .before .pre) .1 in omega arith
 
--- src/singles.rt:49:5
 loop-holds : tie.Need-loop-holds Inv-loop μ-loop
 loop-holds c = (omega arith, first-first _ _ _ _)
 
--- src/singles.rt:50:12
 is-single-requires : tie.Need-is-single-requires Inv-loop μ-loop
 is-single-requires c κs = inter-child _ _ _ _ _ _ (c .before .before .arity-at .ensures) _ _ (c .before .loop .inv .1) (c .loop-test .taken) (c .before .before .before .before .pre) .0
 
--- src/singles.rt:51:13
 returns : tie.Need-returns Inv-loop μ-loop
 returns c = first-found _ _ _ _ _ (c .before .before .before .before .arity-at .ensures) _ _ (c .before .before .before .loop .inv .1) (c .before .before .loop-test .taken) _ (c .before .is-single .ensures) (c .if1 .taken)
 
--- src/singles.rt:53:9
 next-at-requires : tie.Need-next-at-requires Inv-loop μ-loop
 next-at-requires c κs = inter-child _ _ _ _ _ _ (c .before .before .before .before .arity-at .ensures) _ _ (c .before .before .before .loop .inv .1) (c .before .before .loop-test .taken) (c .before .before .before .before .before .before .pre) .1
 
--- src/singles.rt:54:9
 add-i : tie.Need-add-i Inv-loop μ-loop
 add-i c = omega arith
 
--- src/singles.rt:49:5
 loop-less : tie.Need-loop-less Inv-loop μ-loop
 loop-less c = omega arith
 
--- src/singles.rt:49:5
 loop-again : tie.Need-loop-again Inv-loop μ-loop
 loop-again c = (omega arith, first-next _ _ _ _ _ (c .before .before .before .before .before .arity-at .ensures) _ _ (c .before .before .before .before .loop .inv .1) (c .before .before .before .loop-test .taken) _ (c .before .before .is-single .ensures) (c .before .if1 .left) _ (c .next-at .ensures .0))
 
--- src/singles.rt:42:1
 returns-2 : tie.Need-returns-2 Inv-loop μ-loop
 returns-2 c = first-none _ _ _ _ _ (c .before .before .arity-at .ensures) _ _ (c .before .loop .inv .1) (c .loop-test .left)
 

@@ -3,19 +3,15 @@ use borrow.Author.Needs.{needs}
 use Rattle.inter.proofs.singles.is_single.Statement.{statement}
 use Rattle.inter.proofs.singles.is_single.Tie as tie
 
--- src/singles.rt:10:8
 tag-at-requires : tie.Need-tag-at-requires
 tag-at-requires c κs = search needs
 
--- src/singles.rt:11:9
 returns : tie.Need-returns
 returns c = single-no _ _ _ _ (c .before .tag-at .ensures) (c .if1 .taken)
 
--- src/singles.rt:13:5
 arity-at-requires : tie.Need-arity-at-requires
 arity-at-requires c κs = search needs
 
--- src/singles.rt:6:1
 returns-2 : tie.Need-returns-2
 returns-2 c = single-arity _ _ _ _ (c .before .before .tag-at .ensures) (c .before .if1 .left) _ (c .arity-at .ensures)
 

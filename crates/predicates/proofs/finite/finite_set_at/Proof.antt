@@ -4,47 +4,36 @@ use borrow.Author.Needs.{needs}
 use Rattle.predicates.proofs.finite.finite_set_at.Statement.{statement}
 use Rattle.predicates.proofs.finite.finite_set_at.Tie as tie
 
--- src/finite.rt:34:9
 second-of-requires : tie.Need-second-of-requires
 second-of-requires c κs = set-few _ _ _ _ (c .before .pre)
 
--- src/finite.rt:35:8
 tag-at-requires : tie.Need-tag-at-requires
 tag-at-requires c κs = value-placed _ _ _ _ _ (c .second-of .ensures) (c .before .before .pre)
 
--- src/finite.rt:36:9
 returns : tie.Need-returns
 returns c = set-other _ _ _ _ _ (c .before .before .second-of .ensures) _ (c .before .tag-at .ensures) (c .if1 .taken)
 
--- src/finite.rt:38:16
 add-left : tie.Need-add-left
 add-left c = let z = value-few _ _ _ _ _ (c .before .before .second-of .ensures) (c .before .before .before .before .pre) in omega arith
 
--- src/finite.rt:39:9
 second-of-requires-2 : tie.Need-second-of-requires-2
 second-of-requires-2 c κs = value-few _ _ _ _ _ (c .before .before .second-of .ensures) (c .before .before .before .before .pre)
 
--- src/finite.rt:40:9
 binders-at-requires : tie.Need-binders-at-requires
 binders-at-requires c κs = set-placed _ _ _ _ (c .before .before .before .before .before .pre)
 
--- src/finite.rt:41:8
 functional-check-requires : tie.Need-functional-check-requires
 functional-check-requires c κs = (set-sides _ _ _ _ _ (c .before .before .before .before .second-of .ensures) _ (c .before .before .before .tag-at .ensures) (c .before .before .if1 .left) _ (c .before .second-of2 .ensures) (c .before .before .before .before .before .before .pre), c .binders-at .ensures .1)
 
--- src/finite.rt:42:26
 add-fixed : tie.Need-add-fixed
 add-fixed c = let z = set-few _ _ _ _ (c .before .before .before .before .before .before .before .before .pre) in omega arith
 
--- src/finite.rt:42:9
 fixed-requires : tie.Need-fixed-requires
 fixed-requires c κs = search needs
 
--- src/finite.rt:42:9
 returns-2 : tie.Need-returns-2
 returns-2 c = set-11 _ _ _ _ _ (c .before .before .before .before .before .before .before .second-of .ensures) _ (c .before .before .before .before .before .before .tag-at .ensures) (c .before .before .before .before .before .if1 .left) _ (c .before .before .before .before .second-of2 .ensures) _ (c .before .before .before .binders-at .ensures .0) _ (c .before .before .functional-check .ensures) (c .before .if2 .taken) _ (c .fixed .ensures)
 
--- src/finite.rt:30:1
 returns-3 : tie.Need-returns-3
 returns-3 c = set-none _ _ _ _ _ (c .before .before .before .before .before .before .second-of .ensures) _ (c .before .before .before .before .before .tag-at .ensures) (c .before .before .before .before .if1 .left) _ (c .before .before .before .second-of2 .ensures) _ (c .before .before .binders-at .ensures .0) _ (c .before .functional-check .ensures) (c .if2 .left)
 

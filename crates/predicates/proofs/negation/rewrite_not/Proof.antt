@@ -6,71 +6,54 @@ use borrow.Author.Needs.{needs}
 use Rattle.predicates.proofs.negation.rewrite_not.Statement.{statement}
 use Rattle.predicates.proofs.negation.rewrite_not.Tie as tie
 
--- src/negation.rt:35:8
 tag-at-requires : tie.Need-tag-at-requires
 tag-at-requires c κs = here-placed (c .before .pre)
 
--- src/negation.rt:36:9
 returns : tie.Need-returns
 returns c = not-other _ _ _ _ _ (c .before .tag-at .ensures) (c .if1 .taken)
 
--- src/negation.rt:38:17
 add-inner : tie.Need-add-inner
 add-inner c = let z = here-few (c .before .before .before .pre) in omega arith
 
--- src/negation.rt:39:9
 tag-at-requires-2 : tie.Need-tag-at-requires-2
 tag-at-requires-2 c κs = here-placed (inner-here _ _ _ _ _ (c .before .tag-at .ensures) (c .if1 .left) (c .before .before .before .pre))
 
--- src/negation.rt:40:13
 add-a : tie.Need-add-a
 add-a c = let z = here-few (inner-here _ _ _ _ _ (c .before .before .tag-at .ensures) (c .before .if1 .left) (c .before .before .before .before .pre)) in omega arith
 
--- src/negation.rt:41:9
 second-of-requires : tie.Need-second-of-requires
 second-of-requires c κs = here-few (inner-here _ _ _ _ _ (c .before .before .tag-at .ensures) (c .before .if1 .left) (c .before .before .before .before .pre))
 
--- src/negation.rt:43:16
 fixed-requires : tie.Need-fixed-requires
 fixed-requires c κs = search needs
 
--- src/negation.rt:44:16
 fixed-requires-2 : tie.Need-fixed-requires-2
 fixed-requires-2 c κs = search needs
 
--- src/negation.rt:45:16
 fixed-requires-3 : tie.Need-fixed-requires-3
 fixed-requires-3 c κs = search needs
 
--- src/negation.rt:46:16
 fixed-requires-4 : tie.Need-fixed-requires-4
 fixed-requires-4 c κs = search needs
 
--- src/negation.rt:47:16
 unequal-at-requires : tie.Need-unequal-at-requires
 unequal-at-requires c κs = equation-here _ _ _ _ _ (c .before .before .tag-at2 .ensures) _ (c .before .second-of .ensures) (c .match .keys5) (inner-here _ _ _ _ _ (c .before .before .before .before .tag-at .ensures) (c .before .before .before .if1 .left) (c .before .before .before .before .before .before .pre))
 
--- src/negation.rt:31:1
 returns-2 : tie.Need-returns-2
 returns-2 c = of-inner _ _ _ _ _ (c .before .before .before .before .before .tag-at .ensures) (c .before .before .before .before .if1 .left) _ (not-compared _ _ _ _ _ (c .before .before .before .tag-at2 .ensures) 104 16 refl (c .before .match .keys1) _ (c .before .before .second-of .ensures) _ (c .fixed .ensures))
 
--- src/negation.rt:31:1
 returns-3 : tie.Need-returns-3
 returns-3 c = of-inner _ _ _ _ _ (c .before .before .before .before .before .tag-at .ensures) (c .before .before .before .before .if1 .left) _ (not-compared _ _ _ _ _ (c .before .before .before .tag-at2 .ensures) 106 17 refl (c .before .match .keys2) _ (c .before .before .second-of .ensures) _ (c .fixed2 .ensures))
 
--- src/negation.rt:31:1
 returns-4 : tie.Need-returns-4
 returns-4 c = of-inner _ _ _ _ _ (c .before .before .before .before .before .tag-at .ensures) (c .before .before .before .before .if1 .left) _ (not-compared _ _ _ _ _ (c .before .before .before .tag-at2 .ensures) 105 18 refl (c .before .match .keys3) _ (c .before .before .second-of .ensures) _ (c .fixed3 .ensures))
 
--- src/negation.rt:31:1
 returns-5 : tie.Need-returns-5
 returns-5 c = of-inner _ _ _ _ _ (c .before .before .before .before .before .tag-at .ensures) (c .before .before .before .before .if1 .left) _ (not-compared _ _ _ _ _ (c .before .before .before .tag-at2 .ensures) 103 19 refl (c .before .match .keys4) _ (c .before .before .second-of .ensures) _ (c .fixed4 .ensures))
 
--- src/negation.rt:31:1
 returns-6 : tie.Need-returns-6
 returns-6 c = of-inner _ _ _ _ _ (c .before .before .before .before .before .tag-at .ensures) (c .before .before .before .before .if1 .left) _ (not-equal _ _ _ _ _ (c .before .before .before .tag-at2 .ensures) _ (c .before .before .second-of .ensures) (c .before .match .keys5) _ (c .unequal-at .ensures))
 
--- src/negation.rt:31:1
 returns-7 : tie.Need-returns-7
 returns-7 c = of-inner _ _ _ _ _ (c .before .before .before .before .tag-at .ensures) (c .before .before .before .if1 .left) _ (not-none _ _ _ _ _ (c .before .before .tag-at2 .ensures) (c .match .rest))
 

@@ -4,47 +4,36 @@ use borrow.Author.Needs.{needs}
 use Rattle.predicates.proofs.negation.unequal_at.Statement.{statement}
 use Rattle.predicates.proofs.negation.unequal_at.Tie as tie
 
--- src/negation.rt:12:9
 tag-at-requires : tie.Need-tag-at-requires
 tag-at-requires c κs = second-placed (c .before .pre)
 
--- src/negation.rt:14:9
 fixed-requires : tie.Need-fixed-requires
 fixed-requires c κs = search needs
 
--- src/negation.rt:14:9
 returns : tie.Need-returns
 returns c = unequal-20 _ _ _ _ _ _ (c .before .before .tag-at .ensures) (c .before .if1 .taken) _ (c .fixed .ensures)
 
--- src/negation.rt:17:9
 fixed-requires-2 : tie.Need-fixed-requires-2
 fixed-requires-2 c κs = search needs
 
--- src/negation.rt:17:9
 returns-2 : tie.Need-returns-2
 returns-2 c = unequal-21 _ _ _ _ _ _ (c .before .before .before .tag-at .ensures) (c .before .if2 .taken) _ (c .fixed2 .ensures)
 
--- src/negation.rt:19:9
 tag-at-requires-2 : tie.Need-tag-at-requires-2
 tag-at-requires-2 c κs = first-placed (c .before .before .before .before .pre)
 
--- src/negation.rt:21:9
 fixed-requires-3 : tie.Need-fixed-requires-3
 fixed-requires-3 c κs = search needs
 
--- src/negation.rt:21:9
 returns-3 : tie.Need-returns-3
 returns-3 c = unequal-22 _ _ _ _ _ _ (c .before .before .before .before .before .tag-at .ensures) (c .before .before .before .before .if1 .left) (c .before .before .before .if2 .left) _ (c .before .before .tag-at2 .ensures) (c .before .if3 .taken) _ (c .fixed3 .ensures)
 
--- src/negation.rt:24:9
 fixed-requires-4 : tie.Need-fixed-requires-4
 fixed-requires-4 c κs = search needs
 
--- src/negation.rt:24:9
 returns-4 : tie.Need-returns-4
 returns-4 c = unequal-23 _ _ _ _ _ _ (c .before .before .before .before .before .before .tag-at .ensures) (c .before .before .before .before .before .if1 .left) (c .before .before .before .before .if2 .left) _ (c .before .before .before .tag-at2 .ensures) (c .before .if4 .taken) _ (c .fixed4 .ensures)
 
--- src/negation.rt:8:1
 returns-5 : tie.Need-returns-5
 returns-5 c = unequal-none _ _ _ _ _ _ (c .before .before .before .before .before .tag-at .ensures) (c .before .before .before .before .if1 .left) (c .before .before .before .if2 .left) _ (c .before .before .tag-at2 .ensures) (c .before .if3 .left) (c .if4 .left)
 

@@ -33,80 +33,61 @@ to-expression-below t =
 abbrev calls-to-expression : ℕ → to-expression-lts.Claims
 calls-to-expression t = (put-word-reads.Asked, put-word-reads.Learnt, given-expression-reads.Asked, given-expression-reads.Learnt, to-expression-below t, to-expression.Post)
 
--- src/type_expression.rt:48:13
 to-expression-shared-slice-read-b : (t : ℕ) → to-expression-lts.Need-shared-slice-read-b (calls-to-expression t) (to-expression-at t) to-expression.Post
 to-expression-shared-slice-read-b t c = type-within _ _ (c .before .before .pre .1)
 
--- src/type_expression.rt:51:18
 to-expression-add-t14 : (t : ℕ) → to-expression-lts.Need-add-t14 (calls-to-expression t) (to-expression-at t) to-expression.Post
 to-expression-add-t14 t c = omega (arith, type-within _ _ (c .before .before .before .pre .1))
 
--- src/type_expression.rt:52:21
 to-expression-put-word-requires : (t : ℕ) → to-expression-lts.Need-put-word-requires (calls-to-expression t) (to-expression-at t) to-expression.Post
 to-expression-put-word-requires t c κs = omega arith
 
--- src/type_expression.rt:55:18
 to-expression-add-t17 : (t : ℕ) → to-expression-lts.Need-add-t17 (calls-to-expression t) (to-expression-at t) to-expression.Post
 to-expression-add-t17 t c = omega (arith, type-within _ _ (c .before .before .before .pre .1))
 
--- src/type_expression.rt:56:21
 to-expression-put-word-requires-2 : (t : ℕ) → to-expression-lts.Need-put-word-requires-2 (calls-to-expression t) (to-expression-at t) to-expression.Post
 to-expression-put-word-requires-2 t c κs = omega arith
 
--- src/type_expression.rt:59:18
 to-expression-add-t20 : (t : ℕ) → to-expression-lts.Need-add-t20 (calls-to-expression t) (to-expression-at t) to-expression.Post
 to-expression-add-t20 t c = omega (arith, given-within _ _ (c .before .before .before .pre .1) (c .match .keys3))
 
--- src/type_expression.rt:60:21
 to-expression-given-expression-requires :
     (t : ℕ) → to-expression-lts.Need-given-expression-requires (calls-to-expression t) (to-expression-at t) to-expression.Post
 to-expression-given-expression-requires t c κs = given-within _ _ (c .before .before .before .before .pre .1) (c .before .match .keys3)
 
--- src/type_expression.rt
 to-expression-put-word-requires-3 : (t : ℕ) → to-expression-lts.Need-put-word-requires-3 (calls-to-expression t) (to-expression-at t) to-expression.Post
 to-expression-put-word-requires-3 t c κs = omega arith
 
--- src/type_expression.rt
 to-expression-add-to-expression : (t : ℕ) → to-expression-lts.Need-add-to-expression (calls-to-expression t) (to-expression-at t) to-expression.Post
 to-expression-add-to-expression t c = omega (arith, type-within _ _ (c .before .before .before .before .before .pre .1))
 
--- src/type_expression.rt
 to-expression-to-expression-requires : (t : ℕ) → to-expression-lts.Need-to-expression-requires (calls-to-expression t) (to-expression-at t) to-expression.Post
 to-expression-to-expression-requires t c κs = (omega (arith, type-within _ _ (c .before .before .before .before .before .before .pre .1)), has-pow _ _ (c .before .before .before .before .before .before .pre .1) (c .before .before .before .match .keys4))
 
--- src/type_expression.rt
 to-expression-put-word-requires-4 : (t : ℕ) → to-expression-lts.Need-put-word-requires-4 (calls-to-expression t) (to-expression-at t) to-expression.Post
 to-expression-put-word-requires-4 t c κs = omega arith
 
--- src/type_expression.rt
 to-expression-add-to-expression-2 : (t : ℕ) → to-expression-lts.Need-add-to-expression-2 (calls-to-expression t) (to-expression-at t) to-expression.Post
 to-expression-add-to-expression-2 t c = omega (arith, type-within _ _ (c .before .before .before .before .before .pre .1))
 
--- src/type_expression.rt
 to-expression-to-expression-requires-2 : (t : ℕ) → to-expression-lts.Need-to-expression-requires-2 (calls-to-expression t) (to-expression-at t) to-expression.Post
 to-expression-to-expression-requires-2 t c κs = let four = has-four _ _ (c .before .before .before .before .before .before .pre .1) (c .before .before .before .match .rest .0 .0 .0 .1) (c .before .before .before .match .rest .0 .0 .1) (c .before .before .before .match .rest .0 .1) (c .before .before .before .match .rest .1) in (omega (arith, type-within _ _ (c .before .before .before .before .before .before .pre .1)), has-left _ _ (c .before .before .before .before .before .before .pre .1) four)
 
--- src/type_expression.rt
 to-expression-to-expression-requires-3 : (t : ℕ) → to-expression-lts.Need-to-expression-requires-3 (calls-to-expression t) (to-expression-at t) to-expression.Post
 to-expression-to-expression-requires-3 t c κs = let four = has-four _ _ (c .before .before .before .before .before .before .before .before .pre .1) (c .before .before .before .before .before .match .rest .0 .0 .0 .1) (c .before .before .before .before .before .match .rest .0 .0 .1) (c .before .before .before .before .before .match .rest .0 .1) (c .before .before .before .before .before .match .rest .1) in (omega (arith, type-within _ _ (c .before .before .before .before .before .before .before .before .pre .1), right-further _ _ _ (c .before .before .before .before .before .before .before .before .pre .1) four (c .before .to-expression2 .ensures .end) .0), has-right _ _ _ (c .before .before .before .before .before .before .before .before .pre .1) four (c .before .to-expression2 .ensures .end))
 
--- src/type_expression.rt:44:1
 to-expression-returns : (t : ℕ) → to-expression-lts.Need-returns (calls-to-expression t) (to-expression-at t) to-expression.Post
 to-expression-returns t c = write-bool _ _ _ _ _ _ (c .before .before .match .keys1) (c .put-word .ensures)
 
--- src/type_expression.rt:44:1
 to-expression-returns-2 : (t : ℕ) → to-expression-lts.Need-returns-2 (calls-to-expression t) (to-expression-at t) to-expression.Post
 to-expression-returns-2 t c = write-int _ _ _ _ _ _ (c .before .before .match .keys2) (c .put-word2 .ensures)
 
--- src/type_expression.rt:44:1
 to-expression-returns-3 : (t : ℕ) → to-expression-lts.Need-returns-3 (calls-to-expression t) (to-expression-at t) to-expression.Post
 to-expression-returns-3 t c = write-given _ _ _ _ _ _ (c .before .before .match .keys3) (c .given-expression .ensures)
 
--- src/type_expression.rt:44:1
 to-expression-returns-4 : (t : ℕ) → to-expression-lts.Need-returns-4 (calls-to-expression t) (to-expression-at t) to-expression.Post
 to-expression-returns-4 t c = write-pow _ _ _ _ _ _ _ _ (c .before .before .before .before .match .keys4) (c .before .before .put-word3 .ensures) (c .to-expression .ensures)
 
--- src/type_expression.rt:44:1
 to-expression-returns-5 : (t : ℕ) → to-expression-lts.Need-returns-5 (calls-to-expression t) (to-expression-at t) to-expression.Post
 to-expression-returns-5 t c = let four = has-four _ _ (c .before .before .before .before .before .before .before .before .before .pre .1) (c .before .before .before .before .before .before .match .rest .0 .0 .0 .1) (c .before .before .before .before .before .before .match .rest .0 .0 .1) (c .before .before .before .before .before .before .match .rest .0 .1) (c .before .before .before .before .before .before .match .rest .1) in write-prod _ _ _ _ _ _ _ _ _ _ four (c .before .before .before .before .put-word4 .ensures) (c .before .before .to-expression2 .ensures) (c .to-expression3 .ensures)
 

@@ -3,35 +3,27 @@ use borrow.Author.Needs.{needs}
 use Rattle.put.proofs.type_expression.given_expression.Statement.{statement}
 use Rattle.put.proofs.type_expression.given_expression.Tie as tie
 
--- src/type_expression.rt:37:9
 put-word-requires : tie.Need-put-word-requires
 put-word-requires c κs = search needs
 
--- src/type_expression.rt:38:37
 add-put-copy : tie.Need-add-put-copy
 add-put-copy c = search needs
 
--- src/type_expression.rt:38:45
 add-put-copy-2 : tie.Need-add-put-copy-2
 add-put-copy-2 c = search needs
 
--- src/type_expression.rt:38:9
 put-copy-requires : tie.Need-put-copy-requires
 put-copy-requires c κs = search needs
 
--- src/type_expression.rt:39:9
 put-byte-requires : tie.Need-put-byte-requires
 put-byte-requires c κs = search needs
 
--- src/type_expression.rt:40:33
 add-put-copy-3 : tie.Need-add-put-copy-3
 add-put-copy-3 c = search needs
 
--- src/type_expression.rt:40:5
 put-copy-requires-2 : tie.Need-put-copy-requires-2
 put-copy-requires-2 c κs = search needs
 
--- src/type_expression.rt:33:1
 returns : tie.Need-returns
 returns c = puts-then _ _ _ _ _ _ _ _ (puts-then _ _ _ _ _ _ _ _ (puts-then _ _ _ _ _ _ _ _ (c .before .before .before .before .before .before .put-word .ensures) (c .before .before .before .before .put-copy .ensures)) (c .before .before .put-byte .ensures)) (c .put-copy2 .ensures)
 

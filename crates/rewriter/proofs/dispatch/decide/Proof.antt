@@ -9,74 +9,57 @@ use borrow.Author.Needs.{needs}
 use Rattle.rewriter.proofs.dispatch.decide.Statement.{statement}
 use Rattle.rewriter.proofs.dispatch.decide.Tie as tie
 
--- src/dispatch.rt:16:9
 simplify-predicate-node-requires : tie.Need-simplify-predicate-node-requires
 simplify-predicate-node-requires c κs = search needs
 
--- src/dispatch.rt:17:9
 rests-requires : tie.Need-rests-requires
 rests-requires c κs = search needs
 
--- src/dispatch.rt:18:9
 returns : tie.Need-returns
 returns c = by-logic _ _ _ _ _ _ (c .before .before .simplify-predicate-node .ensures) (sym (c .before .rests .ensures) ∙ not-true _ (c .if1 .taken))
 
--- src/dispatch.rt:20:9
 tag-at-requires : tie.Need-tag-at-requires
 tag-at-requires c κs = here-placed (c .before .before .before .before .before .pre .here)
 
--- src/dispatch.rt:21:13
 add-a : tie.Need-add-a
 add-a c = let z = here-few (c .before .before .before .before .before .before .pre .here) in omega arith
 
--- src/dispatch.rt:22:9
 second-of-requires : tie.Need-second-of-requires
 second-of-requires c κs = here-few (c .before .before .before .before .before .before .pre .here)
 
--- src/dispatch.rt:24:16
 rewrite-not-requires : tie.Need-rewrite-not-requires
 rewrite-not-requires c κs = search needs
 
--- src/dispatch.rt:25:16
 rewrite-finite-requires : tie.Need-rewrite-finite-requires
 unfolding lookup classOf formAt
 rewrite-finite-requires c κs = here-child _ _ _ _ _ (c .before .before .tag-at .ensures) 620 (c .match .keys2) expression (λ x. refl) (c .before .before .before .before .before .before .before .before .pre .here)
 
--- src/dispatch.rt:26:16
 rewrite-partition-requires : tie.Need-rewrite-partition-requires
 rewrite-partition-requires c κs = search needs
 
--- src/dispatch.rt:27:16
 equal-at-requires : tie.Need-equal-at-requires
 unfolding lookup classOf formAt
 equal-at-requires c κs = two-here _ _ _ _ _ (c .before .before .tag-at .ensures) 101 (c .match .keys4) expression expression (λ x. refl) _ (c .before .second-of .ensures) (c .before .before .before .before .before .before .before .before .pre .here)
 
--- src/dispatch.rt:28:16
 subset-at-requires : tie.Need-subset-at-requires
 unfolding lookup classOf formAt
 subset-at-requires c κs = two-here _ _ _ _ _ (c .before .before .tag-at .ensures) 111 (c .match .keys5) expression expression (λ x. refl) _ (c .before .second-of .ensures) (c .before .before .before .before .before .before .before .before .pre .here)
 
--- src/dispatch.rt:6:1
 returns-2 : tie.Need-returns-2
 returns-2 c = past-logic _ _ _ _ _ _ (c .before .before .before .before .before .before .simplify-predicate-node .ensures) (sym (c .before .before .before .before .before .rests .ensures) ∙ not-false _ (c .before .before .before .before .if1 .left)) _ (to-rewrite-not _ _ _ _ _ (c .before .before .before .tag-at .ensures) (c .before .match .keys1) _ (c .rewrite-not .ensures))
 
--- src/dispatch.rt:6:1
 returns-3 : tie.Need-returns-3
 returns-3 c = past-logic _ _ _ _ _ _ (c .before .before .before .before .before .before .simplify-predicate-node .ensures) (sym (c .before .before .before .before .before .rests .ensures) ∙ not-false _ (c .before .before .before .before .if1 .left)) _ (to-finite _ _ _ _ _ (c .before .before .before .tag-at .ensures) (c .before .match .keys2) _ (c .rewrite-finite .ensures))
 
--- src/dispatch.rt:6:1
 returns-4 : tie.Need-returns-4
 returns-4 c = past-logic _ _ _ _ _ _ (c .before .before .before .before .before .before .simplify-predicate-node .ensures) (sym (c .before .before .before .before .before .rests .ensures) ∙ not-false _ (c .before .before .before .before .if1 .left)) _ (to-partition _ _ _ _ _ (c .before .before .before .tag-at .ensures) (c .before .match .keys3) _ (c .rewrite-partition .ensures))
 
--- src/dispatch.rt:6:1
 returns-5 : tie.Need-returns-5
 returns-5 c = past-logic _ _ _ _ _ _ (c .before .before .before .before .before .before .simplify-predicate-node .ensures) (sym (c .before .before .before .before .before .rests .ensures) ∙ not-false _ (c .before .before .before .before .if1 .left)) _ (to-equal _ _ _ _ _ (c .before .before .before .tag-at .ensures) _ (c .before .before .second-of .ensures) (c .before .match .keys4) _ (c .equal-at .ensures))
 
--- src/dispatch.rt:6:1
 returns-6 : tie.Need-returns-6
 returns-6 c = past-logic _ _ _ _ _ _ (c .before .before .before .before .before .before .simplify-predicate-node .ensures) (sym (c .before .before .before .before .before .rests .ensures) ∙ not-false _ (c .before .before .before .before .if1 .left)) _ (to-subset _ _ _ _ _ (c .before .before .before .tag-at .ensures) _ (c .before .before .second-of .ensures) (c .before .match .keys5) _ (c .subset-at .ensures))
 
--- src/dispatch.rt:6:1
 returns-7 : tie.Need-returns-7
 returns-7 c = past-logic _ _ _ _ _ _ (c .before .before .before .before .before .simplify-predicate-node .ensures) (sym (c .before .before .before .before .rests .ensures) ∙ not-false _ (c .before .before .before .if1 .left)) _ (to-none _ _ _ _ _ (c .before .before .tag-at .ensures) (c .match .rest))
 

@@ -9,78 +9,60 @@ use borrow.Author.Needs.{needs}
 use Rattle.rewriter.proofs.node.simplify_predicate_node.Statement.{statement}
 use Rattle.rewriter.proofs.node.simplify_predicate_node.Tie as tie
 
--- src/node.rt:16:9
 tag-at-requires : tie.Need-tag-at-requires
 tag-at-requires c κs = here-placed (c .before .pre .here)
 
--- src/node.rt:17:13
 add-a : tie.Need-add-a
 add-a c = let z = here-few (c .before .before .pre .here) in omega arith
 
--- src/node.rt:18:9
 second-of-requires : tie.Need-second-of-requires
 second-of-requires c κs = here-few (c .before .before .pre .here)
 
--- src/node.rt:20:16
 simplify-assoc-pred-requires : tie.Need-simplify-assoc-pred-requires
 simplify-assoc-pred-requires c κs = junction-here _ _ _ _ _ (c .before .before .before .tag-at .ensures) (inl (c .before .match .keys1)) (c .before .before .before .before .before .pre .here) _ (c .before .before .before .before .before .pre .long)
 
--- src/node.rt:21:16
 simplify-assoc-pred-requires-2 : tie.Need-simplify-assoc-pred-requires-2
 simplify-assoc-pred-requires-2 c κs = junction-here _ _ _ _ _ (c .before .before .before .tag-at .ensures) (inr (c .before .match .keys2)) (c .before .before .before .before .before .pre .here) _ (c .before .before .before .before .before .pre .long)
 
--- src/node.rt:22:16
 implication-at-requires : tie.Need-implication-at-requires
 unfolding lookup classOf formAt
 implication-at-requires c κs = two-here _ _ _ _ _ (c .before .before .tag-at .ensures) 251 (c .match .keys3) predicate predicate (λ x. refl) _ (c .before .second-of .ensures) (c .before .before .before .before .pre .here)
 
--- src/node.rt:23:16
 equivalence-at-requires : tie.Need-equivalence-at-requires
 unfolding lookup classOf formAt
 equivalence-at-requires c κs = two-here _ _ _ _ _ (c .before .before .tag-at .ensures) 252 (c .match .keys4) predicate predicate (λ x. refl) _ (c .before .second-of .ensures) (c .before .before .before .before .pre .here)
 
--- src/node.rt:24:16
 negation-at-requires : tie.Need-negation-at-requires
 unfolding lookup classOf formAt
 negation-at-requires c κs = here-child _ _ _ _ _ (c .before .before .tag-at .ensures) 701 (c .match .keys5) predicate (λ x. refl) (c .before .before .before .before .pre .here)
 
--- src/node.rt:25:16
 forall-at-requires : tie.Need-forall-at-requires
 forall-at-requires c κs = search needs
 
--- src/node.rt:26:16
 exists-at-requires : tie.Need-exists-at-requires
 exists-at-requires c κs = search needs
 
--- src/node.rt:6:1
 returns : tie.Need-returns
 returns c = junction-done _ _ _ _ _ (c .before .before .before .before .tag-at .ensures) (inl (c .before .before .match .keys1)) _ _ (c .simplify-assoc-pred .ensures)
 
--- src/node.rt:6:1
 returns-2 : tie.Need-returns-2
 returns-2 c = junction-done _ _ _ _ _ (c .before .before .before .before .tag-at .ensures) (inr (c .before .before .match .keys2)) _ _ (c .simplify-assoc-pred2 .ensures)
 
--- src/node.rt:6:1
 returns-3 : tie.Need-returns-3
 returns-3 c = into _ _ _ _ _ _ (c .before .before .before .before .before .pre .long) _ (to-imp _ _ _ _ _ (c .before .before .before .tag-at .ensures) _ (c .before .before .second-of .ensures) (c .before .match .keys3) _ (c .implication-at .ensures))
 
--- src/node.rt:6:1
 returns-4 : tie.Need-returns-4
 returns-4 c = into _ _ _ _ _ _ (c .before .before .before .before .before .pre .long) _ (to-eqv _ _ _ _ _ (c .before .before .before .tag-at .ensures) _ (c .before .before .second-of .ensures) (c .before .match .keys4) _ (c .equivalence-at .ensures))
 
--- src/node.rt:6:1
 returns-5 : tie.Need-returns-5
 returns-5 c = into _ _ _ _ _ _ (c .before .before .before .before .before .pre .long) _ (to-not _ _ _ _ _ (c .before .before .before .tag-at .ensures) (c .before .match .keys5) _ (c .negation-at .ensures))
 
--- src/node.rt:6:1
 returns-6 : tie.Need-returns-6
 returns-6 c = into _ _ _ _ _ _ (c .before .before .before .before .before .pre .long) _ (to-forall _ _ _ _ _ (c .before .before .before .tag-at .ensures) (c .before .match .keys6) _ (c .forall-at .ensures))
 
--- src/node.rt:6:1
 returns-7 : tie.Need-returns-7
 returns-7 c = into _ _ _ _ _ _ (c .before .before .before .before .before .pre .long) _ (to-exists _ _ _ _ _ (c .before .before .before .tag-at .ensures) (c .before .match .keys7) _ (c .exists-at .ensures))
 
--- src/node.rt:6:1
 returns-8 : tie.Need-returns-8
 returns-8 c = into _ _ _ _ _ _ (c .before .before .before .before .pre .long) _ (to-none _ _ _ _ _ (c .before .before .tag-at .ensures) (c .match .rest))
 
