@@ -1,6 +1,7 @@
 // Number 8 (document 01: "A bound index has no binder, anywhere in the tree."). The tree is gone over as the reader goes over
 // it, with a list of where the types of the open binders stand; so the types of bound identifiers are found on the way, and
 // go into a table by place for typing to read.
+use frame::limits::TYPE_LIMIT;
 use heads::HeadAnswer;
 use heads::TypeAnswer;
 ghost use mathlib.Core.Path.{_≡_};
@@ -23,9 +24,6 @@ const BOUND: usize = 3;
 
 // The tags from here on that carry types are those of binders.
 const FIRST_BINDING: usize = 801;
-
-// "A type has at most 64 bytes."
-const TYPE_LIMIT: usize = 64;
 
 // What going over trees finds: where they end and the place of the next node, or an index that has no binder.
 enum Bound {

@@ -1,5 +1,8 @@
 // A frame checked: numbers 2 to 10 in their order (document 01, "Numbers of what is turned down, in checking order").
 use binding::binding_ok;
+use frame::refusals::BADLY_TYPED;
+use frame::refusals::NO_BINDER;
+use frame::refusals::TWO_TYPES;
 use identifiers::names_ok;
 use patterns::Typed;
 use reading::FrameAnswer;
@@ -51,15 +54,15 @@ pub fn check_tree(s: &[u8], n: usize, leaves: &mut [u16; 2048]) -> CheckAnswer
 {
     let closed = binding_ok(s, leaves);
     if !closed {
-        return CheckAnswer::Refused(8);
+        return CheckAnswer::Refused(NO_BINDER);
     }
     let agree = names_ok(s);
     if !agree {
-        return CheckAnswer::Refused(9);
+        return CheckAnswer::Refused(TWO_TYPES);
     }
     let typed = typing_ok(s, leaves);
     if !typed {
-        return CheckAnswer::Refused(10);
+        return CheckAnswer::Refused(BADLY_TYPED);
     }
     CheckAnswer::Accepted(n)
 }

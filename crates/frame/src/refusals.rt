@@ -14,3 +14,13 @@ pub const BAD_COUNT: u8 = 5;
 pub const BAD_TYPE: u8 = 6;
 // "7. Bytes follow the root's end."
 pub const BYTES_FOLLOW: u8 = 7;
+// "8. A bound index has no binder, anywhere in the tree."
+pub const NO_BINDER: u8 = 8;
+// "9. One identifier number has two types, or is the number of a given set in some type of the tree and its type isn't the power of that set."
+pub const TWO_TYPES: u8 = 9;
+// "10. A node breaks a typing rule or its type passes 64 bytes."
+pub const BADLY_TYPED: u8 = 10;
+// "11. A step's place is no node, or an expression."
+pub const NO_PLACE: u8 = 11;
+// "12. A step's result passes 4,096 bytes or the lent output; or a run's output has under 4,096 bytes, checked before its first step."
+pub const NO_ROOM: u8 = 12;

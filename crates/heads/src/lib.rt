@@ -1,5 +1,6 @@
 // Types and heads of a frame, read from left to right (document 01, "Numbers of what is turned down", 3 to 6), and passed over again once
 // they were read. Positions count bytes from the frame's start. A sort is a bool: true for an expression.
+use frame::limits::TYPE_LIMIT;
 ghost use mathlib.Core.Path.{_≡_};
 ghost use Prim.Native.Nat.{ℕ, _+_, _≤_, _<_};
 ghost use lib.ListN.{length};
@@ -14,9 +15,6 @@ use frame::refusals::BAD_COUNT;
 use frame::refusals::BAD_TAG;
 use frame::refusals::BAD_TYPE;
 use frame::refusals::ENDS_INSIDE;
-
-// "A type has at most 64 bytes."
-const TYPE_LIMIT: usize = 64;
 
 // What reading a type, or several in a row, finds: where they end, or the number of what is turned down.
 pub enum TypeAnswer {

@@ -1,4 +1,5 @@
 // Typing rules at work: a pattern (type_rules/specs/Patterns.antt) is matched with types that stand in a row, and filled.
+use frame::limits::TYPE_LIMIT;
 use octets::same_bytes;
 use octets::wide;
 use type_bytes::copy_within;
@@ -12,9 +13,6 @@ ghost use Rattle.patterns.specs.PatternPosts.{MatchPre, MatchPost, Pairs
 use type_rules::pattern;
 use type_rules::row_word;
 use type_rules::rule_of;
-
-// "A type has at most 64 bytes, derived ones too."
-const TYPE_LIMIT: usize = 64;
 
 // In a pattern 2 is its end, and the numbers from 5 to 8 are variables.
 const PATTERN_END: usize = 2;

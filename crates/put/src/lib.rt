@@ -2,6 +2,7 @@
 // for good. So no caller has to look whether there is room before the whole frame is written.
 pub mod type_expression; // type_expression.rt: `to_expression`
 
+use frame::limits::FRAME_LIMIT;
 ghost use mathlib.Core.List.{[], _∷_};
 ghost use Prim.Native.Nat.{_≤_, _<_};
 ghost use lib.ListN.{length};
@@ -12,7 +13,7 @@ ghost use Rattle.put.specs.Copied.{between};
 pub fn put_byte(out: &mut [u8; 4096], n: usize, b: u8) -> usize
     ensures { λ r. ⌜ Puts (now (out .entry)) n (now (out .exit)) r (b ∷ []) ⌝ }
 {
-    if n < 4096 {
+    if n < FRAME_LIMIT {
         out[n] = b;
         return n + 1;
     }

@@ -1,5 +1,6 @@
 // Reading a frame from left to right (document 01, "Numbers of what is turned down", 2 to 7): trees, and the table of node starts.
 // Positions count bytes from the frame's start. A sort is a bool: true for an expression.
+use frame::limits::FRAME_LIMIT;
 ghost use mathlib.Core.Path.{_≡_};
 ghost use Prim.Native.Nat.{_+_, _<_};
 ghost use lib.ListN.{replicate};
@@ -12,9 +13,6 @@ use frame::refusals::BYTES_FOLLOW;
 use heads::HeadAnswer;
 use heads::head_end;
 use heads::read_head;
-
-// "A frame is one predicate as bytes, 1 to 4,096."
-const FRAME_LIMIT: usize = 4096;
 
 // What reading trees finds: where they end, and the place of the next node.
 pub enum NodeAnswer {

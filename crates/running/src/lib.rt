@@ -1,5 +1,7 @@
 // A run: steps at the first place where a rule applies, until none applies, the budget is used, or the next frame is too long.
 use checking::CheckAnswer;
+use frame::limits::FRAME_LIMIT;
+use frame::refusals::NO_ROOM;
 use run::RunAnswer;
 use type_bytes::copy_in;
 ghost use mathlib.Core.Path.{_≡_};
@@ -40,7 +42,7 @@ fn rounds(held: &mut [u8], start: usize, budget: u32) -> Ended
                         length: n,
                     };
                 }
-                if 4096 < m {
+                if FRAME_LIMIT < m {
                     return Ended {
                         answer: RunAnswer::Full(count, n),
                         length: n,
@@ -77,8 +79,8 @@ pub fn run(frame: &[u8], budget: u32, out: &mut [u8]) -> RunAnswer
     match a {
         CheckAnswer::Refused(c) => RunAnswer::Refused(c),
         CheckAnswer::Accepted(_n) => {
-            if out.len() < 4096 {
-                return RunAnswer::Refused(12);
+            if out.len() < FRAME_LIMIT {
+                return RunAnswer::Refused(NO_ROOM);
             }
             run_checked(frame, budget, out)
         }

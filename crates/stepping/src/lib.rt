@@ -1,6 +1,7 @@
 // One step at a place of a frame: the frame is checked, the rules decide at the place, the new frame is written.
 use checking::CheckAnswer;
 use decision::contains::rests;
+use frame::refusals::NO_PLACE;
 use nav::is_expression_at;
 use nav::nexts;
 use reading::FrameAnswer;
@@ -26,10 +27,10 @@ fn step_held(
     ensures { λ r. ⌜ StepPost (now (s .entry)) k (now (out .entry)) (now (out .exit)) r ⌝ }
 {
     if n <= k {
-        return StepAnswer::Refused(11);
+        return StepAnswer::Refused(NO_PLACE);
     }
     if is_expression_at(s, starts, k) {
-        return StepAnswer::Refused(11);
+        return StepAnswer::Refused(NO_PLACE);
     }
     let mut table = [0u16; 2048];
     nexts(s, n, starts, &mut table);

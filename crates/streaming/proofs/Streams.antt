@@ -1,6 +1,6 @@
 -- The input in pieces, on plain values.
 -- Main results: answers-join, last-join (a text in two pieces: so the answers of all the pieces, one after the other, are those of the whole
--- input), whole-input; end-start, end-more (`end_of_line`); fed-start, fed-part, fed-end (`feed`); finish-none, finish-line.
+-- input), whole-input; end-start, end-more (`end_of_line`); fed-start, fed-part, fed-end (`feed`); finish-none, finish-short, finish-line.
 use mathlib.Core.Path.{_≡_, refl, sym, ap, ap₂, _∙_, subst}
 use mathlib.Core.Bool.{Bool, true, false}
 use mathlib.Core.List.{List, [], _∷_, _++_, append-assoc, append-nil}
@@ -142,7 +142,8 @@ module _ (st : LineState) (b o : List ℕ) where
 
   pub finish-none : st .count ≡ 0 → FinishPost st b o o 0
   finish-none e = record {
-    puts = λ held h. appends-as o 0 [] (lastAnswer held) o 0 (sym (nothing held e (h .state))) (appends-none o 0);
+    puts = λ r held h. appends-as o 0 [] (lastAnswer held) o 0 (sym (nothing held e (h .state))) (appends-none o 0);
+    short = λ s. (refl, refl);
     room = omega arith;
   }
 
@@ -151,9 +152,13 @@ module _ (st : LineState) (b o : List ℕ) where
   something [] e h = absurd (e (ap (λ (x : LineState). x .count) h))
   something (c ∷ cs) e h = refl
 
+  pub finish-short : length o < longest → FinishPost st b o o 0
+  finish-short s = record { puts = λ r held h. absurd (omega arith); short = λ x. (refl, refl); room = omega arith }
+
   pub finish-line : (st .count ≡ 0 → ⊥) → longest ≤ length o → (p : List ℕ) (m : ℕ) → length p ≡ length o → LinePost st b o 0 p m → FinishPost st b o p m
   finish-line e l p m k q = record {
-    puts = λ held h. appends-as o 0 (lineText held) (lastAnswer held) p m (something held e (h .state)) (q .puts held h);
+    puts = λ r held h. appends-as o 0 (lineText held) (lastAnswer held) p m (something held e (h .state)) (q .puts held h);
+    short = λ s. absurd (omega arith);
     room = omega (arith, q .room);
   }
 

@@ -7,7 +7,7 @@ use Rattle.lines.specs.declared.LineState.{LineState}
 use Rattle.printing.specs.Text.{newline}
 use Rattle.streaming.specs.Stream.{answers, lastLine, lastAnswer}
 use Rattle.printing.specs.PrintPosts.{Appends}
-use Rattle.answers.specs.Posts.{Holds}
+use Rattle.answers.specs.Posts.{longest, Holds}
 
 -- ---- a piece of the input
 -- no byte of xs ends a line
@@ -28,14 +28,16 @@ pub record Fed (text : List ℕ) (st : LineState) (b o : List ℕ) (st' : LineSt
   pub puts : (held : List ℕ) → Holds st b held → Appends o 0 (answers text held) o' n
 
 -- "what they leave free is named, with all that they say of it": how many bytes of the piece are `taken` is free, but that some
--- are where there are any, and no more than there are. Given that, the line then held, the answers put out and n are settled.
+-- are where there are any and the output has room for an answer, and no more than there are. Given that, the line then held, the answers
+-- put out and n are settled, of a state that a line has (`Holds`); of any other state, only what is taken and that n fits.
 pub record FeedPost (piece : List ℕ) (st : LineState) (b o : List ℕ) (st' : LineState) (b' o' : List ℕ) (taken n : ℕ) : Type 0 where
   pub fed : Fed (take taken piece) st b o st' b' o' n
-  pub some : 0 < length piece → 0 < taken
+  pub some : longest ≤ length o → 0 < length piece → 0 < taken
   pub within : taken ≤ length piece
   pub room : n ≤ length o'
 
--- the input ends
+-- the input ends: the answer of the last line, if there is one, where the output has room for an answer; else nothing is written
 pub record FinishPost (st : LineState) (b o p : List ℕ) (m : ℕ) : Type 0 where
-  pub puts : (held : List ℕ) → Holds st b held → Appends o 0 (lastAnswer held) p m
+  pub puts : longest ≤ length o → (held : List ℕ) → Holds st b held → Appends o 0 (lastAnswer held) p m
+  pub short : length o < longest → (p ≡ o) × (m ≡ 0)
   pub room : m ≤ length p

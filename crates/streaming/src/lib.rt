@@ -5,7 +5,6 @@ use lines::line_piece;
 use lines::line_start;
 ghost use Prim.Native.Nat.{_≤_};
 ghost use lib.ListN.{length};
-ghost use Rattle.answers.specs.Posts.{longest};
 ghost use Rattle.streaming.specs.StreamPosts.{EndPost, FeedPost, FinishPost};
 
 // The bytes of the longest answer.
@@ -35,9 +34,8 @@ fn end_of_line(s: &[u8], from: usize) -> usize
     i
 }
 
-// Takes bytes of the piece, line by line, until none is left or the output has no room for one answer more.
+// Takes bytes of the piece, line by line, until none is left or the output has no room for one answer more; from the start, it may have none.
 pub fn feed(state: LineState, piece: &[u8], buf: &mut [u8; 4096], out: &mut [u8]) -> Fed
-    requires { ⌜ longest ≤ length (now out) ⌝ }
     ensures { λ r. ⌜ FeedPost (now (piece .entry)) state (now (buf .entry)) (now (out .entry)) (r .line) (now (buf .exit)) (now (out .exit)) (r .taken) (r .wrote) ⌝ }
 {
     let mut line = state;
@@ -71,13 +69,16 @@ pub fn feed(state: LineState, piece: &[u8], buf: &mut [u8; 4096], out: &mut [u8]
     }
 }
 
-// The input ends: bytes after the last 0A are a line too, if there are any.
+// The input ends: bytes after the last 0A are a line too, if there are any. Nothing is written to an output that has no room for an
+// answer.
 pub fn finish(line: LineState, buf: &[u8; 4096], out: &mut [u8]) -> usize
-    requires { ⌜ longest ≤ length (now out) ⌝ }
     ensures { λ r. ⌜ FinishPost line (now (buf .entry)) (now (out .entry)) (now (out .exit)) r ⌝ }
 {
     let count = line.count;
     if count == 0 {
+        return 0;
+    }
+    if out.len() < LONGEST {
         return 0;
     }
     put_line(line, buf, out, 0)

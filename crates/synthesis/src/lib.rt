@@ -6,6 +6,7 @@ pub mod stack; // stack.rt: the open nodes, a lent slice of records
 use crate::stack::OpenNode;
 use crate::stack::pop;
 use crate::stack::push;
+use frame::limits::TYPE_LIMIT;
 use heads::HeadAnswer;
 use heads::known_head;
 use octets::wide16;
@@ -20,9 +21,6 @@ ghost use lib.ListN.{length, getD, set};
 ghost use Rattle.frame.specs.Tags.{classOf};
 ghost use Rattle.patterns.specs.PatternPosts.{JudgePre};
 ghost use Rattle.synthesis.specs.TypingPosts.{PutPre, PutPost, ownPlace, OwnPre, OwnPost, OpenPre, NodePost, ClosePost, StepPre, StepPost, TurnsPre, TurnsPost, TypePre, TypePost};
-
-// "A type has at most 64 bytes, derived ones too."
-const TYPE_LIMIT: usize = 64;
 
 // The rules from 1 to this are those of nodes that carry their type, and this is that of a bound identifier.
 const BOUND_RULE: usize = 6;

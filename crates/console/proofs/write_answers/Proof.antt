@@ -1,3 +1,4 @@
+use borrow.Author.Needs.{needs}
 use Rattle.console.proofs.Parts.{part-long}
 use native.Mathlib.Omega.{arith}
 use lib.Seq.{length-take-le}
@@ -27,7 +28,7 @@ part-feed-end : tie.Need-part-feed-end Inv-loop μ-loop
 part-feed-end c = omega arith
 
 feed-requires : tie.Need-feed-requires Inv-loop μ-loop
-feed-requires c κs = omega (arith, c .before .before .before .before .before .before .before .pre)
+feed-requires c κs = search needs
 
 slice-reshare-prefix-write-all : tie.Need-slice-reshare-prefix-write-all Inv-loop μ-loop
 slice-reshare-prefix-write-all c = c .before .before .feed .ensures .room
@@ -51,7 +52,7 @@ add-at : tie.Need-add-at Inv-loop μ-loop
 add-at c = omega (arith, c .before .before .before .before .before .before .before .feed .ensures .within, part-long (now (c .before .before .before .before .before .before .before .before .before .before .before .before .before .before .before .args .piece)) (c .before .before .before .before .before .before .before .before .before .before .before .before .loop .at))
 
 loop-less : tie.Need-loop-less Inv-loop μ-loop
-loop-less c = omega (arith, c .before .before .before .before .before .before .before .feed .ensures .within, c .before .before .before .before .before .before .before .feed .ensures .some (omega (arith, part-long (now (c .before .before .before .before .before .before .before .before .before .before .before .before .before .before .before .args .piece)) (c .before .before .before .before .before .before .before .before .before .before .before .before .loop .at))), part-long (now (c .before .before .before .before .before .before .before .before .before .before .before .before .before .before .before .args .piece)) (c .before .before .before .before .before .before .before .before .before .before .before .before .loop .at))
+loop-less c = omega (arith, c .before .before .before .before .before .before .before .feed .ensures .within, c .before .before .before .before .before .before .before .feed .ensures .some (omega (arith, c .before .before .before .before .before .before .before .before .before .before .before .before .before .before .before .pre)) (omega (arith, part-long (now (c .before .before .before .before .before .before .before .before .before .before .before .before .before .before .before .args .piece)) (c .before .before .before .before .before .before .before .before .before .before .before .before .loop .at))), part-long (now (c .before .before .before .before .before .before .before .before .before .before .before .before .before .before .before .args .piece)) (c .before .before .before .before .before .before .before .before .before .before .before .before .loop .at))
 
 loop-again : tie.Need-loop-again Inv-loop μ-loop
 loop-again c = (omega (arith, c .before .before .before .before .before .before .before .feed .ensures .within, part-long (now (c .before .before .before .before .before .before .before .before .before .before .before .before .before .before .before .args .piece)) (c .before .before .before .before .before .before .before .before .before .before .before .before .loop .at)), omega arith)

@@ -25,7 +25,7 @@ same-length : tie.Need-same-length Inv-loop μ-loop
 same-length c = c .before .before .loop .inv .3
 
 returns : tie.Need-returns Inv-loop μ-loop
-returns c = record { fed = c .before .before .loop .inv .0; some = λ l. omega (arith, c .before .before .before .before .before .pre); within = c .before .before .loop .inv .1; room = c .before .before .loop .inv .2 }
+returns c = record { fed = c .before .before .loop .inv .0; some = λ r l. omega (arith, r); within = c .before .before .loop .inv .1; room = c .before .before .loop .inv .2 }
 
 end-of-line-requires : tie.Need-end-of-line-requires Inv-loop μ-loop
 end-of-line-requires c κs = omega arith
@@ -46,7 +46,7 @@ same-length-2 : tie.Need-same-length-2 Inv-loop μ-loop
 same-length-2 c = c .before .before .before .before .before .before .before .loop .inv .3
 
 returns-2 : tie.Need-returns-2 Inv-loop μ-loop
-returns-2 c = record { fed = fed-part _ _ _ _ _ _ (c .before .before .before .before .end-of-line .ensures) _ _ _ _ (c .before .before .before .before .before .before .before .loop .inv .0) _ _ (c .before .line-piece .ensures); some = λ l. omega arith; within = c .before .before .before .before .end-of-line .ensures .within; room = c .before .before .before .before .before .before .before .loop .inv .2 }
+returns-2 c = record { fed = fed-part _ _ _ _ _ _ (c .before .before .before .before .end-of-line .ensures) _ _ _ _ (c .before .before .before .before .before .before .before .loop .inv .0) _ _ (c .before .line-piece .ensures); some = λ r l. omega arith; within = c .before .before .before .before .end-of-line .ensures .within; room = c .before .before .before .before .before .before .before .loop .inv .2 }
 
 put-line-requires : tie.Need-put-line-requires Inv-loop μ-loop
 put-line-requires c κs = omega arith
@@ -67,7 +67,7 @@ same-length-3 : tie.Need-same-length-3 Inv-loop μ-loop
 same-length-3 c = c .before .loop .inv .3
 
 returns-3 : tie.Need-returns-3 Inv-loop μ-loop
-returns-3 c = record { fed = c .before .loop .inv .0; some = λ l. omega arith; within = c .before .loop .inv .1; room = c .before .loop .inv .2 }
+returns-3 c = record { fed = c .before .loop .inv .0; some = λ r l. omega arith; within = c .before .loop .inv .1; room = c .before .loop .inv .2 }
 
 pub feed-spec : {M : Type 1} → statement M
 feed-spec =

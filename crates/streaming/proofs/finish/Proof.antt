@@ -1,4 +1,4 @@
-use Rattle.streaming.proofs.Streams.{finish-none, finish-line}
+use Rattle.streaming.proofs.Streams.{finish-none, finish-short, finish-line}
 use native.Mathlib.Omega.{arith}
 use borrow.Author.Needs.{needs}
 use Rattle.streaming.proofs.finish.Statement.{statement}
@@ -7,14 +7,17 @@ use Rattle.streaming.proofs.finish.Tie as tie
 returns : tie.Need-returns
 returns c = finish-none _ _ _ (c .if1 .taken)
 
+returns-2 : tie.Need-returns-2
+returns-2 c = finish-short _ _ _ (c .if2 .taken)
+
 put-line-requires : tie.Need-put-line-requires
-put-line-requires c κs = search needs
+put-line-requires c κs = omega arith
 
 same-length : tie.Need-same-length
 same-length c = search needs
 
-returns-2 : tie.Need-returns-2
-returns-2 c = finish-line _ _ _ (c .before .before .before .before .if1 .left) (c .before .before .before .before .before .before .pre) _ _ (omega arith) (c .before .before .put-line .ensures)
+returns-3 : tie.Need-returns-3
+returns-3 c = finish-line _ _ _ (c .before .before .before .before .before .if1 .left) (omega arith) _ _ (omega arith) (c .before .before .put-line .ensures)
 
 pub finish-spec : {M : Type 1} → statement M
-finish-spec = tie.close (tie.spec returns put-line-requires same-length returns-2)
+finish-spec = tie.close (tie.spec returns returns-2 put-line-requires same-length returns-3)
