@@ -5,7 +5,6 @@ use nav::start_at;
 use nav::tag_at;
 use octets::wide16;
 use put::put_copy;
-ghost use mathlib.Core.Path.{_≡_};
 ghost use Rattle.nav.specs.PlaceTables.{PlacedIn};
 ghost use Rattle.rows.specs.Rows.{CopyPost, ShareOfPost, RowPre, RowPost, KeptPre, KeptPost, MinusRowPre, MinusRowPost};
 

@@ -2,8 +2,7 @@
 // call each other over a falling byte count"). Equal trees have equal bytes, so heads are compared as bytes.
 use heads::HeadAnswer;
 use octets::same_bytes;
-ghost use Prim.Native.Nat.{_+_, _≤_};
-ghost use lib.ListN.{length};
+ghost use Prim.Native.Nat.{_+_};
 ghost use Rattle.frame.specs.Tags.{predicate, expression};
 ghost use Rattle.tags.specs.TagCodes.{sortFor, kindsFor};
 ghost use Rattle.sameness.specs.Compared.{BothStand, BothStandAll, SamePost, SameAllPost, HeadsPost};

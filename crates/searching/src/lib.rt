@@ -70,6 +70,7 @@ pub fn first_step(s: &[u8], scratch: &mut [u8; 4096]) -> Next
         FrameAnswer::Nodes(n) => {
             let starts = read.starts;
             let mut leaves = [0u16; 2048];
+            // an accepted frame is closed: only the table is wanted
             let closed = binding_ok(s, &mut leaves);
             let mut table = [0u16; 2048];
             nexts(s, n, &starts, &mut table);

@@ -2,7 +2,6 @@
 use build::build;
 use decision::Decision;
 use nav::end_at;
-use nav::nexts;
 use nav::start_at;
 use put::put_copy;
 ghost use Rattle.splicing.specs.SplicePosts.{SplicePre, SplicePost};

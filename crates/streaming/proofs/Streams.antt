@@ -16,7 +16,7 @@ use Rattle.lines.specs.LineState.{lineBytes, shortened, lineState, LineGoes}
 use Rattle.lines.specs.declared.LineState.{LineState}
 use Rattle.lines.proofs.LineTurns.{count-said}
 use Rattle.printing.specs.Text.{newline, lineText}
-use Rattle.streaming.specs.Stream.{answersAt, answers, lastLineAt, lastLine, lastAnswer, simplified}
+use Rattle.streaming.specs.Stream.{wholeOf, inPieces, answersAt, answers, lastLineAt, lastLine, lastAnswer, simplified}
 use Rattle.answers.specs.Posts.{longest, Holds, LinePost}
 use Rattle.streaming.specs.StreamPosts.{NoEnd, EndPost, Fed, FinishPost}
 use Rattle.printing.proofs.Writes.{appends-none, appends-then, appends-as}
@@ -163,8 +163,16 @@ module _ (st : LineState) (b o : List ℕ) where
   }
 
 -- ---- the whole input, in pieces: what `feed` writes of each, and then `finish`
-pub whole-input : (xs ys : List ℕ) → simplified (xs ++ ys) ≡ answers xs [] ++ (answers ys (lastLine xs []) ++ lastAnswer (lastLine ys (lastLine xs [])))
+from-held : (pieces : List (List ℕ)) (held : List ℕ) → inPieces pieces held ≡ answers (wholeOf pieces) held ++ lastAnswer (lastLine (wholeOf pieces) held)
+unfolding inPieces wholeOf answers lastLine
+from-held [] held = refl
+from-held (piece ∷ pieces) held =
+    let rest = wholeOf pieces in
+    ap (λ (u : List ℕ). answers piece held ++ u) (from-held pieces (lastLine piece held))
+    ∙ sym (append-assoc (answers piece held) (answers rest (lastLine piece held)) (lastAnswer (lastLine rest (lastLine piece held))))
+    ∙ sym (ap₂ (λ (u v : List ℕ). u ++ lastAnswer v) (answers-join piece rest held) (last-join piece rest held))
+
+-- however the input is cut, its pieces print what `simplified` says of the whole
+pub whole-input : (pieces : List (List ℕ)) → inPieces pieces [] ≡ simplified (wholeOf pieces)
 unfolding simplified
-whole-input xs ys =
-    ap₂ (λ (u v : List ℕ). u ++ lastAnswer v) (answers-join xs ys []) (last-join xs ys [])
-    ∙ append-assoc (answers xs []) (answers ys (lastLine xs [])) (lastAnswer (lastLine ys (lastLine xs [])))
+whole-input pieces = from-held pieces []

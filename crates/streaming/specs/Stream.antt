@@ -34,3 +34,12 @@ lastAnswer (c ∷ cs) = lineText (c ∷ cs)
 -- answer word, the step count in decimal and the frame, or REFUSED and the number"
 unfoldable pub simplified : List ℕ → List ℕ
 simplified text = answers text [] ++ lastAnswer (lastLine text [])
+
+-- the input that comes in pieces, and what is printed for each piece and then at the end; `held` is the line that goes on
+unfoldable pub wholeOf : List (List ℕ) → List ℕ
+wholeOf [] = []
+wholeOf (piece ∷ pieces) = piece ++ wholeOf pieces
+
+unfoldable pub inPieces : List (List ℕ) → List ℕ → List ℕ
+inPieces [] held = lastAnswer held
+inPieces (piece ∷ pieces) held = answers piece held ++ inPieces pieces (lastLine piece held)

@@ -1,6 +1,5 @@
 // Types as bytes: where one ends, and copies of them.
-ghost use mathlib.Core.Path.{_≡_};
-ghost use Prim.Native.Nat.{ℕ, _+_, _-_, _≤_, _<_};
+ghost use Prim.Native.Nat.{_+_, _-_, _≤_, _<_};
 ghost use lib.ListN.{length};
 ghost use Rattle.type_bytes.specs.Buffers.{TypeAt, EndOf, Copied, Apart};
 
