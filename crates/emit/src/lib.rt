@@ -4,7 +4,7 @@ ghost use Prim.Native.Nat.{_<_};
 ghost use Rattle.templates.specs.Programs.{template};
 ghost use Rattle.parts.specs.Holds.{Fillable, Filled};
 use parts::Ranges;
-use parts::run;
+use parts::run_program;
 
 // The programs, one behind the other; where one is the end of another, it stands there once. A step is a byte and its
 // arguments: 0 ends; 1 a tag; 2 a byte; 3 an operand; 4 a type made from an operand's, by its mode; 5 the expression of such
@@ -33,5 +33,5 @@ pub fn fill_template(
 {
     let programs = PROGRAMS;
     let start = wide(STARTS_HIGH[place]) * 256 + wide(STARTS_LOW[place]);
-    run(&programs, start, s, types, r, out, n)
+    run_program(&programs, start, s, types, r, out, n)
 }

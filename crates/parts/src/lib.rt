@@ -169,7 +169,7 @@ fn size_of(op: u8) -> usize
     }
 }
 
-pub fn run(
+pub fn run_program(
     g: &[u8],
     start: usize,
     s: &[u8],

@@ -22,16 +22,16 @@ wide-requires-2 c κs = search needs
 add-start : tie.Need-add-start
 add-start c = search needs
 
-slice-aggregate-run : tie.Need-slice-aggregate-run
-slice-aggregate-run c = search needs
+slice-aggregate-run-program : tie.Need-slice-aggregate-run-program
+slice-aggregate-run-program c = search needs
 
-run-requires : tie.Need-run-requires
+run-program-requires : tie.Need-run-program-requires
 unfolding programs highs lows
-run-requires c κs = (template (c .before .before .before .before .before .before .args .place), c .before .before .before .before .before .before .pre .1 .0, place-program (c .before .before .before .before .before .before .args .place) (c .before .before .before .before .before .before .pre .0) _ _ (c .before .before .before .wide .ensures .0) (c .before .before .wide2 .ensures .0), c .before .before .before .before .before .before .pre .1 .1)
+run-program-requires c κs = (template (c .before .before .before .before .before .before .args .place), c .before .before .before .before .before .before .pre .1 .0, place-program (c .before .before .before .before .before .before .args .place) (c .before .before .before .before .before .before .pre .0) _ _ (c .before .before .before .wide .ensures .0) (c .before .before .wide2 .ensures .0), c .before .before .before .before .before .before .pre .1 .1)
 
 returns : tie.Need-returns
 unfolding programs highs lows
-returns c = record { puts = λ f h. c .run .ensures .puts (template (c .before .before .before .before .before .before .before .args .place)) f (place-program (c .before .before .before .before .before .before .before .args .place) (c .before .before .before .before .before .before .before .pre .0) _ _ (c .before .before .before .before .wide .ensures .0) (c .before .before .before .wide2 .ensures .0)) h }
+returns c = record { puts = λ f h. c .run-program .ensures .puts (template (c .before .before .before .before .before .before .before .args .place)) f (place-program (c .before .before .before .before .before .before .before .args .place) (c .before .before .before .before .before .before .before .pre .0) _ _ (c .before .before .before .before .wide .ensures .0) (c .before .before .before .wide2 .ensures .0)) h }
 
 pub fill-template-spec : {M : Type 1} → statement M
 fill-template-spec =
@@ -43,6 +43,6 @@ fill-template-spec =
     array-read-wide-2
     wide-requires-2
     add-start
-    slice-aggregate-run
-    run-requires
+    slice-aggregate-run-program
+    run-program-requires
     returns)

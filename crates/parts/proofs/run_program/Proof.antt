@@ -3,8 +3,8 @@ use Prim.Native.Nat.{_-_}
 use lib.ListN.{length}
 use Rattle.parts.specs.Holds.{Ready}
 use Rattle.parts.proofs.Parts.{Running, run-starts, run-within, run-ready, run-room, run-again, run-ends}
-use Rattle.parts.proofs.run.Statement.{statement}
-use Rattle.parts.proofs.run.Tie as tie
+use Rattle.parts.proofs.run_program.Statement.{statement}
+use Rattle.parts.proofs.run_program.Tie as tie
 
 abbrev Inv-loop : tie.InvT-loop
 Inv-loop g start s types r out₀ n at₀ m₀ out at m =
@@ -40,8 +40,8 @@ loop-again c = (c .before .before .before .before .before .before .loop .inv .0,
 returns : tie.Need-returns Inv-loop μ-loop
 returns c = run-ends _ _ _ _ _ _ _ (c .before .before .loop .inv .0) _ _ _ (c .before .before .loop .inv .1) (c .if1 .left)
 
-pub run-spec : {M : Type 1} → statement M
-run-spec =
+pub run-program-spec : {M : Type 1} → statement M
+run-program-spec =
     tie.close
     (tie.spec
     Inv-loop
