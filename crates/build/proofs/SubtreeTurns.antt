@@ -16,7 +16,7 @@ use Rattle.frame.specs.Tags.{pick, Sort, predicate, Layout, counted, formOf, nu
 use Rattle.frame.specs.Encoding.{encNumber, enc, encs}
 use Rattle.frame.specs.WellFormed.{Wf}
 use Rattle.frame.specs.Places.{Ctx, under, found, find}
-use Rattle.frame.proofs.SameTrees.{both-true}
+use Rattle.frame.proofs.Booleans.{both-true}
 use Rattle.frame.proofs.Splices.{find-lt}
 use Rattle.frame.proofs.Within.{kids-of}
 use Rattle.nav.specs.PlaceTables.{Table, Placed, ChildrenPost, TagPost}

@@ -2,7 +2,7 @@
 -- Main results: not-shape (a ¬ has one child and nothing else), inner, inner-placed; neg-other; unary-when; negates-none, negates-inner;
 -- opposite-child, opposite-new.
 use mathlib.Core.Path.{_≡_, refl, sym, ap, _∙_}
-use mathlib.Core.Bool.{Bool, true, false, _&&_}
+use mathlib.Core.Bool.{Bool, true, false, _&&_, and-true}
 use mathlib.Core.List.{List, [], _∷_}
 use Prim.Native.Nat.{ℕ, suc, _+_}
 use native.Mathlib.Omega.{arith}
@@ -60,10 +60,6 @@ neg-one p = refl
 pub neg-other : (w : Tree) → (tagOf w ≡ 701 → ⊥) → makeNeg w ≡ one 701 w
 unfolding makeNeg
 neg-other (node (head g n us) ks) d = simp (ne-eqb g 701 d)
-
-pub and-true : (b : Bool) → (b && true) ≡ b
-and-true true = refl
-and-true false = refl
 
 same-one : (p w : Tree) → sameTree (one 701 p) (one 701 w) ≡ sameTree p w
 unfolding sameTree sameTys

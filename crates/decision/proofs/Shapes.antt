@@ -16,7 +16,7 @@ use Rattle.frame.specs.Encoding.{encNumber, enc, encs}
 use Rattle.frame.specs.WellFormed.{Wfs, numberIn}
 use Rattle.frame.specs.Places.{Ctx, under, found, find}
 use Rattle.frame.proofs.Splices.{find-lt}
-use Rattle.frame.proofs.SameTrees.{both-true}
+use Rattle.frame.proofs.Booleans.{both-true}
 use Rattle.frame.proofs.Inversion.{true-not}
 use Rattle.rules.proofs.Operands.{count-map}
 use Rattle.nav.specs.PlaceTables.{Table, Placed, TagPost, ChildrenPost}

@@ -9,7 +9,7 @@ use lib.Dec.{eqb}
 use borrow.Author.Tests.{eqb-true}
 use Rattle.frame.specs.Encoding.{encNumber}
 use Rattle.frame.proofs.Inversion.{true-not}
-use Rattle.frame.proofs.SameTrees.{both-true}
+use Rattle.frame.proofs.Booleans.{both-true}
 use Rattle.frame.proofs.Tables.{allBelow, below}
 use Rattle.templates.specs.Template.{Part}
 use Rattle.templates.specs.Programs.{templates, among, findRow, template, code, program}

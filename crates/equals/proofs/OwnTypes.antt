@@ -2,7 +2,7 @@
 -- Main results: express-type (the expression of a type has the power of that type); own-bool, own-int, own-ident, own-pow,
 -- own-times, own-other.
 use mathlib.Core.Path.{_≡_, refl, sym, ap, _∙_}
-use mathlib.Core.Bool.{Bool, true, false, _&&_}
+use mathlib.Core.Bool.{Bool, true, false, _&&_, and-true}
 use mathlib.Core.List.{[], _∷_}
 use Prim.Native.Nat.{ℕ}
 use native.Mathlib.Omega.{arith}
@@ -17,7 +17,6 @@ use Rattle.frame.proofs.SameTrees.{same-tree}
 use Rattle.typing.specs.Typing.{element, typeOf}
 use Rattle.typing.specs.TypeExpression.{toExpression}
 use Rattle.rules.specs.Dispatch.{isOwnType}
-use Rattle.decision.proofs.Opposites.{and-true}
 
 pub express-type : (t : Ty) (Γ : Ctx) → typeOf (toExpression t) Γ ≡ pow t
 unfolding toExpression typeOf classOf lookup formAt

@@ -14,7 +14,7 @@ use Rattle.frame.specs.Encoding.{encTys, enc}
 use Rattle.frame.specs.Spans.{Spans}
 use Rattle.frame.specs.Places.{Ctx}
 use Rattle.frame.proofs.Inversion.{true-not}
-use Rattle.frame.proofs.SameTrees.{both-true}
+use Rattle.frame.proofs.Booleans.{both-true, or-then}
 use Rattle.frame.proofs.Splices.{find-lt}
 use Rattle.frame.proofs.Tables.{allBelow, below, flag}
 use Rattle.typing.specs.Typing.{typeOf}
@@ -102,11 +102,7 @@ bound-few : (p g : ℕ) → Bound p g → p < 88
 bound-few p g h = ltb-true p 88 (both-true (ltb p 88) (not (takesBinders p) || hasBinders (formOf g .layout)) h .0)
 
 bound-has : (p g : ℕ) → Bound p g → takesBinders p ≡ true → hasBinders (formOf g .layout) ≡ true
-bound-has p g h e = go (takesBinders p) (hasBinders (formOf g .layout)) e (both-true (ltb p 88) (not (takesBinders p) || hasBinders (formOf g .layout)) h .1)
-  where
-    go : (x y : Bool) → x ≡ true → (not x || y) ≡ true → y ≡ true
-    go true y e z = z
-    go false y e z = true-not e
+bound-has p g h e = or-then (takesBinders p) (hasBinders (formOf g .layout)) (both-true (ltb p 88) (not (takesBinders p) || hasBinders (formOf g .layout)) h .1) e
 
 module _ (s : List ℕ) (n : ℕ) (st nx leaves : List ℕ) (pattern first second binder : ℕ) where
   pub fill-types : FillPre s n st nx leaves pattern first second binder → (types : List ℕ) → length types ≡ 129 → getD types boolAt 0 ≡ 0 → TypesPre s st leaves pattern first second types

@@ -9,7 +9,7 @@ use lib.Dec.{leb, eqb}
 use borrow.Author.Tests.{leb-true, leb-false, lt-leb, eqb-true, eqb-false}
 use Rattle.frame.specs.Tags.{pick, Class, unlisted, Row, row, table, lookup, classOf}
 use Rattle.frame.proofs.Inversion.{true-not}
-use Rattle.frame.proofs.SameTrees.{both-true}
+use Rattle.frame.proofs.Booleans.{both-true}
 
 -- ---- a test of n numbers from k on
 abbrev pub allFrom : ℕ → ℕ → (ℕ → Bool) → Bool

@@ -1,5 +1,6 @@
 pub mod Spans
 pub mod Numbers
+pub mod Booleans
 pub mod ReadTypes
 pub mod Inversion
 pub mod ReadTrees

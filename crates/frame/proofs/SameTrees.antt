@@ -10,14 +10,7 @@ use Rattle.frame.specs.Types.{Ty, bool, int, given, pow, prod}
 use Rattle.frame.specs.Trees.{head, Tree, node, Forest, nil, cons}
 use Rattle.frame.specs.Sameness.{sameTy, sameTys, sameTree, sameForest}
 use Rattle.frame.proofs.Inversion.{true-not}
-
--- ---- both of two tests
-pub both-true : (a b : Bool) → (a && b) ≡ true → (a ≡ true) × (b ≡ true)
-both-true true b e = (refl, e)
-both-true false b e = true-not e
-
-pub both-of : {a b : Bool} → a ≡ true → b ≡ true → (a && b) ≡ true
-both-of p q = rw (p, q)
+use Rattle.frame.proofs.Booleans.{both-true, both-of}
 
 -- a test that says true of equals, and says false: there is no equality
 differ : {X : Type 0} (test : X → X → Bool) → ((x : X) → test x x ≡ true) → (x y : X) → test x y ≡ false → x ≡ y → ⊥

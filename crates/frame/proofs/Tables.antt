@@ -10,7 +10,7 @@ use lib.Seq.{sets}
 use lib.Dec.{eqb}
 use borrow.Author.Tests.{eqb-true, eqb-false}
 use Rattle.frame.proofs.Inversion.{true-not}
-use Rattle.frame.proofs.SameTrees.{both-true}
+use Rattle.frame.proofs.Booleans.{both-true}
 
 -- ---- a test that is computed at each number below n
 abbrev pub allBelow : ℕ → (ℕ → Bool) → Bool

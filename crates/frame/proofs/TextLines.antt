@@ -11,7 +11,7 @@ use Rattle.frame.specs.Tags.{pick}
 use Rattle.frame.specs.Lines.{digitOf, digitFor, Line, frame, badLine, consByte, readLine, writeLine}
 use Rattle.frame.specs.Spans.{Bytes}
 use Rattle.frame.proofs.Spans.{bytes-nil, bytes-cons}
-use Rattle.frame.proofs.SameTrees.{both-true}
+use Rattle.frame.proofs.Booleans.{both-true}
 
 pub bad-line-not {ℓ} : {X : Type ℓ} {s : List ℕ} → badLine ≡ frame s → X
 bad-line-not e = let z : _≡_ {A = ℕ} 0 1 = cc in absurd (omega arith)

@@ -10,6 +10,7 @@ use lib.Dec.{eqb, ltb, eqb·zero-suc, eqb·suc-zero, eqb·suc-suc}
 use lib.Bits.{bitAnd, bitOr, and-step, or-step}
 use borrow.Author.Tests.{ne-eqb, ltb-true, ltb-false}
 use Rattle.frame.proofs.Tables.{allBelow}
+use Rattle.frame.proofs.Booleans.{and-swap}
 use Rattle.functional.specs.Functional.{bit}
 
 -- a digit is 0 or 1
@@ -57,16 +58,11 @@ bit-or a b (suc i) =
     rw z (bit-or (a / 2) (b / 2) i)
 
 -- ---- each bit of a is a bit of b
-and-same : (a b c : Bool) → (a && (b && c)) ≡ (b && (a && c))
-and-same true b c = refl
-and-same false true c = refl
-and-same false false c = refl
-
 -- a test at all numbers below suc k, from the first on
 below-first : (k : ℕ) (f : ℕ → Bool) → allBelow (suc k) f ≡ (f 0 && allBelow k (λ i. f (suc i)))
 below-first zero f = refl
 below-first (suc k) f =
-    ap (λ (x : Bool). f (suc k) && x) (below-first k f) ∙ and-same (f (suc k)) (f 0) (allBelow k (λ i. f (suc i)))
+    ap (λ (x : Bool). f (suc k) && x) (below-first k f) ∙ and-swap (f (suc k)) (f 0) (allBelow k (λ i. f (suc i)))
 
 -- a test that holds from n on
 module _ (f h : ℕ → Bool) where

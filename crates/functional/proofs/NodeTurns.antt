@@ -17,7 +17,7 @@ use Rattle.tags.specs.TagCodes.{formAtCode, formCode, layoutKind, highOf}
 use Rattle.frame.specs.Reading.{numberAt}
 use Rattle.frame.specs.WellFormed.{numberIn}
 use Rattle.frame.specs.Places.{Ctx, found, find}
-use Rattle.frame.proofs.SameTrees.{both-true}
+use Rattle.frame.proofs.Booleans.{both-true}
 use Rattle.frame.proofs.Splices.{find-some}
 use Rattle.frame.proofs.Tables.{allBelow, below, sameBool, flag}
 use Rattle.tags.proofs.TagTables.{form-code, code-small, beyond}

@@ -11,7 +11,7 @@ use native.Mathlib.Numerals.{add-one}
 use lib.Dec.{eqb, leb}
 use lib.ListN.{length, take, drop, getD, set, length-take, length-set, drop-of-length-le}
 use lib.Seq.{drop-cons, getD-take, take-suc-set}
-use borrow.Author.Tests.{eq-eqb, ne-eqb, leb-true}
+use borrow.Author.Tests.{eq-eqb, ne-eqb, leb-true, not-true, not-false}
 use Rattle.frame.specs.Types.{Ty}
 use Rattle.frame.specs.Trees.{head, Tree, node, Forest, nil, cons, count, tagOf, append}
 use Rattle.frame.specs.Tags.{pick, Sort, lookup, classOf, formAt}
@@ -19,7 +19,7 @@ use Rattle.frame.specs.WellFormed.{Wf}
 use Rattle.frame.specs.Places.{Ctx, under, found, find}
 use Rattle.frame.specs.Sameness.{sameTree}
 use Rattle.frame.proofs.Splices.{find-lt}
-use Rattle.frame.proofs.SameTrees.{both-true}
+use Rattle.frame.proofs.Booleans.{both-true}
 use Rattle.frame.proofs.Within.{KidsAtPlace}
 use Rattle.nav.specs.PlaceTables.{Table, Placed, BothPlaced, TagPost, ChildrenPost, SameAtPost}
 use Rattle.nav.proofs.Hops.{framed-few, place-sorted, child-first}
@@ -114,14 +114,6 @@ at-nil : (t : Tree) (Θ : Ctx) → At t Θ [] nil
 unfolding At
 at-nil t Θ = tt
 
-not-of : (b : Bool) → not b ≡ true → b ≡ false
-not-of true q = sym q
-not-of false q = refl
-
-of-not : (b : Bool) → not b ≡ false → b ≡ true
-of-not true q = refl
-of-not false q = sym q
-
 -- ---- the inner loop: over the kept ones, from j on
 module _ (s st nx : List ℕ) (neutral determinant : ℕ) where
   pub record Pending (t : Tree) (Θ : Ctx) (ps : List ℕ) (out : Forest) (w : Tree) (fresh : Bool) : Type 0 where
@@ -139,11 +131,11 @@ module _ (s st nx : List ℕ) (neutral determinant : ℕ) where
     unfolding verdict
     scanned-first true e t n Θ out w tb a f =
         let z : tagOf w ≡ tag = sym (post .tag t n Θ w (tb .framed) f) in
-        record { left = out; listed = a; says = rw (z, not-of (eqb tag neutral) e, ne-eqb tag determinant d) }
+        record { left = out; listed = a; says = rw (z, not-true (eqb tag neutral) e, ne-eqb tag determinant d) }
     scanned-first false e t n Θ out w tb a f =
         let z : tagOf w ≡ tag = sym (post .tag t n Θ w (tb .framed) f) in
         let y : length (take m lent) ≤ m = omega (arith, length-take m lent) in
-        record { left = nil; listed = rw (drop-of-length-le (take m lent) y) (at-nil t Θ); says = rw (z, of-not (eqb tag neutral) e) (pending-none w) }
+        record { left = nil; listed = rw (drop-of-length-le (take m lent) y) (at-nil t Θ); says = rw (z, not-false (eqb tag neutral) e) (pending-none w) }
 
   -- the next place of the list
   next-place : (lent : List ℕ) (m j : ℕ) → j < m → m ≤ length lent → drop j (take m lent) ≡ getD lent j 0 ∷ drop (j + 1) (take m lent)

@@ -2,7 +2,7 @@
 -- Main results: count-more, count-turn; digit-bad, digit-even, digit-odd, digit-past; goes-nil, goes-then;
 -- end-bad, end-odd, end-long, end-frame; line-bytes, line-buffer (what the buffer holds of a line that is read).
 use mathlib.Core.Path.{_≡_, refl, sym, ap, ap₂, _∙_, subst}
-use mathlib.Core.Bool.{Bool, true, false, _&&_}
+use mathlib.Core.Bool.{Bool, true, false, _&&_, and-true, and-false, and-assoc}
 use mathlib.Core.List.{List, [], _∷_, _++_, append-assoc, append-nil}
 use Prim.Native.Nat.{ℕ, _+_, _*_, _/_, _%_, _≤_, _<_}
 use native.Mathlib.Omega.{arith}
@@ -18,7 +18,7 @@ use Rattle.lines.specs.LineState.{allDigits, waiting, lineBytes, digitLi
 use Rattle.lines.specs.declared.LineState.{LineState}
 use Rattle.lines.specs.declared.LineAnswer.the-variants.{Frame, Refused}
 use Rattle.frame.proofs.Inversion.{true-not}
-use Rattle.frame.proofs.SameTrees.{both-true}
+use Rattle.frame.proofs.Booleans.{both-true}
 use Rattle.frame.proofs.Tables.{sets-append}
 use Rattle.frame.proofs.TextLines.{bad-line-not}
 
@@ -78,22 +78,10 @@ count-turn n k h e =
 abbrev good : ℕ → Bool
 good c = leb (digitOf c) 15
 
-and-true : (a : Bool) → (a && true) ≡ a
-and-true true = refl
-and-true false = refl
-
-and-assoc : (a b c : Bool) → (a && (b && c)) ≡ ((a && b) && c)
-and-assoc true b c = refl
-and-assoc false b c = refl
-
-and-false : (a b : Bool) → b ≡ false → (a && b) ≡ false
-and-false true b e = e
-and-false false b e = refl
-
 grow-digits : (cs : List ℕ) (c : ℕ) → allDigits (cs ++ (c ∷ [])) ≡ (allDigits cs && good c)
 unfolding allDigits
 grow-digits [] c = and-true (good c)
-grow-digits (d ∷ cs) c = ap (λ (b : Bool). good d && b) (grow-digits cs c) ∙ and-assoc (good d) (allDigits cs) (good c)
+grow-digits (d ∷ cs) c = ap (λ (b : Bool). good d && b) (grow-digits cs c) ∙ sym (and-assoc (good d) (allDigits cs) (good c))
 
 -- the first two of some digits, and the others
 pair-digits : (d e : ℕ) (cs : List ℕ) → allDigits (d ∷ e ∷ cs) ≡ true → (good d ≡ true) × (good e ≡ true) × (allDigits cs ≡ true)
@@ -255,7 +243,7 @@ module _ (st : LineState) (b : List ℕ) (c next low : ℕ) (en : (n : ℕ) → 
   digit-after-bad h old cs es eb = goes-bad cs old (ap (λ (a : Bool). a && good c) (no-digits st cs h es (allDigits cs) refl)) es eb
 
   pub digit-bad : 15 < low → LineGoes st b (c ∷ []) (record { count = next; high = 16 }) b
-  digit-bad h old cs es eb = goes-bad cs old (and-false (allDigits cs) (good c) (lt-leb (digitOf c) 15 (omega arith))) es eb
+  digit-bad h old cs es eb = goes-bad cs old (ap (λ (b : Bool). allDigits cs && b) (lt-leb (digitOf c) 15 (omega arith)) ∙ and-false (allDigits cs)) es eb
 
   module _ (hh : st .high ≤ 15) (hl : low ≤ 15) where
     gc : good c ≡ true

@@ -1,7 +1,7 @@
 -- The equations of negation, ⇒, ⇔ and ¬ keep what a predicate means.
 -- Main results: one NAME-keeps for each equation of places 16 to 23 and 66 to 84.
 use mathlib.Core.Path.{_≡_, refl, sym, ap, _∙_}
-use mathlib.Core.Bool.{Bool, true, false, not, _||_, Bool·beq, So, false≢true}
+use mathlib.Core.Bool.{Bool, true, false, not, _||_, Bool·beq, So, false≢true, Bool·not-not as not-not, or-true, or-false}
 use Prim.Native.Nat.{ℕ}
 use Rattle.frame.specs.Types.{Ty, bool, int}
 use Rattle.frame.specs.Trees.{Tree, Forest, leaf, two, pair}
@@ -15,7 +15,7 @@ use Rattle.meaning.specs.Values.{same}
 use Rattle.meaning.specs.Operations.{opAt, opOf}
 use Rattle.meaning.specs.Meaning.{Interpretation, Vals, truth, val, leInt, holds, valueOf, means, meansAll}
 use Rattle.meaning.specs.Premises.{SingleIntegers, NoInterOverNothing}
-use Rattle.meaning.proofs.Lists.{so-imp, so-all, not-not, or-true, or-false, beq-true, beq-false}
+use Rattle.meaning.proofs.Lists.{so-imp, so-all, beq-true, beq-false}
 use Rattle.meaning.proofs.Sound.{Formula, Keeps, keeps-truth, accepted-formula}
 use Rattle.meaning.proofs.Kit.{NoInter}
 use Rattle.meaning.proofs.Kit as kit

@@ -1,7 +1,7 @@
 -- The equations of A ∩ … ∩ B = ∅ where an operand is {a}, and where some are differences.
 -- Main results: single-emptied, subtracted-emptied.
 use mathlib.Core.Path.{_≡_, refl, sym, ap, ap₂, _∙_, fun-ext}
-use mathlib.Core.Bool.{Bool, true, false, not, _&&_, _||_}
+use mathlib.Core.Bool.{Bool, true, false, not, _&&_, _||_, and-true, or-false, and-assoc}
 use Prim.Native.Nat.{ℕ}
 use Rattle.frame.specs.Types.{Ty, pow}
 use Rattle.frame.specs.Trees.{Tree, Forest, nil, cons, two, many, sole, append}
@@ -15,7 +15,6 @@ use Rattle.meaning.specs.Lists.{any, all}
 use Rattle.meaning.specs.Operations.{opAt, opOf}
 use Rattle.meaning.specs.Meaning.{Interpretation, Vals, Val, Den, val, setOf, some, equals, valueOf, means, meansAll}
 use Rattle.meaning.specs.Premises.{NoInt, SingleIntegers, SingleIntegersIn, NoInterOverNothing, NoInterOverNothingIn}
-use Rattle.meaning.proofs.Lists.{and-true, or-false, and-assoc}
 use Rattle.meaning.proofs.Sets.{within-is}
 use Rattle.meaning.proofs.EmptySetsMore as more
 use Rattle.meaning.proofs.Kit.{NoInter}

@@ -2,7 +2,7 @@
 -- Main results: NAME-type, NAME-single, NAME-is for NAME dom or ran; image-is, forward-is, backward-is; and-two-truth;
 -- false-emptied, meet-emptied, within-emptied, either-emptied (E = ∅ is ⊥, is A ∩ B = ∅, is A ⊆ B, is A = ∅ ∨ B = ∅).
 use mathlib.Core.Path.{_≡_, refl, sym, ap, ap₂, _∙_, fun-ext}
-use mathlib.Core.Bool.{true, not, _&&_, _||_}
+use mathlib.Core.Bool.{true, not, _&&_, _||_, and-true, or-false}
 use mathlib.Core.List.{[], _∷_}
 use Prim.Native.Nat.{ℕ}
 use Rattle.frame.specs.Types.{Ty, pow, prod}
@@ -16,7 +16,7 @@ use Rattle.meaning.specs.Lists.{any, all}
 use Rattle.meaning.specs.Operations.{Operator, operator, domain, range, image, forward, backward, opAt, opOf}
 use Rattle.meaning.specs.Meaning.{Interpretation, Vals, truth, val, setOf, relOf, some, every, onward, backwards, holds, valueOf, means}
 use Rattle.meaning.specs.Premises.{SingleIntegers, NoInterOverNothing}
-use Rattle.meaning.proofs.Lists.{and-true, or-false, not-and}
+use Rattle.meaning.proofs.Lists.{not-and}
 use Rattle.meaning.proofs.Kit as kit
 use Rattle.meaning.proofs.Emptied.{Emptied, emptied, emptied-by}
 

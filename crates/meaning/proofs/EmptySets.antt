@@ -3,14 +3,14 @@
 -- pow1-some, kunion-none, dom-some, ran-some, converse-some, fcomp-some, qunion-none, id-some, prj1-some,
 -- prj2-some, ext-some: an operator's set has a member (NAME-some), has none (NAME-none).
 use mathlib.Core.Path.{_≡_, refl}
-use mathlib.Core.Bool.{Bool, true, false, not, _&&_, _||_}
+use mathlib.Core.Bool.{Bool, true, false, not, _&&_, _||_, or-false, Bool·not-not as not-not}
 use mathlib.Core.List.{List}
 use Prim.Native.Nat.{ℕ}
 use Rattle.frame.specs.Types.{Ty, pow, prod}
 use Rattle.meaning.specs.Lists.{any, all}
 use Rattle.meaning.specs.Values.{Value, default, same, someOf, everyOf, asType}
 use Rattle.meaning.specs.Premises.{NoInt}
-use Rattle.meaning.proofs.Lists.{iff, so-and, so-not, so-imp, so-any, so-all, or-false, not-not}
+use Rattle.meaning.proofs.Lists.{iff, so-and, so-not, so-imp, so-any, so-all}
 use Rattle.meaning.proofs.Complete.{so-some, so-every, so-eq, as-type-refl}
 use Rattle.meaning.proofs.Sets.{is-empty, within-is}
 

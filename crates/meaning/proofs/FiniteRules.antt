@@ -2,7 +2,7 @@
 -- type ℙ(ℤ), which the integers premise rules out.
 -- Main results: finite-keeps (finite(S) and any true predicate), and one NAME-keeps for each equation of places 1 to 15.
 use mathlib.Core.Path.{_≡_, refl, sym, ap, _∙_, fun-ext}
-use mathlib.Core.Bool.{Bool, true, false, _||_}
+use mathlib.Core.Bool.{Bool, true, false, _||_, or-false, and-true}
 use mathlib.Core.List.{List, _∷_}
 use Prim.Native.Nat.{ℕ}
 use Rattle.frame.specs.Types.{Ty, int, pow}
@@ -18,7 +18,6 @@ use Rattle.meaning.specs.Lists.{any, all}
 use Rattle.meaning.specs.Operations.{partition, opAt, opOf}
 use Rattle.meaning.specs.Meaning.{Interpretation, Vals, truth, setOf, equals, holds, disjointFrom, disjoint, partitions, means, meansAll}
 use Rattle.meaning.specs.Premises.{NoInt, SingleIntegers, NoInterOverNothing}
-use Rattle.meaning.proofs.Lists.{or-false, and-true}
 use Rattle.meaning.proofs.Sets.{is-empty}
 use Rattle.meaning.proofs.Sound.{Formula, Keeps, keeps-truth}
 use Rattle.meaning.proofs.Kit as kit

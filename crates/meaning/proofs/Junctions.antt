@@ -2,7 +2,7 @@
 -- Main results: junction-decided-keeps, junction-opposite-keeps (place 62), junction-none-keeps, junction-one-keeps,
 -- junction-fewer-keeps (places 63 to 65).
 use mathlib.Core.Path.{_≡_, refl, sym, ap, _∙_}
-use mathlib.Core.Bool.{Bool, true, false, not, _&&_, _||_}
+use mathlib.Core.Bool.{Bool, true, false, not, _&&_, _||_, and-true, or-false}
 use mathlib.Core.List.{List, _∷_, _++_}
 use Prim.Native.Nat.{ℕ}
 use Rattle.frame.specs.Types.{Ty}
@@ -18,7 +18,7 @@ use Rattle.meaning.specs.Lists.{any, all, In}
 use Rattle.meaning.specs.Operations.{opAt, opOf}
 use Rattle.meaning.specs.Meaning.{Interpretation, Vals, Den, truth, holds, means, meansAll}
 use Rattle.meaning.specs.Premises.{SingleIntegers, NoInterOverNothing}
-use Rattle.meaning.proofs.Lists.{so-any, so-all, clash, not-so, In-left, all-mid, any-mid, and-true, or-false}
+use Rattle.meaning.proofs.Lists.{so-any, so-all, clash, not-so, In-left, all-mid, any-mid}
 use Rattle.meaning.proofs.Sound.{Formula, Keeps, keeps-truth, accepted-formula}
 use Rattle.meaning.proofs.Kit.{NoInter}
 use Rattle.meaning.proofs.Kit as kit

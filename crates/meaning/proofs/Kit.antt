@@ -5,15 +5,16 @@
 -- NAME-single, NAME-alive for empty (E = ∅) and full (E = Ty); type-full (a type's expression is everything), type-type,
 -- type-single, type-alive; single-type, no-int (the integers premise at a tree's type).
 use mathlib.Core.Path.{_≡_, refl, sym, ap, ap₂, _∙_, fun-ext}
-use mathlib.Core.Bool.{Bool, true, false, not, _&&_, _||_, Bool·beq}
+use mathlib.Core.Bool.{Bool, true, false, not, _&&_, _||_, Bool·beq, or-true}
 use mathlib.Core.List.{List, [], _∷_}
-use lib.Dec.{eqb, eqb-refl, T}
+use lib.Dec.{eqb}
 use Rattle.frame.specs.Types.{Ty, bool, int, given, pow, prod}
 use Rattle.frame.specs.Trees.{head, Tree, node, Forest, nil, leaf, one, two, many, sole, pair}
 use Rattle.frame.specs.Tags.{Layout, these, payload, counted, binding, bindersOf, classOf, lookup, formAt, formOf}
 use Rattle.frame.specs.Operators.{#Equal, #In, #SubsetEq, #KInter, #QInter}
 use Rattle.frame.specs.Places.{Ctx, push}
 use Prim.Native.Nat.{ℕ}
+use borrow.Author.Tests.{eq-eqb}
 use Rattle.typing.specs.Typing.{element, typeOf, typesIn}
 use Rattle.typing.specs.TypeExpression.{toExpression}
 use Rattle.rules.specs.Equations.{¬ᵖ, _⇒_, _⇔_, ⋀, ⋁, ∀ᵖ, ∃ᵖ, _≐_, _∈ᵖ_, _⊆_, ∅, Ty-of, _≐∅, _≐Ty}
@@ -21,7 +22,6 @@ use Rattle.meaning.specs.Lists.{any, all}
 use Rattle.meaning.specs.Operations.{Logic, Op, logic, equal, subset, member, opAt, opOf}
 use Rattle.meaning.specs.Meaning.{Interpretation, Vals, truth, val, setOf, some, every, equals, choices, bindersIn, nodeMeans, identifierValue, holds, valueOf, quantified, means, meansAll}
 use Rattle.meaning.specs.Premises.{NoInt, Single, AllNoInt, AllSingle, SingleIntegers, SingleIntegersIn, NoInterOverNothing, NoInterOverNothingIn}
-use Rattle.meaning.proofs.Lists.{or-true}
 use Rattle.meaning.proofs.Sound.{Formula, formula-type, binders-agree}
 use Rattle.meaning.proofs.Sets.{is-empty, is-full, every-true}
 
@@ -57,10 +57,6 @@ type-single (given k) Γ n = ((tt, tt), tt, tt, tt)
 type-single (pow t) Γ n = (tt, rw (type-type t Γ) n, tt, (type-single t Γ n, tt))
 type-single (prod t u) Γ n = (tt, rw (type-type t Γ, type-type u Γ) n, tt, (type-single t Γ (n .0), (type-single u Γ (n .1), tt)))
 
-so : (b : Bool) → T b → b ≡ true
-so true h = refl
-so false h = absurd h
-
 module _ (I : Interpretation) where
   pub type-alive : (t : Ty) (Γ : Ctx) → NoInterOverNothing I (toExpression t) Γ
   unfolding NoInterOverNothing toExpression opOf opAt classOf lookup
@@ -75,7 +71,7 @@ module _ (I : Interpretation) where
   unfolding means toExpression opOf opAt classOf lookup valueOf identifierValue
   type-full bool Γ ρ = refl
   type-full int Γ ρ = refl
-  type-full (given n) Γ ρ = rw (so (eqb n n) (eqb-refl n))
+  type-full (given n) Γ ρ = rw (eq-eqb n n refl)
   type-full (pow t) Γ ρ = fun-ext (λ s. ap (λ f. every I t (λ x. not (s x) || f x)) (type-full t Γ ρ) ∙ simp (or-true, every-true))
   type-full (prod t u) Γ ρ = fun-ext (λ p. ap₂ (λ f g. f (p .0) && g (p .1)) (type-full t Γ ρ) (type-full u Γ ρ))
 

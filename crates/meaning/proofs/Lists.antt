@@ -4,9 +4,10 @@
 -- any-swap, any-or, any-imp).
 use mathlib.Core.Path.{_≡_, refl, sym, ap, _∙_}
 use mathlib.Core.Logic.{_↔_, _⊎_, inl, inr}
-use mathlib.Core.Bool.{Bool, true, false, not, _&&_, _||_, Bool·beq, So, true≢false, false≢true}
+use mathlib.Core.Bool.{Bool, true, false, not, _&&_, _||_, Bool·beq, So, true≢false, false≢true, Bool·not-not as not-not, and-assoc, or-assoc}
 use mathlib.Core.List.{List, [], _∷_, _++_, map}
 use Rattle.meaning.specs.Lists.{any, all, In}
+use Rattle.frame.proofs.Booleans.{and-swap}
 
 -- two truth values are equal if each follows from the other
 pub iff : {a b : Bool} → (So a ↔ So b) → a ≡ b
@@ -51,10 +52,6 @@ not-so {a = true} f = absurd (f refl)
 not-so {a = false} f = refl
 
 -- ---- equations between truth values
-pub not-not : (a : Bool) → not (not a) ≡ a
-not-not true = refl
-not-not false = refl
-
 pub beq-true : (a : Bool) → Bool·beq a true ≡ a
 beq-true true = refl
 beq-true false = refl
@@ -69,39 +66,10 @@ beq-comm true false = refl
 beq-comm false true = refl
 beq-comm false false = refl
 
-pub or-false : (a : Bool) → (a || false) ≡ a
-or-false true = refl
-or-false false = refl
-
-pub or-true : (a : Bool) → (a || true) ≡ true
-or-true true = refl
-or-true false = refl
-
-pub and-true : (a : Bool) → (a && true) ≡ a
-and-true true = refl
-and-true false = refl
-
-pub and-false : (a : Bool) → (a && false) ≡ false
-and-false true = refl
-and-false false = refl
-
-pub and-swap : (a b c : Bool) → (a && (b && c)) ≡ (b && (a && c))
-and-swap true b c = refl
-and-swap false true c = refl
-and-swap false false c = refl
-
 pub or-swap : (a b c : Bool) → (a || (b || c)) ≡ (b || (a || c))
 or-swap false b c = refl
 or-swap true true c = refl
 or-swap true false c = refl
-
-pub and-assoc : (a b c : Bool) → ((a && b) && c) ≡ (a && (b && c))
-and-assoc true b c = refl
-and-assoc false b c = refl
-
-pub or-assoc : (a b c : Bool) → ((a || b) || c) ≡ (a || (b || c))
-or-assoc true b c = refl
-or-assoc false b c = refl
 
 pub or-mid : (a b c d : Bool) → ((a || b) || (c || d)) ≡ ((a || c) || (b || d))
 or-mid true b c d = refl

@@ -6,7 +6,7 @@
 -- accepts these trees).
 use mathlib.Core.Path.{_≡_, refl, ap, _∙_}
 use mathlib.Core.Logic.{inl, inr}
-use mathlib.Core.Bool.{Bool, true, false, not, _&&_, _||_, So, true≢false, false≢true}
+use mathlib.Core.Bool.{Bool, true, false, not, _&&_, _||_, So, true≢false, false≢true, or-false}
 use mathlib.Core.List.{List, [], _∷_, map, flatMap}
 use Prim.Native.Nat.{ℕ}
 use lib.IntN.{ℤ, pos}
@@ -29,7 +29,7 @@ use Rattle.meaning.specs.Values.{listOf, sameElement, pairs, including, 
 use Rattle.meaning.specs.Operations.{opAt, opOf}
 use Rattle.meaning.specs.Meaning.{Interpretation, Val, leInt, valueAt, choices, identifierValue, setOf, equals, holds, valueOf, quantified, boundSet, means, isTrue}
 use Rattle.meaning.specs.Premises.{NoInt, SingleIntegers, NoInterOverNothing}
-use Rattle.meaning.proofs.Lists.{or-false, so-imp, so-any}
+use Rattle.meaning.proofs.Lists.{so-imp, so-any}
 use Rattle.meaning.proofs.Complete.{listed, so-eq, so-some, so-every, as-type-refl}
 use Rattle.meaning.proofs.Sets.{so-sets}
 use Rattle.meaning.proofs.Kit as kit

@@ -3,14 +3,14 @@
 -- every-is, so-sets (equality of sets by their members), some-any (a union has a member if a part has).
 use mathlib.Core.Path.{_≡_, ap, _∙_, fun-ext}
 use mathlib.Core.Logic.{_↔_}
-use mathlib.Core.Bool.{Bool, true, false, not, _&&_, _||_, So}
+use mathlib.Core.Bool.{Bool, true, false, not, _&&_, _||_, So, Bool·not-not as not-not, and-true}
 use mathlib.Core.List.{List}
 use Prim.Native.Nat.{ℕ}
 use Rattle.frame.specs.Types.{Ty, pow}
 use Rattle.meaning.specs.Lists.{any, all}
 use Rattle.meaning.specs.Values.{Value, values, same, someOf, everyOf}
 use Rattle.meaning.specs.Premises.{NoInt}
-use Rattle.meaning.proofs.Lists.{iff, so-any, not-not, beq-true, beq-false, beq-comm, and-true, nand, all-is, all-true, any-false}
+use Rattle.meaning.proofs.Lists.{iff, so-any, beq-true, beq-false, beq-comm, nand, all-is, all-true, any-false}
 use Rattle.meaning.proofs.Complete.{so-some, so-same}
 
 module _ (size : ℕ → ℕ) (t : Ty) (s : Value size t → Bool) where

@@ -3,14 +3,14 @@
 -- Main results: cap-full, minus-full, times-full, domres-full, domsub-full, ranres-full, ransub-full, dprod-full, pprod-full,
 -- kinter-full, converse-full, qinter-full.
 use mathlib.Core.Path.{_≡_, refl, sym, _∙_, fun-ext}
-use mathlib.Core.Bool.{Bool, true, false, not, _&&_, _||_, So}
+use mathlib.Core.Bool.{Bool, true, false, not, _&&_, _||_, So, or-false}
 use mathlib.Core.List.{List}
 use Prim.Native.Nat.{ℕ}
 use Rattle.frame.specs.Types.{Ty, pow, prod}
 use Rattle.meaning.specs.Lists.{all}
 use Rattle.meaning.specs.Values.{Value, default, values, same, someOf, everyOf}
 use Rattle.meaning.specs.Premises.{NoInt}
-use Rattle.meaning.proofs.Lists.{iff, so-and, so-not, so-imp, so-all, or-false, all-swap}
+use Rattle.meaning.proofs.Lists.{iff, so-and, so-not, so-imp, so-all, all-swap}
 use Rattle.meaning.proofs.Complete.{so-some, so-every}
 use Rattle.meaning.proofs.Sets.{is-full, so-sets}
 

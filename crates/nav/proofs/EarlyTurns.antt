@@ -7,7 +7,7 @@ use Prim.Native.Nat.{ℕ, _+_, _≤_, _<_}
 use native.Mathlib.Omega.{arith}
 use lib.ListN.{length, getD, length-append}
 use lib.Dec.{leb}
-use borrow.Author.Tests.{le-leb}
+use borrow.Author.Tests.{le-leb, not-true}
 use Rattle.frame.specs.Trees.{head, Tree, node, Forest, nil, cons, count, tagOf}
 use Rattle.frame.specs.Tags.{Sort, Layout, these, payload, counted, binding, Class, table, classOf, formAt, formOf, sortsOf}
 use Rattle.frame.specs.Encoding.{encHead, enc, encs}
@@ -87,12 +87,8 @@ module _ (s : List ℕ) (x y tag : ℕ) where
     )
 
     pub early-bytes : EarlyPre s x y tag → (r : Bool) → SameBytes s (x + 2) (y + 2) 4 r → EarlyPost s x y (not r)
-    early-bytes p r q = record { differ = λ z e d t u st su eq. q .differ (was r z) (λ j l. alike e d t u st su eq j l) }
+    early-bytes p r q = record { differ = λ z e d t u st su eq. q .differ (not-true r z) (λ j l. alike e d t u st su eq j l) }
       where
-        was : (i : Bool) → not i ≡ true → i ≡ false
-        was true z = sym z
-        was false z = refl
-
         alike : (e d : Sort) (t u : Tree) → Stands s x e t → Stands s y d u → t ≡ u → (j : ℕ) → j < 4 → getD s (x + 2 + j) 0 ≡ getD s (y + 2 + j) 0
         alike e d t u st su eq j l =
             let n = long-at x (p .of-left) e t st in

@@ -1,7 +1,7 @@
 -- The ways out of `fill_pattern`.
 -- Main results: fill-end, fill-full, fill-fixed, fill-unbound, fill-long, fill-bound, with what the calls ask for.
 use mathlib.Core.Path.{_≡_, refl, sym, ap, _∙_, subst, subst₂}
-use mathlib.Core.Bool.{Bool, true, false, _&&_}
+use mathlib.Core.Bool.{Bool, true, false, _&&_, and-false}
 use mathlib.Core.List.{List, [], _∷_, _++_, append-nil}
 use Prim.Native.Nat.{ℕ, _+_, _-_, _/_, _%_, _≤_, _<_}
 use native.Mathlib.Omega.{arith}
@@ -50,10 +50,6 @@ then-fill true o p q m n xs ys r a kept f =
     let b = span-kept q n (f .2 .long) (f .2 .low) (omega arith) a in
     (f .0 ∙ ap L.To z, subst (λ (i : ℕ). Spans q m i (xs ++ ys)) z (span-join b (f .1)), kept-then o p q m n (omega (arith, a .long)) kept (f .2))
 then-fill false o p q m n xs ys r a kept f = f
-
-and-false : (b : Bool) → (b && false) ≡ false
-and-false true = refl
-and-false false = refl
 
 module _ (p : ℕ) (o : List ℕ) (m limit : ℕ) (s e : List ℕ) (k : ℕ) (room : (m ≤ limit) × (limit ≤ length o)) where
   abbrev Post : List ℕ → Filled → Type 0

@@ -20,7 +20,8 @@ use Rattle.frame.specs.WellFormed.{TyWf}
 use Rattle.frame.specs.Spans.{Spans}
 use Rattle.frame.proofs.Spans.{span-first, span-left, span-right}
 use Rattle.frame.proofs.ReadTypes.{ty-prefix}
-use Rattle.frame.proofs.SameTrees.{both-true, same-ty}
+use Rattle.frame.proofs.Booleans.{both-true}
+use Rattle.frame.proofs.SameTrees.{same-ty}
 use Rattle.frame.proofs.Inversion.{true-not}
 use Rattle.typing.specs.Typing.{ty}
 use Rattle.type_rules.specs.Patterns.{symbolOf, partsOf, Matched, differs, matches}

@@ -8,13 +8,15 @@ use mathlib.Core.List.{List, [], _∷_}
 use Prim.Native.Nat.{ℕ, _≤_, _<_}
 use native.Mathlib.Omega.{arith}
 use lib.ListN.{length}
-use lib.Dec.{T, leb, eqb, le→leb, leb→le, lit<}
+use lib.Dec.{leb, eqb, lit<}
+use borrow.Author.Tests.{leb-true, le-leb}
 use Rattle.frame.specs.Types.{Ty, bool}
 use Rattle.frame.specs.Trees.{head, Tree, node, Forest, nil, cons, count}
 use Rattle.frame.specs.Tags.{pick, Sort, predicate, expression, Layout, these, counted, binding, Form, classOf, formAt, formOf, sortsOf, repeat, Class, literalPred, equality, order, membership, inclusion, binaryPred, associativePred, negation, quantifiedPred, finite, partition, identifier, bound, literal, setExtension, maplet, relationSet, setMinus, cartesian, directProduct, parallelProduct, domainRestriction, rangeRestriction, upTo, arithmetic, functionImage, relationalImage, setOperation, backwardComposition, forwardComposition, override, sum, integerSet, boolSet, truthValue, integerRelation, emptySet, projection1, projection2, identity, boolExpr, cardinal, powerset, generalised, domain, range, extremum, converse, unaryMinus, quantifiedSet, comprehension, unlisted}
 use Rattle.frame.specs.Encoding.{encTy}
 use Rattle.frame.specs.Places.{Ctx, under}
 use Rattle.frame.specs.WellFormed.{TysWf, numberIn}
+use Rattle.frame.proofs.Booleans.{both-true}
 use Rattle.typing.specs.Typing.{wants, result, shape, carriedTy, alike, typeOf, typesIn}
 use Rattle.typing.specs.Binding.{indexBound}
 use Rattle.typing.specs.Identifiers.{identTag}
@@ -168,26 +170,11 @@ module _ {σ : ℕ → Ty} {Γ : Ctx} where
 abbrev row : Sort → Layout → Form
 row e l = record { listed = true; sort = e; layout = l; carried = 0 }
 
-leb-true : (m n : ℕ) → m ≤ n → leb m n ≡ true
-leb-true m n h = T-true (leb m n) (le→leb m n h)
-  where
-    T-true : (b : Bool) → T b → b ≡ true
-    T-true true x = refl
-    T-true false x = absurd x
-
 between : {lo hi k : ℕ} → lo ≤ k → k ≤ hi → leb lo k && leb k hi ≡ true
-between {lo} {hi} {k} l h = rw (leb-true lo k l, leb-true k hi h)
-
-leb-le : (m n : ℕ) → leb m n ≡ true → m ≤ n
-leb-le m n h = leb→le m n (rw h tt)
-
-and-true : (a b : Bool) → a && b ≡ true → (a ≡ true) × (b ≡ true)
-and-true true true h = (refl, refl)
-and-true true false h = (refl, h)
-and-true false b h = (h, cc)
+between {lo} {hi} {k} l h = rw (le-leb lo k l, le-leb k hi h)
 
 pub within : (lo hi k : ℕ) → leb lo k && leb k hi ≡ true → (lo ≤ k) × (k ≤ hi)
-within lo hi k h = let p = and-true (leb lo k) (leb k hi) h in (leb-le lo k (p .0), leb-le k hi (p .1))
+within lo hi k h = let p = both-true (leb lo k) (leb k hi) h in (leb-true lo k (p .0), leb-true k hi (p .1))
 
 -- a list of binders that a node may have
 pub record Binders (σ : ℕ → Ty) (us : List Ty) : Type 0 where

@@ -14,7 +14,7 @@ use Rattle.frame.specs.Tags.{classOf, lookup, formAt}
 use Rattle.frame.specs.Operators.{#SetExt, #Equal, #Lt, #Le, #Gt, #Ge, #Mapsto, #CProd, #DomRes, #UpTo, #BUnion, #Integer, #Natural, #Natural1, #Bool, #True, #False, #EmptySet, #KPrj1Gen, #KPrj2Gen, #KIdGen, #BFalse, #Not, #Pow, #Converse, #CSet, #Partition}
 use Rattle.frame.specs.Places.{Ctx, push}
 use Rattle.frame.proofs.Inversion.{true-not}
-use Rattle.frame.proofs.SameTrees.{both-true}
+use Rattle.frame.proofs.Booleans.{both-true, or-then}
 use Rattle.typing.specs.Typing.{source, first, second}
 use Rattle.rules.specs.Change.{to, _orElse_, when, isTag}
 use Rattle.rules.specs.Negation.{rewriteNotInner, rewriteNot, rewritePartition}
@@ -80,10 +80,6 @@ finite-domres x {e} a h =
     (λ i. let w = is-typed #KPrj2Gen a i refl in rw (w .1) (Equations.«SIMP_FINITE_PRJ2_DOMRES» x (w .0))))
 
 -- each binder that the right side uses is recovered from the left
-used-recovered : (u r : Bool) → (not u || r) ≡ true → u ≡ true → r ≡ true
-used-recovered true r h e = h
-used-recovered false r h e = true-not e
-
 checked : (l r : Tree) (n : ℕ) → functionalCheck l r n ≡ true → (i : ℕ) → i < n → uses r i ≡ true → recovers l i ≡ true
 unfolding functionalCheck
 checked l r zero h i k e = absurd (omega arith)
@@ -92,7 +88,7 @@ checked l r (suc n) h i k e =
     go (eqb i n) refl (b .0) (checked l r n (b .1) i)
   where
     go : (c : Bool) → eqb i n ≡ c → (not (uses r n) || recovers l n) ≡ true → (i < n → uses r i ≡ true → recovers l i ≡ true) → recovers l i ≡ true
-    go true q d f = let j : i ≡ n = eqb-true i n q in rw j (used-recovered (uses r n) (recovers l n) d (rw j at e))
+    go true q d f = let j : i ≡ n = eqb-true i n q in rw j (or-then (uses r n) (recovers l n) d (rw j at e))
     go false q d f = f (omega (arith, eqb-false i n q)) e
 
 finite-lambda : {σ : ℕ → Ty} {Γ : Ctx} (us : List Ty) (x : Tree) {e : Tree} → Ok σ (push us Γ) e

@@ -12,7 +12,7 @@ use Rattle.frame.specs.Trees.{head, Tree, node, Forest, nil, cons}
 use Rattle.frame.specs.Tags.{formOf, bindersOf}
 use Rattle.frame.specs.Operators.{#BoundIdent, #Mapsto}
 use Rattle.frame.proofs.Inversion.{true-not}
-use Rattle.frame.proofs.SameTrees.{both-true}
+use Rattle.frame.proofs.Booleans.{both-true}
 use Rattle.rules.specs.Finite.{uses, usesIn, recovers, recoversIn}
 use Rattle.rules.specs.Equations.{Among, Occurs, named, below, Leaf, alone, side}
 use Rattle.rules.proofs.Shapes.{either}

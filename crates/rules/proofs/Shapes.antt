@@ -15,7 +15,7 @@ use Rattle.frame.specs.Trees.{head, Tree, node, Forest, nil, cons, count, leaf,
 use Rattle.frame.specs.Tags.{pick, Sort, Layout, these, payload, counted, binding, formOf, numberOf, payloadOf, typesOf, sortsOf, inRange, bindersOf}
 use Rattle.frame.specs.Places.{Ctx, push}
 use Rattle.frame.proofs.Inversion.{true-not}
-use Rattle.frame.proofs.SameTrees.{both-true}
+use Rattle.frame.proofs.Booleans.{both-true}
 use Rattle.typing.specs.Typing.{shape, carriedTy}
 use Rattle.typing.specs.Accepted.{Accepted, AcceptedAll}
 use Rattle.rules.specs.Change.{Change, to, same, _orElse_, when, isTag, onTag}

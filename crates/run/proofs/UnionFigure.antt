@@ -23,7 +23,8 @@ use Rattle.frame.specs.Places.{Ctx, find, replace}
 use Rattle.frame.specs.Sameness.{sameTys, sameTree}
 use Rattle.frame.specs.Spans.{Bytes}
 use Rattle.frame.proofs.Inversion.{else-of}
-use Rattle.frame.proofs.SameTrees.{both-true, same-tree}
+use Rattle.frame.proofs.Booleans.{both-true}
+use Rattle.frame.proofs.SameTrees.{same-tree}
 use Rattle.typing.specs.Check.{accepted, check}
 use Rattle.typing.specs.Accepted.{Accepted}
 use Rattle.typing.proofs.Checked.{check-accepts}

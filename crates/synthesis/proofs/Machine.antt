@@ -2,7 +2,7 @@
 -- whole tree.
 -- Main results: machine-start, machine-push, machine-pop: opening a node and closing one leave the answer as it is.
 use mathlib.Core.Path.{_≡_, refl, sym, ap, _∙_}
-use mathlib.Core.Bool.{Bool, true, false, _&&_}
+use mathlib.Core.Bool.{Bool, true, false, _&&_, and-true}
 use mathlib.Core.List.{List, [], _∷_, _++_, append-assoc, append-nil}
 use Prim.Native.Nat.{ℕ}
 use Rattle.frame.specs.Types.{Ty}
@@ -58,7 +58,3 @@ module _ (g n : ℕ) (us : List Ty) (Γ : Ctx) (ts : List Ty) where
       close-up (opened g n us Γ ts nil) ps
       ∙ ap (λ (l : List Ty). pick (nodeTyped g n us Γ l && true) (deliver (result (classOf g) n us Γ l) ps) bad) (append-nil ts)
       ∙ ap (λ (b : Bool). pick b (deliver (result (classOf g) n us Γ ts) ps) bad) (and-true (nodeTyped g n us Γ ts))
-    where
-      and-true : (b : Bool) → (b && true) ≡ b
-      and-true true = refl
-      and-true false = refl

@@ -13,7 +13,7 @@ use Rattle.frame.specs.Tags.{pick, Sort, predicate, expression, sameSort, repea
 use Rattle.tags.specs.TagCodes.{formAtCode, isExpression, sortFor, firstSort, laterSort, kindsFor, layoutKind, lowOf, highOf, fixedOf}
 use Rattle.frame.proofs.Inversion.{true-not}
 use Rattle.frame.proofs.ReadTrees.{repeat-length}
-use Rattle.frame.proofs.SameTrees.{both-true}
+use Rattle.frame.proofs.Booleans.{both-true}
 use Rattle.frame.proofs.Tables.{below, entry, flag}
 
 -- ---- by form: what the parts of a layout say

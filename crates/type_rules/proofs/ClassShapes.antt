@@ -13,7 +13,8 @@ use Rattle.frame.specs.Tags.{pick, Class, literalPred, equality, order, members
 use Rattle.frame.specs.Encoding.{encTy}
 use Rattle.frame.specs.Places.{Ctx}
 use Rattle.frame.specs.Sameness.{sameTy, sameTys}
-use Rattle.frame.proofs.SameTrees.{same-ty-refl, both-true}
+use Rattle.frame.proofs.Booleans.{both-true}
+use Rattle.frame.proofs.SameTrees.{same-ty-refl}
 use Rattle.typing.specs.Typing.{element, source, relation, first, second, wants, result, carriedTy}
 use Rattle.type_rules.specs.Patterns.{ruleAt, ownTypes, Judged, wrong, limited, judge}
 

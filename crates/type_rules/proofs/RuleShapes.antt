@@ -8,7 +8,8 @@ use Rattle.frame.specs.Types.{Ty}
 use Rattle.frame.specs.Tags.{pick}
 use Rattle.frame.specs.Encoding.{encTy}
 use Rattle.frame.specs.Sameness.{sameTy, sameTys}
-use Rattle.frame.proofs.SameTrees.{same-ty, same-tys, same-ty-refl, both-true}
+use Rattle.frame.proofs.Booleans.{both-true}
+use Rattle.frame.proofs.SameTrees.{same-ty, same-tys, same-ty-refl}
 use Rattle.frame.proofs.Inversion.{true-not}
 use Rattle.typing.specs.Typing.{source, target, relation, first, ty, lastTy, alike, onward, backward}
 use Rattle.type_rules.specs.Patterns.{Matched, fits, differs, matches, rule, alikePair, onwardPair, backwardPair, Judged, typed, wrong, limited, completed, isFit, thenMatched, pairsFit, lastOnes, ends, judge}

@@ -13,7 +13,7 @@ use Rattle.tags.specs.TagCodes.{rowOf}
 use Rattle.frame.proofs.Tables.{NoneBelow, past-all}
 use Rattle.tags.proofs.TagTables.{row-far}
 use Rattle.frame.proofs.EveryTag.{alongRows, every-tag, unlisted-past}
-use Rattle.frame.proofs.SameTrees.{both-true}
+use Rattle.frame.proofs.Booleans.{both-true}
 use Rattle.type_rules.specs.Patterns.{Rule, ruleAt}
 use Rattle.type_rules.specs.RuleNumbers.{ruleNumber, ruleWords, rowWords, patternWords, lastPattern, packs, Packed}
 

@@ -23,8 +23,9 @@ use Rattle.typing.specs.Identifiers.{namesAgree}
 use Rattle.typing.specs.Check.{accepted, refused, checkTree}
 use Rattle.typing.specs.Signature.{signature}
 use Rattle.typing.specs.Accepted.{Accepted, AcceptedAll}
-use Rattle.frame.proofs.SameTrees.{both-true, same-ty, same-tys}
-use Rattle.typing.proofs.Same.{and-both, same-ty-of, same-tys-of}
+use Rattle.frame.proofs.Booleans.{both-true, both-of}
+use Rattle.frame.proofs.SameTrees.{same-ty, same-tys}
+use Rattle.typing.proofs.Same.{same-ty-of, same-tys-of}
 use Rattle.typing.proofs.Names.{Signed, SignedAll, signed-kids, signed-first, signed-rest, node-named, node-types, names-signed, accepted-names}
 
 -- ---- number 10 at one node
@@ -50,8 +51,8 @@ module _ (g n : ℕ) (us : List Ty) (Γ : Ctx) (ts : List Ty) where
       let w : Bool = sameTys ts (wants (classOf g) ts) in
       let s : Bool = sameTy (carriedTy us) (shape g (carriedTy us)) in
       let l : Bool = leb (length (encTy (result (classOf g) n us Γ ts))) typeLimit in
-      and-both w (s && l) (same-tys-of ts (wants (classOf g) ts) (h .fits))
-      (and-both s l (same-ty-of (carriedTy us) (shape g (carriedTy us)) (h .shaped)) (le-leb (length (encTy (result (classOf g) n us Γ ts))) typeLimit (h .short)))
+      both-of (same-tys-of ts (wants (classOf g) ts) (h .fits))
+      (both-of (same-ty-of (carriedTy us) (shape g (carriedTy us)) (h .shaped)) (le-leb (length (encTy (result (classOf g) n us Γ ts))) typeLimit (h .short)))
 
 module _ (σ : ℕ → Ty) where
   -- ---- the tests pass, so the tree is accepted
@@ -99,7 +100,7 @@ module _ (σ : ℕ → Ty) where
 
     pub accepted-closed : (t : Tree) (Γ : Ctx) (e : Sort) → Accepted σ t Γ e → closedTree t Γ ≡ true
     accepted-closed (node (head g n us) ks) Γ e a =
-        and-both (indexBound g n Γ) (closedForest ks (under g us Γ)) (a .top .indexed)
+        both-of (a .top .indexed)
         (accepted-closed-all ks (under g us Γ) (sortsOf (formOf g .layout) (numberIn g n us (count ks))) (a .kids))
 
     pub accepted-closed-all : (ks : Forest) (Γ : Ctx) (es : List Sort) → AcceptedAll σ ks Γ es → closedForest ks Γ ≡ true
@@ -107,14 +108,14 @@ module _ (σ : ℕ → Ty) where
     accepted-closed-all nil Γ (e ∷ es) a = refl
     accepted-closed-all (cons t ks) Γ [] a = absurd a
     accepted-closed-all (cons t ks) Γ (e ∷ es) a =
-        and-both (closedTree t Γ) (closedForest ks Γ) (accepted-closed t Γ e (a .0)) (accepted-closed-all ks Γ es (a .1))
+        both-of (accepted-closed t Γ e (a .0)) (accepted-closed-all ks Γ es (a .1))
 
   mutual
     unfolding Accepted typedTree
 
     pub accepted-typed : (t : Tree) (Γ : Ctx) (e : Sort) → Accepted σ t Γ e → typedTree t Γ ≡ true
     accepted-typed (node (head g n us) ks) Γ e a =
-        and-both (nodeTyped g n us Γ (typesIn ks (under g us Γ))) (typedForest ks (under g us Γ))
+        both-of
         (typed-node g n us Γ (typesIn ks (under g us Γ)) (record { fits = a .fits; shaped = a .top .shaped; short = a .short }))
         (accepted-typed-all ks (under g us Γ) (sortsOf (formOf g .layout) (numberIn g n us (count ks))) (a .kids))
 
@@ -123,7 +124,7 @@ module _ (σ : ℕ → Ty) where
     accepted-typed-all nil Γ (e ∷ es) a = refl
     accepted-typed-all (cons t ks) Γ [] a = absurd a
     accepted-typed-all (cons t ks) Γ (e ∷ es) a =
-        and-both (typedTree t Γ) (typedForest ks Γ) (accepted-typed t Γ e (a .0)) (accepted-typed-all ks Γ es (a .1))
+        both-of (accepted-typed t Γ e (a .0)) (accepted-typed-all ks Γ es (a .1))
 
 -- ---- the check
 passed : (a b c : Bool) (t u : Tree) → pick a (pick b (pick c (accepted t) (refused 10)) (refused 9)) (refused 8) ≡ accepted u

@@ -22,8 +22,9 @@ use Rattle.typing.specs.Identifiers.{identTag, Named, named, identOf, id
 use Rattle.typing.specs.Signature.{signed, signature}
 use Rattle.typing.specs.Accepted.{TyOk, TysOk, HeadOk, Accepted, AcceptedAll}
 use Rattle.typing.proofs.Derived.{push-ok, result-ok}
-use Rattle.frame.proofs.SameTrees.{both-true, same-ty}
-use Rattle.typing.proofs.Same.{and-both, same-ty-of}
+use Rattle.frame.proofs.Booleans.{both-true, both-of, or-then, then-or}
+use Rattle.frame.proofs.SameTrees.{same-ty}
+use Rattle.typing.proofs.Same.{same-ty-of}
 
 -- ---- lists: what holds of each member
 module _ {A : Type 0} where
@@ -43,15 +44,6 @@ module _ {A : Type 0} where
   pub all-of : (P : A → Type 0) (l : List A) → ((x : A) → In x l → P x) → All P l
   all-of P [] h = tt
   all-of P (x ∷ l) h = (h x (inl refl), all-of P l (λ y i. h y (inr i)))
-
--- not a, or b
-or-then : (a b : Bool) → (not a || b) ≡ true → a ≡ true → b ≡ true
-or-then true b h k = h
-or-then false b h k = absurd (false≢true k)
-
-then-or : (a b : Bool) → (a ≡ true → b ≡ true) → (not a || b) ≡ true
-then-or true b f = f refl
-then-or false b f = refl
 
 -- ---- what it is to be signed
 module _ (σ : ℕ → Ty) where
@@ -173,22 +165,22 @@ module _ (σ : ℕ → Ty) where
   unfolding agrees
   agrees-of n t [] e h = refl
   agrees-of n t (named m u ∷ l) e h =
-      and-both (not (eqb n m) || sameTy t u) (agrees (named n t) l)
+      both-of
       (then-or (eqb n m) (sameTy t u) (λ q. same-ty-of t u (e ∙ (ap σ (eqb-true n m q) ∙ sym (h .0))))) (agrees-of n t l e (h .1))
 
   spares-of : (n : ℕ) (t : Ty) (ms : List ℕ) → t ≡ σ n → All GivenOk ms → spares (named n t) ms ≡ true
   unfolding spares
   spares-of n t [] e h = refl
   spares-of n t (m ∷ ms) e h =
-      and-both (not (eqb n m) || sameTy t (pow (given m))) (spares (named n t) ms)
+      both-of
       (then-or (eqb n m) (sameTy t (pow (given m))) (λ q. same-ty-of t (pow (given m)) (e ∙ (ap σ (eqb-true n m q) ∙ h .0)))) (spares-of n t ms e (h .1))
 
   consistent-of : (l all : List Named) (ms : List ℕ) → All NameOk l → All NameOk all → All GivenOk ms → consistent l all ms ≡ true
   unfolding consistent
   consistent-of [] all ms h k s = refl
   consistent-of (named n t ∷ l) all ms h k s =
-      and-both (agrees (named n t) all) (spares (named n t) ms && consistent l all ms) (agrees-of n t all (h .0) k)
-      (and-both (spares (named n t) ms) (consistent l all ms) (spares-of n t ms (h .0) s) (consistent-of l all ms (h .1) k s))
+      both-of (agrees-of n t all (h .0) k)
+      (both-of (spares-of n t ms (h .0) s) (consistent-of l all ms (h .1) k s))
 
   pub signed-agree : (t : Tree) → Signed t → namesAgree t ≡ true
   unfolding namesAgree

@@ -1,13 +1,10 @@
--- Sameness of types from their equality, and two tests joined.
+-- Sameness of types from their equality.
 use mathlib.Core.Path.{_≡_, subst}
-use mathlib.Core.Bool.{Bool, true, _&&_}
+use mathlib.Core.Bool.{true}
 use mathlib.Core.List.{List}
 use Rattle.frame.specs.Types.{Ty}
 use Rattle.frame.specs.Sameness.{sameTy, sameTys}
-use Rattle.frame.proofs.SameTrees.{both-of, same-ty-refl, same-tys-refl}
-
-pub and-both : (a b : Bool) → a ≡ true → b ≡ true → (a && b) ≡ true
-and-both a b p q = both-of p q
+use Rattle.frame.proofs.SameTrees.{same-ty-refl, same-tys-refl}
 
 pub same-ty-of : (t u : Ty) → t ≡ u → sameTy t u ≡ true
 same-ty-of t u e = subst (λ (v : Ty). sameTy t v ≡ true) e (same-ty-refl t)
