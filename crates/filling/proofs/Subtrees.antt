@@ -5,8 +5,7 @@ use mathlib.Core.Bool.{Bool, true, false}
 use mathlib.Core.List.{List, [], _∷_, _++_}
 use Prim.Native.Nat.{ℕ, zero, suc, _+_, _-_, _/_, _≤_, _<_}
 use native.Mathlib.Omega.{arith}
-use lib.ListN.{length, getD, List·getD-append}
-use lib.Seq.{getD-append-add}
+use lib.ListN.{length, getD}
 use lib.Dec.{ltb}
 use borrow.Author.Tests.{ltb-false}
 use Rattle.frame.specs.Types.{Ty}
@@ -16,7 +15,7 @@ use Rattle.frame.specs.Encoding.{encNumber, encTy, encTys, encHead, enc, encs, 
 use Rattle.frame.specs.Spans.{Spans}
 use Rattle.frame.specs.Places.{Ctx, under, found, find, findIn}
 use Rattle.frame.proofs.AtPlace.{absent-not}
-use Rattle.frame.proofs.Extents.{starts-length}
+use Rattle.frame.proofs.Extents.{starts-first, starts-rest}
 use Rattle.frame.proofs.Inversion.{true-not}
 use Rattle.frame.proofs.Numbers.{number-length}
 use Rattle.frame.proofs.Spans.{span-left, span-right}
@@ -107,12 +106,6 @@ mutual
   first-start-in (cons t ls) Γ k Δ i a ks f p =
       go (ltb k (nodes t)) refl f (λ x p. first-start t Γ k Δ i a ks x p) (λ x p. first-start-in ls Γ (k - nodes t) Δ i a ks x p) p
     where
-      at-first : (p j : ℕ) (l : List ℕ) → j < nodes t → getD (starts t p ++ l) j 0 ≡ getD (starts t p) j 0
-      at-first p j l h = List·getD-append (starts t p) l 0 j (omega (arith, starts-length t p))
-
-      at-rest : (p j : ℕ) (l : List ℕ) → getD (starts t p ++ l) (nodes t + j) 0 ≡ getD l j 0
-      at-rest p j l = rw (← starts-length t p) (getD-append-add (starts t p) l j 0)
-
       go : (b : Bool) → ltb k (nodes t) ≡ b → pick b (find t Γ k) (findIn ls Γ (k - nodes t)) ≡ found Δ (node i (cons a ks))
           → (find t Γ k ≡ found Δ (node i (cons a ks)) → Below t k (length (encHead i (count (cons a ks)))))
           → (findIn ls Γ (k - nodes t) ≡ found Δ (node i (cons a ks)) → BelowIn ls (k - nodes t) (length (encHead i (count (cons a ks)))))
@@ -120,14 +113,14 @@ mutual
       go true q e x y p =
           let l = startsIn ls (p + length (enc t)) in
           let z = two-places t Γ k Δ i a ks e in
-          at-first p (suc k) l z ∙ x e p ∙ ap (λ (m : ℕ). m + length (encHead i (count (cons a ks)))) (sym (at-first p k l (omega arith)))
+          starts-first t p (suc k) l z ∙ x e p ∙ ap (λ (m : ℕ). m + length (encHead i (count (cons a ks)))) (sym (starts-first t p k l (omega arith)))
       go false q e x y p =
           let r : ℕ = p + length (enc t) in
           let l = startsIn ls r in
           let u : suc k ≡ nodes t + suc (k - nodes t) = omega (arith, ltb-false k (nodes t) q) in
           let v : k ≡ nodes t + (k - nodes t) = omega (arith, ltb-false k (nodes t) q) in
-          ap (λ (m : ℕ). getD (starts t p ++ l) m 0) u ∙ at-rest p (suc (k - nodes t)) l ∙ y e r
-          ∙ ap (λ (m : ℕ). m + length (encHead i (count (cons a ks)))) (sym (ap (λ (m : ℕ). getD (starts t p ++ l) m 0) v ∙ at-rest p (k - nodes t) l))
+          ap (λ (m : ℕ). getD (starts t p ++ l) m 0) u ∙ starts-rest t p (suc (k - nodes t)) l ∙ y e r
+          ∙ ap (λ (m : ℕ). m + length (encHead i (count (cons a ks)))) (sym (ap (λ (m : ℕ). getD (starts t p ++ l) m 0) v ∙ starts-rest t p (k - nodes t) l))
 
 -- ---- bytes
 module _ (s : List ℕ) (t : Tree) (st : List ℕ) (n : ℕ) (fr : Framed s t st n) where

@@ -1,10 +1,12 @@
 -- How far trees reach: where a tree that is read ends, and how many nodes and bytes it has.
--- Main results: node-end, node-fuel (more fuel reads the same), nodes-enc, nodesIn-encs, starts-length, startsIn-length.
+-- Main results: node-end, node-fuel (more fuel reads the same), nodes-enc, nodesIn-encs, starts-length, startsIn-length,
+-- starts-first, starts-rest (the table of starts, at a place of the first tree and of the others).
 use mathlib.Core.Path.{_≡_, refl, ap}
-use mathlib.Core.List.{List}
+use mathlib.Core.List.{List, _++_}
 use Prim.Native.Nat.{ℕ, suc, _+_, _≤_, _<_}
 use native.Mathlib.Omega.{arith}
-use lib.ListN.{length, length-append}
+use lib.ListN.{length, length-append, getD, List·getD-append}
+use lib.Seq.{getD-append-add}
 use Rattle.frame.specs.Trees.{Tree, node, Forest, nil, cons, count, nodes, nodesIn}
 use Rattle.frame.specs.Tags.{Sort}
 use Rattle.frame.specs.Encoding.{encHead, enc, encs, starts, startsIn}
@@ -47,3 +49,10 @@ mutual
   pub startsIn-length : (ts : Forest) (p : ℕ) → length (startsIn ts p) ≡ nodesIn ts
   startsIn-length nil p = refl
   startsIn-length (cons t ts) p = rw (length-append, starts-length t p, startsIn-length ts (p + length (enc t)))
+
+-- the table of a forest, at a place of the first tree and of the others
+pub starts-first : (t : Tree) (p k : ℕ) (l : List ℕ) → k < nodes t → getD (starts t p ++ l) k 0 ≡ getD (starts t p) k 0
+starts-first t p k l h = List·getD-append (starts t p) l 0 k (omega (arith, starts-length t p))
+
+pub starts-rest : (t : Tree) (p k : ℕ) (l : List ℕ) → getD (starts t p ++ l) (nodes t + k) 0 ≡ getD l k 0
+starts-rest t p k l = rw (← starts-length t p) (getD-append-add (starts t p) l k 0)

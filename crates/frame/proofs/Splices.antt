@@ -7,8 +7,8 @@ use mathlib.Core.Bool.{Bool, true, false}
 use mathlib.Core.List.{List, [], _++_, append-assoc, append-nil}
 use Prim.Native.Nat.{ℕ, zero, suc, _+_, _-_, _≤_, _<_}
 use native.Mathlib.Omega.{arith}
-use lib.ListN.{length, getD, take, drop, length-append, List·getD-append}
-use lib.Seq.{take-at, drop-at, getD-append-add, drop-drop}
+use lib.ListN.{length, getD, take, drop, length-append}
+use lib.Seq.{take-at, drop-at, drop-drop}
 use lib.Dec.{ltb}
 use borrow.Author.Tests.{ltb-true, ltb-false}
 use Rattle.frame.specs.Trees.{Head, head, Tree, node, Forest, nil, cons, count, nodes, nodesIn}
@@ -16,7 +16,7 @@ use Rattle.frame.specs.Tags.{pick}
 use Rattle.frame.specs.Encoding.{encHead, enc, encs, starts, startsIn}
 use Rattle.frame.specs.Places.{Ctx, under, Found, found, absent, find, findIn, replace, replaceIn}
 use Rattle.frame.proofs.AtPlace.{absent-not, found-either, at-place}
-use Rattle.frame.proofs.Extents.{starts-length}
+use Rattle.frame.proofs.Extents.{starts-first, starts-rest}
 
 -- ---- what stands at a place
 
@@ -132,14 +132,11 @@ Spliced t k v p = Splits v p (getD (starts t p) k 0) (enc t) (λ u. enc (replace
 abbrev pub SplicedIn : Forest → ℕ → Tree → ℕ → Type 0
 SplicedIn ks k v p = Splits v p (getD (startsIn ks p) k 0) (encs ks) (λ u. encs (replaceIn ks k u))
 
--- the table of a forest, at a place of the first tree and of the others
-starts-first : (t : Tree) (p k : ℕ) (l : List ℕ) → k < nodes t → getD (starts t p ++ l) k 0 ≡ getD (starts t p) k 0
-starts-first t p k l h = List·getD-append (starts t p) l 0 k (omega (arith, starts-length t p))
-
-starts-rest : (t : Tree) (p k : ℕ) (l : List ℕ) → nodes t ≤ k → getD (starts t p ++ l) k 0 ≡ getD l (k - nodes t) 0
-starts-rest t p k l h =
-    let z : k ≡ length (starts t p) + (k - nodes t) = omega (arith, starts-length t p) in
-    ap (λ (i : ℕ). getD (starts t p ++ l) i 0) z ∙ getD-append-add (starts t p) l (k - nodes t) 0
+-- the table of a forest, at a place behind the first tree
+starts-behind : (t : Tree) (p k : ℕ) (l : List ℕ) → nodes t ≤ k → getD (starts t p ++ l) k 0 ≡ getD l (k - nodes t) 0
+starts-behind t p k l h =
+    let z : k ≡ nodes t + (k - nodes t) = omega arith in
+    ap (λ (i : ℕ). getD (starts t p ++ l) i 0) z ∙ starts-rest t p (k - nodes t) l
 
 splice-cons : (t : Tree) (ks : Forest) (k : ℕ) (Δ : Ctx) (v : Tree) (p : ℕ) (x y : Found) (b : Bool) → ltb k (nodes t) ≡ b → pick b x y ≡ found Δ v
     → (x ≡ found Δ v → Spliced t k v p) → (y ≡ found Δ v → SplicedIn ks (k - nodes t) v (p + length (enc t)))
@@ -149,7 +146,7 @@ unfolding enc
 splice-cons t ks k Δ v p x y true h e f g =
     rw (starts-first t p k (startsIn ks (p + length (enc t))) (ltb-true k (nodes t) h)) (splits-behind (encs ks) v p _ (enc t) (λ u. enc (replace t k u)) (f e))
 splice-cons t ks k Δ v p x y false h e f g =
-    rw (starts-rest t p k (startsIn ks (p + length (enc t))) (ltb-false k (nodes t) h)) (splits-front (enc t) v p _ (encs ks) (λ u. encs (replaceIn ks (k - nodes t) u)) (g e))
+    rw (starts-behind t p k (startsIn ks (p + length (enc t))) (ltb-false k (nodes t) h)) (splits-front (enc t) v p _ (encs ks) (λ u. encs (replaceIn ks (k - nodes t) u)) (g e))
 
 splice-node : (h : Head) (ks : Forest) (k : ℕ) (v : Tree) (p a : ℕ) → Splits v (p + length (encHead h (count ks))) a (encs ks) (λ u. encs (replaceIn ks k u))
     → Splits v p a (enc (node h ks)) (λ u. enc (node h (replaceIn ks k u)))

@@ -7,8 +7,7 @@ use mathlib.Core.Bool.{Bool, true, false}
 use mathlib.Core.List.{List, [], _∷_, _++_, append-assoc}
 use Prim.Native.Nat.{ℕ, zero, suc, _+_, _-_, _≤_, _<_}
 use native.Mathlib.Omega.{arith}
-use lib.ListN.{length, getD, length-append, List·getD-append}
-use lib.Seq.{getD-append-add}
+use lib.ListN.{length, getD, length-append}
 use lib.Dec.{ltb}
 use borrow.Author.Tests.{ltb-true, ltb-false}
 use Rattle.frame.specs.Types.{Ty}
@@ -17,7 +16,7 @@ use Rattle.frame.specs.Tags.{pick, Sort, predicate, formOf, sortsOf}
 use Rattle.frame.specs.Encoding.{encHead, enc, encs, starts, startsIn}
 use Rattle.frame.specs.WellFormed.{numberIn, Wf, Wfs}
 use Rattle.frame.specs.Places.{Ctx, under, Found, found, find, findIn}
-use Rattle.frame.proofs.Extents.{nodes-enc, starts-length}
+use Rattle.frame.proofs.Extents.{nodes-enc, starts-first, starts-rest}
 use Rattle.frame.proofs.AtPlace.{absent-not, down-place}
 use Rattle.frame.proofs.Splices.{find-some, find-lt, splice-there, splice-within}
 use Rattle.frame.proofs.Within.{find-within, KidsAtPlace, kids-of, kid-first, kid-next}
@@ -124,13 +123,6 @@ unfolding starts enc
 starts-head nil q l = let z : q + 0 ≡ q = omega arith in (l, ap (λ (i : ℕ). i ∷ l) z)
 starts-head (cons (node h ks) ts) q l = (_, refl)
 
--- the table of a forest, at a place of the first tree and of the others
-in-first : (t : Tree) (p k : ℕ) (l : List ℕ) → k < nodes t → getD (starts t p ++ l) k 0 ≡ getD (starts t p) k 0
-in-first t p k l h = List·getD-append (starts t p) l 0 k (omega (arith, starts-length t p))
-
-in-rest : (t : Tree) (p k : ℕ) (l : List ℕ) → getD (starts t p ++ l) (nodes t + k) 0 ≡ getD l k 0
-in-rest t p k l = rw (← starts-length t p) (getD-append-add (starts t p) l k 0)
-
 -- Place k has the subtree v. The table, and after it the tree's end, says at the place after v where v ends.
 abbrev Next : Tree → ℕ → Tree → Type 0
 Next t k v = (p : ℕ) (l : List ℕ) → getD (starts t p ++ ((p + length (enc t)) ∷ l)) (k + nodes v) 0 ≡ getD (starts t p) k 0 + length (enc v)
@@ -144,7 +136,7 @@ next-root h ks Γ Δ v f p l =
     let t : Tree = node h ks in
     let z : v ≡ t = cc in
     let y : 0 + nodes t ≡ nodes t + 0 = omega arith in
-    rw (z, y) (in-rest t p 0 ((p + length (enc t)) ∷ l))
+    rw (z, y) (starts-rest t p 0 ((p + length (enc t)) ∷ l))
 
 next-node : (h : Head) (ks : Forest) (k : ℕ) (v : Tree) → NextIn ks k v → Next (node h ks) (suc k) v
 unfolding starts enc
@@ -162,14 +154,14 @@ next-cons t ks k Δ v x y true h e f g p l =
     let q : ℕ = p + length (enc t) in
     let z : p + length (enc t ++ encs ks) ≡ q + length (encs ks) = omega (arith, length-append (enc t) (encs ks)) in
     let r = starts-head ks q l in
-    rw (z, append-assoc, r .1, in-first t p k (startsIn ks q) (ltb-true k (nodes t) h)) (f e p (r .0))
+    rw (z, append-assoc, r .1, starts-first t p k (startsIn ks q) (ltb-true k (nodes t) h)) (f e p (r .0))
 next-cons t ks k Δ v x y false h e f g p l =
     let q : ℕ = p + length (enc t) in
     let z : p + length (enc t ++ encs ks) ≡ q + length (encs ks) = omega (arith, length-append (enc t) (encs ks)) in
     let a : k + nodes v ≡ nodes t + (k - nodes t + nodes v) = omega (arith, ltb-false k (nodes t) h) in
     let b : k ≡ nodes t + (k - nodes t) = omega (arith, ltb-false k (nodes t) h) in
-    let i = in-rest t p (k - nodes t + nodes v) (startsIn ks q ++ ((q + length (encs ks)) ∷ l)) in
-    let j = ap (λ (o : ℕ). getD (starts t p ++ startsIn ks q) o 0) b ∙ in-rest t p (k - nodes t) (startsIn ks q) in
+    let i = starts-rest t p (k - nodes t + nodes v) (startsIn ks q ++ ((q + length (encs ks)) ∷ l)) in
+    let j = ap (λ (o : ℕ). getD (starts t p ++ startsIn ks q) o 0) b ∙ starts-rest t p (k - nodes t) (startsIn ks q) in
     rw (z, append-assoc, a, j) (i ∙ g e q l)
 
 mutual
@@ -191,7 +183,7 @@ module _ (s : List ℕ) (t : Tree) (st : List ℕ) (n : ℕ) (fr : Framed s t st
   pub ends-inside : k + nodes v < nodes t → getD st (k + nodes v) 0 ≡ getD st k 0 + length (enc v)
   ends-inside h =
       fr .begins (k + nodes v) h
-      ∙ (sym (in-first t 0 (k + nodes v) ((0 + length (enc t)) ∷ []) h)
+      ∙ (sym (starts-first t 0 (k + nodes v) ((0 + length (enc t)) ∷ []) h)
       ∙ (next-start t [] k Γ v f 0 []
       ∙ ap (λ (i : ℕ). i + length (enc v)) (sym (fr .begins k (find-lt t [] k Γ v f)))))
 
@@ -200,7 +192,7 @@ module _ (s : List ℕ) (t : Tree) (st : List ℕ) (n : ℕ) (fr : Framed s t st
   ends-last z =
       let y : k + nodes v ≡ nodes t + 0 = omega arith in
       ap length (fr .bytes)
-      ∙ (sym (in-rest t 0 0 ((0 + length (enc t)) ∷ []) ∙ omega arith)
+      ∙ (sym (starts-rest t 0 0 ((0 + length (enc t)) ∷ []) ∙ omega arith)
       ∙ (sym (ap (λ (i : ℕ). getD (starts t 0 ++ ((0 + length (enc t)) ∷ [])) i 0) y)
       ∙ (next-start t [] k Γ v f 0 []
       ∙ ap (λ (i : ℕ). i + length (enc v)) (sym (fr .begins k (find-lt t [] k Γ v f))))))
