@@ -15,6 +15,7 @@ use Rattle.frame.specs.Encoding.{encNumber, enc, encs}
 use Rattle.frame.specs.Places.{Ctx, under, found, find}
 use Rattle.frame.proofs.Splices.{find-lt}
 use Rattle.frame.proofs.Within.{kids-of, kid-first, kid-next}
+use Rattle.frame.proofs.Forests.{count-append, encs-append}
 use Rattle.nav.specs.PlaceTables.{Table, Placed, PlacedIn, ChildrenPost}
 use Rattle.nav.proofs.Hops.{place-sorted, some-node}
 use Rattle.nav.proofs.SamePlaces.{only-child}
@@ -78,10 +79,6 @@ unfolding enc
 two-bytes g es h a b = plain-bytes g (pair a b) es h ∙ ap (λ (l : List ℕ). encNumber 2 g ++ (enc a ++ l)) (append-nil (enc b))
 
 -- ---- rows as trees
-count-append : (left right : Forest) → count (append left right) ≡ count left + count right
-count-append nil right = omega arith
-count-append (cons a left) right = let z = count-append left right in omega arith
-
 -- no child before or behind place k is at it
 row-before : (k c : ℕ) (left right : Forest) → c + nodesIn left ≤ k → rowOf (Besides k) c (append left right) ≡ encs left ++ rowOf (Besides k) (c + nodesIn left) right
 unfolding rowOf enc nodes
@@ -98,11 +95,6 @@ row-behind k c nil h = refl
 row-behind k c (cons w right) h =
     let z : eqb c k ≡ false = ne-eqb c k (λ e. omega arith) in
     rw z (ap (λ (l : List ℕ). enc w ++ l) (row-behind k (c + nodes w) right (omega arith)))
-
-encs-append : (left right : Forest) → encs (append left right) ≡ encs left ++ encs right
-unfolding enc
-encs-append nil right = refl
-encs-append (cons w left) right = ap (λ (l : List ℕ). enc w ++ l) (encs-append left right) ∙ sym (append-assoc (enc w) (encs left) (encs right))
 
 -- all but the one at place k
 row-besides : (k c : ℕ) (left : Forest) (w : Tree) (right : Forest) → k ≡ c + nodesIn left → rowOf (Besides k) c (append left (cons w right)) ≡ encs (append left right)

@@ -9,6 +9,7 @@ pub mod Frames
 pub mod SameTrees
 pub mod TextLines
 pub mod Extents
+pub mod Forests
 pub mod Tables
 pub mod EveryTag
 pub mod AtPlace

@@ -20,8 +20,9 @@ use Rattle.frame.specs.At.{IsAt, Rest}
 use Rattle.frame.proofs.Spans.{span-left, span-right}
 use Rattle.frame.proofs.Numbers.{number-back}
 use Rattle.frame.proofs.ReadBack.{enc-long}
+use Rattle.frame.proofs.Forests.{encs-append, wfs-append}
 use Rattle.tags.proofs.TagTables.{code-form}
-use Rattle.reading.proofs.AgainTurns.{encs-append, wfs-append, frame-rest}
+use Rattle.reading.proofs.AgainTurns.{frame-rest}
 use Rattle.typing.specs.Typing.{carriedTy}
 use Rattle.typing.specs.Members.{All}
 use Rattle.typing.specs.Identifiers.{identTag, Named, named, givensTys, identOf, namesAgree}

@@ -21,6 +21,7 @@ use Rattle.frame.specs.Sameness.{sameTree}
 use Rattle.frame.proofs.Splices.{find-lt}
 use Rattle.frame.proofs.Booleans.{both-true}
 use Rattle.frame.proofs.Within.{KidsAtPlace}
+use Rattle.frame.proofs.Forests.{count-append}
 use Rattle.nav.specs.PlaceTables.{Table, Placed, BothPlaced, TagPost, ChildrenPost, SameAtPost}
 use Rattle.nav.proofs.Hops.{framed-few, place-sorted, child-first}
 use Rattle.rules.specs.Change.{contains}
@@ -64,10 +65,6 @@ at-more t Θ [] nil p w a f = (f, tt)
 at-more t Θ [] (cons v ks) p w a f = absurd a
 at-more t Θ (q ∷ ps) nil p w a f = absurd a
 at-more t Θ (q ∷ ps) (cons v ks) p w a f = (a .0, at-more t Θ ps ks p w (a .1) f)
-
-count-more : (ks : Forest) (w : Tree) → count (append ks (cons w nil)) ≡ suc (count ks)
-count-more nil w = refl
-count-more (cons v ks) w = ap suc (count-more ks w)
 
 -- the first of the places, and the others
 pub record First (t : Tree) (Θ : Ctx) (p : ℕ) (ps : List ℕ) (ks : Forest) : Type 0 where
@@ -293,7 +290,7 @@ module _ (s st nx : List ℕ) (k neutral determinant : ℕ) where
               out = append (q .out) (cons (d .w) nil);
               below = rw en (d .below);
               done = omega (arith, q .done);
-              size = omega (arith, q .size, count-more (q .out) (d .w));
+              size = omega (arith, q .size, count-append (q .out) (cons (d .w) nil));
               listed = rw (add-one m, take-suc-set lent m c room) a;
               goes = goes-on keeps says t n Γ g x us ks tb f;
             }

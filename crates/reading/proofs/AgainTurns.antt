@@ -1,5 +1,5 @@
 -- The nodes from a position to the end of a frame, and the ways out of `place_nodes` and `read_again`.
--- Main results: encs-append, wfs-append, frame-rest, first-at (what stands there); placing-begins, placing-stands, placing-goes,
+-- Main results: frame-rest, first-at (what stands there); placing-begins, placing-stands, placing-goes,
 -- placing-done; again-pre, again.
 use mathlib.Core.Path.{_≡_, refl, sym, ap, ap₂, _∙_, subst}
 use mathlib.Core.Bool.{Bool}
@@ -22,34 +22,10 @@ use Rattle.reading.specs.declared.FrameAnswer.the-variants as F
 use Rattle.frame.proofs.Spans.{span-left, span-right, span-join}
 use Rattle.frame.proofs.Frames.{parse-inv}
 use Rattle.frame.proofs.Extents.{nodes-enc, starts-length}
+use Rattle.frame.proofs.Forests.{encs-append, wfs-append, nodes-append, starts-append}
 use Rattle.reading.proofs.FrameTurns.{sets-zeros}
 use Rattle.heads.proofs.View.{at-span, at-wf, stands-at, parse-at, kids-span, kids-wf, View, view}
 use Rattle.heads.proofs.KnownTurns.{head-at}
-
--- ---- forests joined
-pub encs-append : (ts us : Forest) → encs (append ts us) ≡ encs ts ++ encs us
-unfolding enc
-encs-append nil us = refl
-encs-append (cons t ts) us = rw (append-assoc, encs-append ts us)
-
-pub wfs-append : (ts us : Forest) (ds es : List Sort) → Wfs ts ds → Wfs us es → Wfs (append ts us) (ds ++ es)
-wfs-append nil us [] es v w = w
-wfs-append nil us (d ∷ ds) es v w = absurd v
-wfs-append (cons t ts) us [] es v w = absurd v
-wfs-append (cons t ts) us (d ∷ ds) es v w = (v .0, wfs-append ts us ds es (v .1) w)
-
-nodes-append : (ts us : Forest) → nodesIn (append ts us) ≡ nodesIn ts + nodesIn us
-unfolding nodes
-nodes-append nil us = omega arith
-nodes-append (cons t ts) us = omega (arith, nodes-append ts us)
-
-starts-append : (ts us : Forest) (p : ℕ) → startsIn (append ts us) p ≡ startsIn ts p ++ startsIn us (p + length (encs ts))
-unfolding starts enc
-starts-append nil us p = let z : p ≡ p + 0 = omega arith in ap (startsIn us) z
-starts-append (cons t ts) us p =
-    let z : p + length (enc t) + length (encs ts) ≡ p + length (enc t ++ encs ts) = omega (arith, length-append (enc t) (encs ts)) in
-    ap (λ (xs : List ℕ). starts t p ++ xs) (starts-append ts us (p + length (enc t)) ∙ ap (λ (i : ℕ). startsIn ts (p + length (enc t)) ++ startsIn us i) z)
-    ∙ sym (append-assoc (starts t p) (startsIn ts (p + length (enc t))) (startsIn us (p + length (enc t ++ encs ts))))
 
 pub frame-rest : (s : List ℕ) → Bytes s → (t : Tree) → IsAt s predicate 0 t (length s) → Rest s 0 (cons t nil) (predicate ∷ [])
 unfolding enc
