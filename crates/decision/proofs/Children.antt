@@ -10,6 +10,7 @@ use Rattle.frame.specs.Trees.{head, Tree, node, Forest, nil, cons, count, nodes
 use Rattle.frame.specs.Places.{Ctx, under, found, find}
 use Rattle.frame.proofs.Splices.{find-lt}
 use Rattle.frame.proofs.Within.{KidsAtPlace}
+use Rattle.frame.proofs.Forests.{no-kids}
 use Rattle.nav.specs.PlaceTables.{Framed, Table, Placed, ChildrenPost}
 use Rattle.nav.proofs.Hops.{framed-few, child-first, child-next}
 
@@ -95,8 +96,4 @@ module _ (s st nx : List ℕ) (k : ℕ) where
     walk-end h Z step t n Γ g x us ks tb f =
         let q = ls t n Γ g x us ks tb f in
         let z : r ≡ count ks = many .many t n Γ (node (head g x us) ks) (tb .framed) f in
-        step ks (rw (empty (q .rest) (omega (arith, q .done))) at (q .keeps))
-      where
-        empty : (l : Forest) → count l ≡ 0 → l ≡ nil
-        empty nil e = refl
-        empty (cons w l) e = absurd (omega arith)
+        step ks (rw (no-kids (q .rest) (omega (arith, q .done))) at (q .keeps))

@@ -1,15 +1,16 @@
 -- From the place of a node to those of its children.
 -- Main results: here-child, by-child (a node's one child); here-first, here-second (either of two places); after-first (the place
 -- that follows a subtree is behind it); plain (a node without a number and types of its own).
-use mathlib.Core.Path.{_≡_, refl, sym, ap, _∙_}
+use mathlib.Core.Path.{_≡_, sym, ap, _∙_}
 use mathlib.Core.List.{List, [], _∷_}
 use Prim.Native.Nat.{ℕ, _+_, _<_}
 use native.Mathlib.Omega.{arith}
-use lib.ListN.{length, getD}
+use lib.ListN.{getD}
 use Rattle.frame.specs.Types.{Ty}
 use Rattle.frame.specs.Trees.{head, Tree, node, Forest, nil, cons}
 use Rattle.frame.specs.Tags.{Sort, formOf, payloadOf, typesOf}
 use Rattle.frame.specs.Places.{Ctx, under, found}
+use Rattle.frame.proofs.Forests.{no-members}
 use Rattle.nav.specs.PlaceTables.{TagPost}
 use Rattle.nav.proofs.Hops.{Sorted, place-sorted, place-end}
 use Rattle.nav.proofs.SamePlaces.{only-child}
@@ -61,12 +62,8 @@ after-first {s} {st} {nx} {a} h =
 abbrev pub Plain : ℕ → Type 0
 Plain g = (x : ℕ) → (payloadOf (formOf g .layout) x ≡ 0) × (typesOf (formOf g .layout) (formOf g .carried) x ≡ 0)
 
-none-of : (us : List Ty) → length us ≡ 0 → us ≡ []
-none-of [] z = refl
-none-of (u ∷ us) z = absurd (omega arith)
-
 pub plain : (g : ℕ) → Plain g → (n : ℕ) (us : List Ty) (ks : Forest) → Sorted (node (head g n us) ks) → node (head g n us) ks ≡ node (head g 0 []) ks
 plain g p n us ks (e, w) =
     let z : n ≡ 0 = sym (w .0 .own) ∙ p _ .0 in
-    let y : us ≡ [] = none-of us (w .0 .many ∙ p _ .1) in
+    let y : us ≡ [] = no-members us (w .0 .many ∙ p _ .1) in
     rw (z, y)

@@ -2,7 +2,7 @@
 -- Main results: not-shape (a ¬ has one child and nothing else), inner, inner-placed; neg-other; unary-when; negates-none, negates-inner;
 -- opposite-child, opposite-new.
 use mathlib.Core.Path.{_≡_, refl, sym, ap, _∙_}
-use mathlib.Core.Bool.{Bool, true, false, _&&_, and-true}
+use mathlib.Core.Bool.{Bool, true, false, and-true}
 use mathlib.Core.List.{List, [], _∷_}
 use Prim.Native.Nat.{ℕ, suc, _+_}
 use native.Mathlib.Omega.{arith}

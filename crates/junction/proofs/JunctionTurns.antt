@@ -21,7 +21,7 @@ use Rattle.frame.specs.Sameness.{sameTree}
 use Rattle.frame.proofs.Splices.{find-lt}
 use Rattle.frame.proofs.Booleans.{both-true}
 use Rattle.frame.proofs.Within.{KidsAtPlace}
-use Rattle.frame.proofs.Forests.{count-append}
+use Rattle.frame.proofs.Forests.{count-append, no-kids}
 use Rattle.nav.specs.PlaceTables.{Table, Placed, BothPlaced, TagPost, ChildrenPost, SameAtPost}
 use Rattle.nav.proofs.Hops.{framed-few, place-sorted, child-first}
 use Rattle.rules.specs.Change.{contains}
@@ -299,16 +299,12 @@ module _ (s st nx : List ℕ) (k neutral determinant : ℕ) where
     unfolding scan
     turn-end h long = record { long = long; scanned = λ d t n Γ g x us ks tb f. ends t n Γ g x us ks tb f }
       where
-        none : (l : Forest) → count l ≡ 0 → l ≡ nil
-        none nil e = refl
-        none (cons w l) e = absurd (omega arith)
-
         ends : (t : Tree) (n : ℕ) (Γ : Ctx) (g x : ℕ) (us : List Ty) (ks : Forest) → Table s t st nx n
             → find t [] k ≡ found Γ (node (head g x us) ks) → Absorbed t (under g us Γ) lent (Stay m) (scan neutral determinant ks nil)
         ends t n Γ g x us ks tb f =
             let q = sts t n Γ g x us ks tb f in
             let z : r ≡ count ks = many .many t n Γ (node (head g x us) ks) (tb .framed) f in
-            let y : q .rest ≡ nil = none (q .rest) (omega (arith, q .done)) in
+            let y : q .rest ≡ nil = no-kids (q .rest) (omega (arith, q .done)) in
             (q .out, q .goes ∙ ap (λ (l : Forest). scan neutral determinant l (q .out)) y, q .size, q .listed)
 
 -- ---- what the outer loop keeps

@@ -5,7 +5,7 @@
 -- NAME-single, NAME-alive for empty (E = ∅) and full (E = Ty); type-full (a type's expression is everything), type-type,
 -- type-single, type-alive; single-type, no-int (the integers premise at a tree's type).
 use mathlib.Core.Path.{_≡_, refl, sym, ap, ap₂, _∙_, fun-ext}
-use mathlib.Core.Bool.{Bool, true, false, not, _&&_, _||_, Bool·beq, or-true}
+use mathlib.Core.Bool.{true, false, not, _&&_, _||_, Bool·beq, or-true}
 use mathlib.Core.List.{List, [], _∷_}
 use lib.Dec.{eqb}
 use Rattle.frame.specs.Types.{Ty, bool, int, given, pow, prod}

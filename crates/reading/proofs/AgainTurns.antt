@@ -3,7 +3,7 @@
 -- placing-done; again-pre, again.
 use mathlib.Core.Path.{_≡_, refl, sym, ap, ap₂, _∙_, subst}
 use mathlib.Core.Bool.{Bool}
-use mathlib.Core.List.{List, [], _∷_, _++_, append-assoc, append-nil}
+use mathlib.Core.List.{List, [], _∷_, _++_, append-nil}
 use Prim.Native.Nat.{ℕ, suc, _+_, _-_, _≤_, _<_}
 use native.Mathlib.Omega.{arith}
 use lib.ListN.{length, replicate, set, length-append, length-set}
@@ -13,7 +13,6 @@ use Rattle.frame.specs.Tags.{Sort, predicate}
 use Rattle.tags.specs.TagCodes.{firstSort, laterSort, kindsFor}
 use Rattle.frame.specs.Encoding.{encHead, enc, encs, starts, startsIn}
 use Rattle.frame.specs.Reading.{okH, readHead, tree, parse}
-use Rattle.frame.specs.WellFormed.{Wfs}
 use Rattle.frame.specs.Spans.{Bytes, Spans}
 use Rattle.frame.specs.At.{IsAt, Rest}
 use Rattle.heads.specs.HeadPost.{headAnswer, HeadStands, HeadEnd}

@@ -3,7 +3,7 @@
 -- Main results: build (a node from its children), opened (the children from a node), predicate-type (an accepted
 -- predicate's type is bool), these-head, counted-head, binding-head (heads with no type of their own).
 use mathlib.Core.Path.{_≡_, refl, ap₂}
-use mathlib.Core.Bool.{Bool, true, false, _&&_}
+use mathlib.Core.Bool.{true, _&&_}
 use mathlib.Core.List.{List, [], _∷_}
 use Prim.Native.Nat.{ℕ, _≤_, _<_}
 use native.Mathlib.Omega.{arith}

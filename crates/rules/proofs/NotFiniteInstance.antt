@@ -13,7 +13,6 @@ use Rattle.frame.specs.Trees.{Tree, Forest, nil, cons, leaf, two, many, bodied}
 use Rattle.frame.specs.Tags.{classOf, lookup, formAt}
 use Rattle.frame.specs.Operators.{#SetExt, #Equal, #Lt, #Le, #Gt, #Ge, #Mapsto, #CProd, #DomRes, #UpTo, #BUnion, #Integer, #Natural, #Natural1, #Bool, #True, #False, #EmptySet, #KPrj1Gen, #KPrj2Gen, #KIdGen, #BFalse, #Not, #Pow, #Converse, #CSet, #Partition}
 use Rattle.frame.specs.Places.{Ctx, push}
-use Rattle.frame.proofs.Inversion.{true-not}
 use Rattle.frame.proofs.Booleans.{both-true, or-then}
 use Rattle.typing.specs.Typing.{source, first, second}
 use Rattle.rules.specs.Change.{to, _orElse_, when, isTag}

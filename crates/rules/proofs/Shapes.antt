@@ -16,6 +16,7 @@ use Rattle.frame.specs.Tags.{pick, Sort, Layout, these, payload, counted, bindi
 use Rattle.frame.specs.Places.{Ctx, push}
 use Rattle.frame.proofs.Inversion.{true-not}
 use Rattle.frame.proofs.Booleans.{both-true}
+use Rattle.frame.proofs.Forests.{no-kids, no-members}
 use Rattle.typing.specs.Typing.{shape, carriedTy}
 use Rattle.typing.specs.Accepted.{Accepted, AcceptedAll}
 use Rattle.rules.specs.Change.{Change, to, same, _orElse_, when, isTag, onTag}
@@ -158,18 +159,10 @@ module _ (σ : ℕ → Ty) (Γ : Ctx) (g n : ℕ) (us : List Ty) (ks : Forest) (
   shape-node = a .ok .top .shaped
 
 -- ---- lists by their length
-no-types : (us : List Ty) → length us ≡ 0 → us ≡ []
-no-types [] e = refl
-no-types (u ∷ us) e = absurd (omega arith)
-
 one-type : (us : List Ty) → length us ≡ 1 → us ≡ carriedTy us ∷ []
 one-type [] e = absurd (omega arith)
 one-type (u ∷ []) e = refl
 one-type (u ∷ v ∷ us) e = absurd (omega arith)
-
-no-kids : (ks : Forest) → count ks ≡ 0 → ks ≡ nil
-no-kids nil e = refl
-no-kids (cons a ks) e = absurd (omega arith)
 
 one-kid : (ks : Forest) → count ks ≡ 1 → (x : Tree) × (ks ≡ sole x)
 one-kid nil e = absurd (omega arith)
@@ -193,7 +186,7 @@ on-tag g (node (head h n us) ks) K f = by-test (eqb h g) (λ e. f n us ks (ap (�
 
 -- the exact head of a node that has no payload, and no type, one type
 bare : {g n : ℕ} {us : List Ty} {ks : Forest} → n ≡ 0 → length us ≡ 0 → node (head g n us) ks ≡ many g ks
-bare {g} {n} {us} {ks} p q = rw (p, no-types us q)
+bare {g} {n} {us} {ks} p q = rw (p, no-members us q)
 
 carrying : (g n : ℕ) (us : List Ty) (ks : Forest) → n ≡ 0 → us ≡ carriedTy us ∷ [] → ks ≡ nil → node (head g n us) ks ≡ typed g (carriedTy us)
 carrying g n us ks p q r = cc
@@ -203,7 +196,7 @@ module _ {σ : ℕ → Ty} {Γ : Ctx} {t : Tree} {R : ℕ → Tree → Type 0} (
       → ((ks : Forest) → t ≡ many g ks → m ≤ count ks → OkAll σ Γ ks → Is R (K [] ks)) → Is R (onTag g t K)
   on-many m h f = on-tag g t K (λ n us ks e.
       let w = listing-node σ Γ g n us ks (rw e at a) m h in
-      rw (no-types us (w .types)) (f ks (e ∙ bare (w .number) (w .types)) (w .kids) (w .each)))
+      rw (no-members us (w .types)) (f ks (e ∙ bare (w .number) (w .types)) (w .kids) (w .each)))
 
   pub on-two : fixed 0 2 (formOf g .layout) (formOf g .carried) ≡ true
       → ((x y : Tree) → t ≡ two g x y → Ok σ Γ x → Ok σ Γ y → Is R (K [] (pair x y))) → Is R (onTag g t K)
@@ -211,7 +204,7 @@ module _ {σ : ℕ → Ty} {Γ : Ctx} {t : Tree} {R : ℕ → Tree → Type 0} (
       let w = fixed-node σ Γ g n us ks (rw e at a) 0 2 h in
       let k = two-kids ks (w .kids) in
       let o : OkAll σ Γ (pair (k .0) (k .1)) = subst (OkAll σ Γ) (k .2) (w .each) in
-      rw (no-types us (w .types), k .2) (f (k .0) (k .1) (e ∙ bare (w .number) (w .types) ∙ ap (many g) (k .2)) (o .0) (o .1 .0)))
+      rw (no-members us (w .types), k .2) (f (k .0) (k .1) (e ∙ bare (w .number) (w .types) ∙ ap (many g) (k .2)) (o .0) (o .1 .0)))
 
   pub on-one : fixed 0 1 (formOf g .layout) (formOf g .carried) ≡ true
       → ((x : Tree) → t ≡ one g x → Ok σ Γ x → Is R (K [] (sole x))) → Is R (onTag g t K)
@@ -219,7 +212,7 @@ module _ {σ : ℕ → Ty} {Γ : Ctx} {t : Tree} {R : ℕ → Tree → Type 0} (
       let w = fixed-node σ Γ g n us ks (rw e at a) 0 1 h in
       let k = one-kid ks (w .kids) in
       let o : OkAll σ Γ (sole (k .0)) = subst (OkAll σ Γ) (k .1) (w .each) in
-      rw (no-types us (w .types), k .1) (f (k .0) (e ∙ bare (w .number) (w .types) ∙ ap (many g) (k .1)) (o .0)))
+      rw (no-members us (w .types), k .1) (f (k .0) (e ∙ bare (w .number) (w .types) ∙ ap (many g) (k .1)) (o .0)))
 
   pub on-typed : fixed 1 0 (formOf g .layout) (formOf g .carried) ≡ true
       → ((u : Ty) → t ≡ typed g u → u ≡ shape g u → Is R (K (u ∷ []) nil)) → Is R (onTag g t K)

@@ -7,7 +7,7 @@ use native.Mathlib.Omega.{arith}
 use lib.ListN.{length, getD, set, length-append}
 use lib.Seq.{getD-set-other}
 use Rattle.frame.specs.Types.{Ty}
-use Rattle.frame.specs.Trees.{Forest, nil, cons, count, nodesIn}
+use Rattle.frame.specs.Trees.{nil, count, nodesIn}
 use Rattle.frame.specs.Tags.{Sort, classOf}
 use Rattle.frame.specs.Encoding.{encTy, encTys}
 use Rattle.frame.specs.Reading.{okF, readMany, readNode}
@@ -101,10 +101,6 @@ module _ (t l f s leaves types : List ℕ) (base stop : ℕ) where
   place-stop out o (p ∷ ps) n at k h = omega (arith, place-stop 1 p ps (getD f (suc (length ps)) 0) (h .0) (k + nodesIn (o .todo)) (h .2))
 
   -- ---- closing the top
-  pub none-left : (ks : Forest) → count ks ≡ 0 → ks ≡ nil
-  none-left nil e = refl
-  none-left (cons k ks) e = absurd (omega arith)
-
   pub kids-none : (es : List Sort) (at q g : ℕ) → readMany es (readNode g s) at ≡ okF nil q → q ≡ at
   unfolding readMany
   kids-none [] at q g e = cc

@@ -20,6 +20,7 @@ use Rattle.frame.specs.Spans.{Bytes, Spans}
 use Rattle.frame.proofs.Inversion.{many-inv}
 use Rattle.frame.proofs.ReadTrees.{node-enc}
 use Rattle.frame.proofs.ReadBack.{enc-long}
+use Rattle.frame.proofs.Forests.{no-kids}
 use Rattle.typing.specs.Typing.{result, nodeTyped, typedTree}
 use Rattle.typing.specs.Leaves.{LeavesAt, LeavesIn}
 use Rattle.type_rules.specs.Patterns.{ownTypes, ruleAt, Judged, typed, wrong, judge}
@@ -39,7 +40,7 @@ use Rattle.type_rules.proofs.NodeRules.{node-judged}
 use Rattle.typing.proofs.Decides.{node-typed}
 use Rattle.synthesis.proofs.Machine.{machine-push, machine-pop, machine-bad}
 use Rattle.synthesis.proofs.OwnTurns.{type-wf}
-use Rattle.synthesis.proofs.StackBelow.{row-kept, row-low, kept-less, shown, Agree, agree-set, stack-kept, stack-top, place-stop, none-left, kids-none, pop-stack}
+use Rattle.synthesis.proofs.StackBelow.{row-kept, row-low, kept-less, shown, Agree, agree-set, stack-kept, stack-top, place-stop, kids-none, pop-stack}
 
 -- ---- what the code asks for at a turn
 module _ (t l f s leaves types : List ℕ) (st : State) where
@@ -102,7 +103,7 @@ module _ (t l f s leaves types : List ℕ) (st : State) where
     turn-close = record {
       answer = λ base stop o ps run. (
           let h = top-held base stop o ps run .1 in
-          let z : o .todo ≡ nil = none-left t l f s leaves types base stop (o .todo) (sym (h .left) ∙ left) in
+          let z : o .todo ≡ nil = no-kids (o .todo) (sym (h .left) ∙ left) in
           let g = o .tag in
           let n = o .payload in
           let us = o .types in
