@@ -13,7 +13,7 @@ use Rattle.frame.specs.Trees.{Tree}
 use Rattle.frame.specs.Tags.{pick}
 use Rattle.frame.specs.Encoding.{enc}
 use Rattle.frame.specs.Spans.{Bytes}
-use Rattle.typing.specs.Check.{Checked, accepted, refused, check}
+use Rattle.typing.specs.Check.{accepted, check}
 use Rattle.type_bytes.specs.Buffers.{Copied}
 use Rattle.typing.specs.Signature.{signature}
 use Rattle.typing.proofs.Checked.{check-accepts, check-back}
@@ -24,6 +24,7 @@ use Rattle.output.proofs.OutTurns.{copied-front}
 use Rattle.checking.specs.Posts.{checkAnswer}
 use Rattle.checking.specs.declared.CheckAnswer.{CheckAnswer}
 use Rattle.checking.specs.declared.CheckAnswer.the-variants as C
+use Rattle.checking.proofs.Answers.{accepted-is, refused-is}
 use Rattle.run.specs.Run.{First, next, nowhere, firstStep, Word, REST, SPENT, FULL, ran, atEnd, goOn, runTree, RunOutcome, ended, turnedDown, endedBy, runOn, run, wordAnswer, runAnswer, runOutput}
 use Rattle.run.proofs.Runs.{first-step}
 use Rattle.run.specs.declared.RunAnswer.the-variants as A
@@ -203,14 +204,6 @@ module _ (s : List ℕ) (b : Bytes s) (budget : ℕ) (o : List ℕ) (p : Checked
           record { answer = e .answer ∙ sym (ap runAnswer run-is); output = f ∙ sym (ap (λ (x : RunOutcome). runOutput x o) run-is) }
 
 -- ---- `run`
-accepted-is : (x : Checked) (m : ℕ) → C.Accepted m ≡ checkAnswer x → (t : Tree) × (x ≡ accepted t)
-accepted-is (accepted t) m e = (t, refl)
-accepted-is (refused c) m e = let z : _≡_ {A = ℕ} 0 1 = cc in absurd (omega arith)
-
-refused-is : (x : Checked) (c : ℕ) → C.Refused c ≡ checkAnswer x → x ≡ refused c
-refused-is (accepted t) c e = let z : _≡_ {A = ℕ} 0 1 = cc in absurd (omega arith)
-refused-is (refused m) c e = let z : m ≡ c = cc in ap refused z
-
 module _ (s : List ℕ) (budget : ℕ) (o : List ℕ) (a : CheckAnswer) (ea : a ≡ checkAnswer (check s)) where
   turned-down : (c : ℕ) → run s budget (length o) ≡ turnedDown c → RunPost s budget o o (A.Refused c)
   turned-down c e = record { answer = sym (ap runAnswer e); output = sym (ap (λ (x : RunOutcome). runOutput x o) e) }
@@ -224,7 +217,7 @@ module _ (s : List ℕ) (budget : ℕ) (o : List ℕ) (a : CheckAnswer) (ea : a 
     unfolding run
     run-short h =
         let t = accepted-is (check s) m (sym e ∙ ea) in
-        turned-down 12 (ap (runOn budget (length o)) (t .1) ∙ ap (λ (x : Bool). pick x (turnedDown 12) (endedBy (runTree budget 0 (t .0)))) (lt-ltb (length o) 4096 h))
+        turned-down 12 (ap (runOn budget (length o)) (t .1 .0) ∙ ap (λ (x : Bool). pick x (turnedDown 12) (endedBy (runTree budget 0 (t .0)))) (lt-ltb (length o) 4096 h))
 
     pub run-pre : 4096 ≤ length o → CheckedPre s o
-    run-pre h = let t = accepted-is (check s) m (sym e ∙ ea) in record { t = t .0; checks = t .1; room = h }
+    run-pre h = let t = accepted-is (check s) m (sym e ∙ ea) in record { t = t .0; checks = t .1 .0; room = h }

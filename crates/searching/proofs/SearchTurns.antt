@@ -7,8 +7,8 @@ use Prim.Native.Nat.{ℕ, suc, _+_, _-_, _≤_, _<_}
 use native.Mathlib.Omega.{arith}
 use lib.ListN.{length}
 use Rattle.frame.specs.Trees.{Tree, nodes}
-use Rattle.frame.specs.Tags.{pick, Sort, predicate, expression, sameSort}
-use Rattle.tags.specs.TagCodes.{isExpression}
+use Rattle.frame.specs.Tags.{predicate}
+use Rattle.tags.proofs.FormTables.{expression-not, predicate-is}
 use Rattle.frame.specs.Encoding.{enc}
 use Rattle.frame.specs.Reading.{tree, parse, frameLimit}
 use Rattle.frame.specs.Spans.{Bytes}
@@ -27,7 +27,7 @@ use Rattle.typing.proofs.Checked.{check-accepts}
 use Rattle.typing.proofs.Decides.{accepted-wf, accepted-closed}
 use Rattle.nav.specs.PlaceTables.{Framed, Table, NextsPost, SortPost, sortOf}
 use Rattle.nav.proofs.SamePlaces.{framed-read}
-use Rattle.rules.specs.Change.{Change, to, same}
+use Rattle.rules.specs.Change.{to, same}
 use Rattle.rules.specs.Dispatch.{dispatch}
 use Rattle.put.specs.Out.{Wrote}
 use Rattle.decision.specs.Decides.{isRests}
@@ -36,7 +36,8 @@ use Rattle.decision.proofs.Series.{none-first}
 use Rattle.decision.specs.declared.Decision.{Decision}
 use Rattle.decision.specs.declared.Decision.the-variants as D
 use Rattle.filling.specs.Operands.{Held}
-use Rattle.step.specs.Step.{Stepped, noPlace, isPredicate, stepChange, stepFound, stepTree}
+use Rattle.step.specs.Step.{Stepped, isPredicate, stepTree}
+use Rattle.step.proofs.Steps.{step-predicate, step-expression}
 use Rattle.splicing.specs.SplicePosts.{Decided, SplicePre, SplicePost}
 use Rattle.decision.proofs.Series.{changes}
 use Rattle.run.specs.Run.{next, nowhere, orNext, firstFrom, firstStep}
@@ -45,14 +46,6 @@ use Rattle.searching.specs.declared.Next.{Next}
 use Rattle.searching.specs.declared.Next.the-variants as N
 
 -- ---- `decide_at`
-expression-not : (e : Sort) → isExpression e ≡ true → sameSort e predicate ≡ false
-expression-not predicate h = true-not h
-expression-not expression h = refl
-
-predicate-is : (e : Sort) → isExpression e ≡ false → sameSort e predicate ≡ true
-predicate-is predicate h = refl
-predicate-is expression h = true-not (sym h)
-
 module _ (s st nx : List ℕ) (k : ℕ) (b : Bool) (pb : SortPost s st k b) where
   pub at-expression : b ≡ true → (lent : List ℕ) → length lent ≡ 256 → AtPost s st nx k lent D.Rests
   at-expression e lent l =
@@ -72,16 +65,6 @@ module _ (s st nx : List ℕ) (k : ℕ) (b : Bool) (pb : SortPost s st k b) wher
       }
 
 -- ---- `search`
--- a step at a place whose decision is known
-module _ (t : Tree) (k : ℕ) (Γ : Ctx) (v : Tree) (f : find t [] k ≡ found Γ v) where
-  step-pred : isPredicate v ≡ true → (c : Change) → dispatch Γ v ≡ c → stepTree t k ≡ stepChange t k c
-  unfolding stepTree
-  step-pred p c e = ap (stepFound t k) f ∙ ap (λ (x : Bool). pick x (stepChange t k (dispatch Γ v)) noPlace) p ∙ ap (stepChange t k) e
-
-  step-expr : isPredicate v ≡ false → stepTree t k ≡ noPlace
-  unfolding stepTree
-  step-expr p = ap (stepFound t k) f ∙ ap (λ (x : Bool). pick x (stepChange t k (dispatch Γ v)) noPlace) p
-
 from-more : (t : Tree) (j k : ℕ) → firstFrom (suc j) t k ≡ orNext (stepTree t k) (firstFrom j t (k + 1))
 unfolding firstFrom
 from-more t j k = refl
@@ -151,7 +134,7 @@ module _ (s : List ℕ) (n : ℕ) (st nx leaves : List ℕ) where
           given t tb hd =
               let x = not-rests h t tb in
               let c = changes t (x .v) (x .Γ) kept d (dispatch (x .Γ) (x .v)) h (x .means) in
-              let e = step-pred t k (x .Γ) (x .v) (x .there) (x .is-predicate) (to (c .0) (c .1 .0)) (c .1 .1) in
+              let e = step-predicate t k (x .Γ) (x .v) (x .there) (x .is-predicate) (to (c .0) (c .1 .0)) (c .1 .1) in
               (replace t k (c .1 .0), g .goes t tb ∙ here-more t tb ∙ ap (λ (y : Stepped). orNext y (firstFrom (n - (k + 1)) t (k + 1))) e, ps .wrote t tb hd x (c .0) (c .1 .0) (c .1 .1))
 
       pub search-next : (old : List ℕ) → Searching k old → isRests d ≡ true → Searching (k + 1) kept
@@ -163,8 +146,8 @@ module _ (s : List ℕ) (n : ℕ) (st nx leaves : List ℕ) where
               go : (b : Bool) → isPredicate (spot t tb .1 .0) ≡ b → orNext (stepTree t k) (firstFrom (n - (k + 1)) t (k + 1)) ≡ firstFrom (n - (k + 1)) t (k + 1)
               go true e =
                   let c = none-first t (spot t tb .1 .0) (spot t tb .0) kept d (dispatch (spot t tb .0) (spot t tb .1 .0)) h (pd .means t n (spot t tb .0) (spot t tb .1 .0) tb (spot t tb .1 .1) e) in
-                  ap (λ (y : Stepped). orNext y (firstFrom (n - (k + 1)) t (k + 1))) (step-pred t k (spot t tb .0) (spot t tb .1 .0) (spot t tb .1 .1) e same c)
-              go false e = ap (λ (y : Stepped). orNext y (firstFrom (n - (k + 1)) t (k + 1))) (step-expr t k (spot t tb .0) (spot t tb .1 .0) (spot t tb .1 .1) e)
+                  ap (λ (y : Stepped). orNext y (firstFrom (n - (k + 1)) t (k + 1))) (step-predicate t k (spot t tb .0) (spot t tb .1 .0) (spot t tb .1 .1) e same c)
+              go false e = ap (λ (y : Stepped). orNext y (firstFrom (n - (k + 1)) t (k + 1))) (step-expression t k (spot t tb .0) (spot t tb .1 .0) (spot t tb .1 .1) e)
 
   pub search-rests : (scratch : List ℕ) → SearchPre s n st nx leaves scratch → (k : ℕ) (kept : List ℕ) → Searching k kept → n ≤ k → SearchPost s n st nx leaves scratch N.Rests
   search-rests scratch p k kept g h =

@@ -1,5 +1,5 @@
 -- What a step does to an accepted tree and to its frame.
--- Main results: step-inv (a changed step's parts), step-instance (demand 2: it replaces one side of an equation by the
+-- Main results: step-predicate, step-expression (a step at a known place); step-inv (a changed step's parts), step-instance (demand 2: it replaces one side of an equation by the
 -- other), step-accepted (its result is accepted, with the same identifiers' types: numbers 3 to 10 can't arise from a
 -- step), step-wrote (the same of frames).
 use mathlib.Core.Path.{_≡_, refl, sym, ap, _∙_}
@@ -32,6 +32,16 @@ use Rattle.step.specs.Step.{Stepped, changed, unchanged, noPlace, isPred
 use Rattle.step.proofs.Places.{AcceptedIn, accepted-at, Stays, accepted-replaced}
 
 -- ---- trees
+-- a step at a place where it is known what stands there
+module _ (t : Tree) (k : ℕ) (Γ : Ctx) (v : Tree) (f : find t [] k ≡ found Γ v) where
+  pub step-predicate : isPredicate v ≡ true → (c : Change) → dispatch Γ v ≡ c → stepTree t k ≡ stepChange t k c
+  unfolding stepTree
+  step-predicate p c e = ap (stepFound t k) f ∙ ap (λ (x : Bool). pick x (stepChange t k (dispatch Γ v)) noPlace) p ∙ ap (stepChange t k) e
+
+  pub step-expression : isPredicate v ≡ false → stepTree t k ≡ noPlace
+  unfolding stepTree
+  step-expression p = ap (stepFound t k) f ∙ ap (λ (x : Bool). pick x (stepChange t k (dispatch Γ v)) noPlace) p
+
 pub record StepInv (t : Tree) (k place : ℕ) (u : Tree) : Type 0 where
   pub Γ : Ctx
   pub old : Tree

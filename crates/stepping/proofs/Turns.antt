@@ -7,22 +7,21 @@ use Prim.Native.Nat.{ℕ, _≤_, _<_}
 use native.Mathlib.Omega.{arith}
 use lib.ListN.{length}
 use Rattle.frame.specs.Trees.{Tree, nodes}
-use Rattle.frame.specs.Tags.{pick, Sort, predicate, expression, sameSort}
 use Rattle.tags.specs.TagCodes.{isExpression}
+use Rattle.tags.proofs.FormTables.{expression-not, predicate-is}
 use Rattle.frame.specs.Encoding.{enc, starts}
 use Rattle.frame.specs.Reading.{tree, parse}
 use Rattle.frame.specs.Spans.{Bytes}
 use Rattle.frame.specs.Places.{Ctx, found, find, replace}
-use Rattle.frame.proofs.Inversion.{true-not}
 use Rattle.frame.proofs.Splices.{find-some, find-none}
 use Rattle.frame.proofs.Frames.{parse-enc}
-use Rattle.typing.specs.Check.{Checked, accepted, refused, checkTree, checkParsed, check}
+use Rattle.typing.specs.Check.{accepted, refused, checkTree, checkParsed, check}
 use Rattle.typing.specs.Accepted.{Accepted}
 use Rattle.typing.proofs.Checked.{check-accepts}
 use Rattle.typing.proofs.Decides.{check-accepted}
 use Rattle.nav.specs.PlaceTables.{Framed, Table, NextsPre, NextsPost, Placed, SortPost, sortOf}
 use Rattle.nav.proofs.SamePlaces.{framed-read}
-use Rattle.rules.specs.Change.{Change, to, same}
+use Rattle.rules.specs.Change.{to, same}
 use Rattle.rules.specs.Dispatch.{dispatch}
 use Rattle.put.specs.Out.{Wrote}
 use Rattle.decision.specs.Decides.{isRests}
@@ -30,15 +29,17 @@ use Rattle.decision.specs.Dispatching.{DispatchPre, DispatchPost}
 use Rattle.decision.specs.Decision.{Means}
 use Rattle.decision.proofs.Series.{none-first, changes}
 use Rattle.decision.specs.declared.Decision.{Decision}
-use Rattle.step.specs.Step.{noPlace, isPredicate, stepChange, stepFound, stepTree, Outcome, wrote, kept, turnedDown, fit, outcomeOf, outcomeOn, step, stepAnswer, stepOutput}
+use Rattle.step.specs.Step.{noPlace, isPredicate, stepFound, stepTree, Outcome, wrote, kept, turnedDown, fit, outcomeOf, outcomeOn, step, stepAnswer, stepOutput}
 use Rattle.step.specs.declared.StepAnswer.{StepAnswer}
 use Rattle.step.specs.declared.StepAnswer.the-variants as A
+use Rattle.step.proofs.Steps.{step-predicate, step-expression}
 use Rattle.checking.specs.Posts.{checkAnswer, TreePost}
 use Rattle.checking.specs.declared.CheckAnswer.{CheckAnswer}
 use Rattle.checking.specs.declared.CheckAnswer.the-variants as C
 use Rattle.splicing.specs.SplicePosts.{Decided, SplicePre, SplicePost}
 use Rattle.output.specs.OutPosts.{OutPre, OutPost}
 use Rattle.checking.specs.Posts.{ReadPre as WasRead}
+use Rattle.checking.proofs.Answers.{accepted-is, refused-is}
 use Rattle.stepping.specs.Posts.{HeldPre, ReadPre, StepPost}
 
 -- ---- `step_held`
@@ -69,31 +70,16 @@ module _ (s : List ℕ) (n : ℕ) (st leaves : List ℕ) (p : HeldPre s n st lea
     here = let v = find-some (p .t) [] k held-below in (v .0, (v .1, v .2))
 
     module _ (b : Bool) (pb : SortPost s st k b) where
-      expression-not : (e : Sort) → isExpression e ≡ true → sameSort e predicate ≡ false
-      expression-not predicate h = true-not h
-      expression-not expression h = refl
-
-      predicate-is : (e : Sort) → isExpression e ≡ false → sameSort e predicate ≡ true
-      predicate-is predicate h = refl
-      predicate-is expression h = true-not (sym h)
-
       sort-here : b ≡ isExpression (sortOf (here .1 .0))
       sort-here = pb .sort (p .t) n (here .0) (here .1 .0) (p .held .framed) (here .1 .1)
 
       pub held-expression : b ≡ true → StepPost s k o o (A.Refused 11)
-      unfolding stepTree
       held-expression e =
-          let z = expression-not (sortOf (here .1 .0)) (sym sort-here ∙ e) in
-          no-place (ap (stepFound (p .t) k) (here .1 .1) ∙ ap (λ (x : Bool). pick x (stepChange (p .t) k (dispatch (here .0) (here .1 .0))) noPlace) z)
+          no-place (step-expression (p .t) k (here .0) (here .1 .0) (here .1 .1) (expression-not (sortOf (here .1 .0)) (sym sort-here ∙ e)))
 
       module _ (e : b ≡ false) where
         is-pred : isPredicate (here .1 .0) ≡ true
         is-pred = predicate-is (sortOf (here .1 .0)) (sym sort-here ∙ e)
-
-        step-is : (c : Change) → dispatch (here .0) (here .1 .0) ≡ c → stepTree (p .t) k ≡ stepChange (p .t) k c
-        unfolding stepTree
-        step-is c h =
-            ap (stepFound (p .t) k) (here .1 .1) ∙ ap (λ (x : Bool). pick x (stepChange (p .t) k (dispatch (here .0) (here .1 .0))) noPlace) is-pred ∙ ap (stepChange (p .t) k) h
 
         pub held-nexts : (l : List ℕ) → length l ≡ 2048 → NextsPre s n st l
         held-nexts l h = record { t = p .t; framed = p .held .framed; long = h }
@@ -112,7 +98,7 @@ module _ (s : List ℕ) (n : ℕ) (st leaves : List ℕ) (p : HeldPre s n st lea
             pub held-rests : (r : Bool) → r ≡ isRests d → r ≡ true → StepPost s k o o A.Unchanged
             held-rests r er z =
                 let c = none-first (p .t) (here .1 .0) (here .0) kp d (dispatch (here .0) (here .1 .0)) (sym er ∙ z) means in
-                ends kept (stepped ∙ ap (outcomeOf (length o)) (step-is same c)) A.Unchanged refl o refl
+                ends kept (stepped ∙ ap (outcomeOf (length o)) (step-predicate (p .t) k (here .0) (here .1 .0) (here .1 .1) is-pred same c)) A.Unchanged refl o refl
 
             decided : Decided (p .t) k kp d
             decided = record { Γ = here .0; v = here .1 .0; there = here .1 .1; is-predicate = is-pred; means = means }
@@ -136,13 +122,9 @@ module _ (s : List ℕ) (n : ℕ) (st leaves : List ℕ) (p : HeldPre s n st lea
                 held-done q a po =
                     let u = enc (replace (p .t) k (change .1 .0)) in
                     let w = po .done u new-bytes in
-                    ends (fit (length o) u) (stepped ∙ ap (outcomeOf (length o)) (step-is (to (change .0) (change .1 .0)) (change .1 .1))) a (w .0) q (w .1)
+                    ends (fit (length o) u) (stepped ∙ ap (outcomeOf (length o)) (step-predicate (p .t) k (here .0) (here .1 .0) (here .1 .1) is-pred (to (change .0) (change .1 .0)) (change .1 .1))) a (w .0) q (w .1)
 
 -- ---- `step_read`
-check-is : (x : Checked) (c : ℕ) → C.Refused c ≡ checkAnswer x → x ≡ refused c
-check-is (accepted t) c e = let z : _≡_ {A = ℕ} 0 1 = cc in absurd (omega arith)
-check-is (refused m) c e = let z : m ≡ c = cc in ap refused z
-
 module _ (s : List ℕ) (k : ℕ) (o : List ℕ) where
   turned-down : (c : ℕ) → check s ≡ refused c → StepPost s k o o (A.Refused c)
   unfolding step
@@ -151,11 +133,7 @@ module _ (s : List ℕ) (k : ℕ) (o : List ℕ) where
       record { answer = sym (ap stepAnswer z); output = sym (ap (λ (x : Outcome). stepOutput x o) z) }
 
   pub read-refused : (leaves : List ℕ) (a : CheckAnswer) → TreePost s leaves a → (c : ℕ) → a ≡ C.Refused c → StepPost s k o o (A.Refused c)
-  read-refused leaves a pa c e = turned-down c (check-is (check s) c (sym e ∙ pa .answer))
-
-accepted-is : (x : Checked) (m : ℕ) → C.Accepted m ≡ checkAnswer x → (t : Tree) × ((x ≡ accepted t) × (m ≡ nodes t))
-accepted-is (accepted t) m e = (t, (refl, cc))
-accepted-is (refused c) m e = let z : _≡_ {A = ℕ} 0 1 = cc in absurd (omega arith)
+  read-refused leaves a pa c e = turned-down c (refused-is (check s) c (sym e ∙ pa .answer))
 
 -- a frame that is accepted was read as that tree
 read-tree : (s : List ℕ) → Bytes s → (n : ℕ) → WasRead s n → (t : Tree) → check s ≡ accepted t → (parse s ≡ tree t) × (n ≡ nodes t)
@@ -185,4 +163,4 @@ module _ (s : List ℕ) (b : Bytes s) (n : ℕ) (st : List ℕ) (p : ReadPre s n
 -- ---- `step`
 module _ (s : List ℕ) (k : ℕ) (o : List ℕ) where
   pub step-refused : (c : ℕ) → C.Refused c ≡ checkAnswer (check s) → StepPost s k o o (A.Refused c)
-  step-refused c e = turned-down s k o c (check-is (check s) c e)
+  step-refused c e = turned-down s k o c (refused-is (check s) c e)

@@ -1,6 +1,6 @@
 -- The code's tables by form say what `formAt` says, and what the parts of a layout say.
 -- Main results: range-free .. children-fixed (what a layout's parts say); kinds-at (the sorts of the children by the first and the
--- later ones); width-at .. unlisted-at (the tables, by one computed test each).
+-- later ones); sort-back, expression-not, predicate-is (the two sorts); width-at .. unlisted-at (the tables, by one computed test each).
 use mathlib.Core.Path.{_≡_, refl, sym, ap, ap₂, _∙_}
 use mathlib.Core.Bool.{Bool, true, false}
 use mathlib.Core.List.{List, [], _∷_}
@@ -95,6 +95,15 @@ regular-at k h = below 20 (λ i. regular (layoutAt i)) refl k h
 pub sort-back : (e : Sort) → sortFor (isExpression e) ≡ e
 sort-back predicate = refl
 sort-back expression = refl
+
+-- an expression is no predicate, and what is none is one
+pub expression-not : (e : Sort) → isExpression e ≡ true → sameSort e predicate ≡ false
+expression-not predicate h = true-not h
+expression-not expression h = refl
+
+pub predicate-is : (e : Sort) → isExpression e ≡ false → sameSort e predicate ≡ true
+predicate-is predicate h = refl
+predicate-is expression h = true-not (sym h)
 
 -- the sorts of the children, said by how many they are and by the first and the later sort
 pub record Kinds (l : Layout) (x : ℕ) : Type 0 where
