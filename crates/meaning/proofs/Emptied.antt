@@ -1,14 +1,14 @@
 -- Each equation of E = ∅ and E = Ty is proved once: a predicate says that E is empty, that E is full. Here such a predicate
 -- may stand for E = ∅, E ⊆ ∅ and ∅ = E, for E = Ty and Ty = E.
--- Main results: Emptied, Filled, emptiness-keeps, fullness-keeps, emptiness-accepted, emptiness-single, fullness-accepted,
--- fullness-single (the premises for E out of those for E = ∅), emptied, filled (by the type of the elements of E),
--- emptied-by, filled-by (where the new predicate is F = ∅, F = Ty).
+-- Main results: Emptied, Filled, emptiness-keeps, fullness-keeps, emptiness-single, fullness-single (the premises for E out of
+-- those for E = ∅), emptied, filled (by the type of the elements of E), emptied-by, filled-by (where the new predicate is F = ∅,
+-- F = Ty).
 use mathlib.Core.Path.{_≡_, refl, sym, ap, _∙_}
 use mathlib.Core.Bool.{not, _||_}
 use Prim.Native.Nat.{ℕ}
 use Rattle.frame.specs.Types.{Ty, pow}
 use Rattle.frame.specs.Trees.{Tree}
-use Rattle.frame.specs.Tags.{predicate, expression, classOf, lookup, formAt}
+use Rattle.frame.specs.Tags.{predicate, classOf, lookup, formAt}
 use Rattle.frame.specs.Places.{Ctx}
 use Rattle.typing.specs.Typing.{element, typeOf}
 use Rattle.typing.specs.Accepted.{Accepted}
@@ -66,22 +66,11 @@ module _ (I : Interpretation) (σ : ℕ → Ty) (Γ : Ctx) where
     }
 
   -- ---- what the forms hold of E
-  pub emptiness-accepted : {e l : Tree} → Emptiness e l → Accepted σ l Γ predicate → Accepted σ e Γ expression
-  unfolding Accepted classOf lookup formAt
-  emptiness-accepted (is-∅ e t) a = a .kids .0
-  emptiness-accepted (in-∅ e t) a = a .kids .0
-  emptiness-accepted (∅-is e t) a = a .kids .1 .0
-
   pub emptiness-single : {e l : Tree} → Emptiness e l → SingleIntegers l Γ → SingleIntegers e Γ
   unfolding SingleIntegers classOf lookup formAt
   emptiness-single (is-∅ e t) s = s .3 .0
   emptiness-single (in-∅ e t) s = s .3 .0
   emptiness-single (∅-is e t) s = s .3 .1 .0
-
-  pub fullness-accepted : {e l : Tree} → Fullness Γ e l → Accepted σ l Γ predicate → Accepted σ e Γ expression
-  unfolding Accepted classOf lookup formAt
-  fullness-accepted (is-Ty e) a = a .kids .0
-  fullness-accepted (Ty-is e) a = a .kids .1 .0
 
   pub fullness-single : {e l : Tree} → Fullness Γ e l → SingleIntegers l Γ → SingleIntegers e Γ
   unfolding SingleIntegers classOf lookup formAt

@@ -1,12 +1,14 @@
 -- ∧, ∨ and negations are replaced by accepted predicates; sides of equations of sets.
 -- Main results: opposite-holds, junction-operands, junction-holds, neutral-holds, absorbing-holds, kept-holds (the operands
--- of ∧ and ∨ that are left), emptied, filled (the set of a predicate that says that it is empty, or its whole type).
+-- of ∧ and ∨ that are left), emptied, filled, emptiness-accepted, fullness-accepted (the set of a predicate that says that it is
+-- empty, or its whole type).
 use Prim.Native.Nat.{ℕ}
 use native.Mathlib.Omega.{arith}
 use Rattle.frame.specs.Types.{Ty, bool, pow}
 use Rattle.frame.specs.Trees.{Tree, Forest, cons, leaf, many}
-use Rattle.frame.specs.Tags.{predicate}
+use Rattle.frame.specs.Tags.{predicate, expression, classOf, lookup, formAt}
 use Rattle.frame.specs.Places.{Ctx}
+use Rattle.typing.specs.Accepted.{Accepted}
 use Rattle.rules.specs.Equations.{Junction, conjunction, disjunction, Dropped, Opposite, negated, restored, Emptiness, is-∅, in-∅, ∅-is, Fullness, is-Ty, Ty-is}
 use Rattle.rules.proofs.Nodes.{Is, Holds, Has, Each}
 use Rattle.rules.proofs.NewNodes.{true-holds, false-holds, not-holds, and-holds, or-holds}
@@ -52,3 +54,16 @@ module _ {σ : ℕ → Ty} {Γ : Ctx} where
   pub filled : {e l : Tree} {t : Ty} → Fullness Γ e l → Is σ Γ predicate l t → (u : Ty) × Has σ Γ e u
   filled (is-Ty e) h = let x = of-equal h in (x .0, x .1)
   filled (Ty-is e) h = let x = of-equal h in (x .0, x .2)
+
+-- that set is accepted
+module _ (σ : ℕ → Ty) (Γ : Ctx) where
+  pub emptiness-accepted : {e l : Tree} → Emptiness e l → Accepted σ l Γ predicate → Accepted σ e Γ expression
+  unfolding Accepted classOf lookup formAt
+  emptiness-accepted (is-∅ e t) a = a .kids .0
+  emptiness-accepted (in-∅ e t) a = a .kids .0
+  emptiness-accepted (∅-is e t) a = a .kids .1 .0
+
+  pub fullness-accepted : {e l : Tree} → Fullness Γ e l → Accepted σ l Γ predicate → Accepted σ e Γ expression
+  unfolding Accepted classOf lookup formAt
+  fullness-accepted (is-Ty e) a = a .kids .0
+  fullness-accepted (Ty-is e) a = a .kids .1 .0

@@ -18,6 +18,7 @@ use Rattle.typing.specs.Typing.{typeOf, element}
 use Rattle.typing.specs.Accepted.{Accepted}
 use Rattle.rules.specs.Equations.{Among, Junction, conjunction, disjunction, Dropped, done, literal, repeated, Opposite, negated, restored, ⋀, ⋁, ∀ᵖ, ∃ᵖ, fin, _⇒_, «SIMP_SPECIAL_FINITE», «SIMP_FINITE_NATURAL», «SIMP_FINITE_NATURAL1», «SIMP_FINITE_INTEGER», «SIMP_FINITE_BOOL», «SIMP_FINITE_ID», «SIMP_FINITE_SETENUM», «SIMP_FINITE_BUNION», «SIMP_FINITE_POW», «DERIV_FINITE_CPROD», «SIMP_FINITE_CONVERSE», «SIMP_FINITE_UPTO», «SIMP_FINITE_LAMBDA», «SIMP_FINITE_ID_DOMRES», «SIMP_FINITE_PRJ1_DOMRES», «SIMP_FINITE_PRJ2_DOMRES», «SIMP_FINITE_PRJ1», «SIMP_FINITE_PRJ2», «SIMP_EMPTY_PARTITION», «SIMP_SINGLE_PARTITION», «SIMP_NOT_LE», «SIMP_NOT_GE», «SIMP_NOT_GT», «SIMP_NOT_LT», «SIMP_SPECIAL_NOT_EQUAL_FALSE_R», «SIMP_SPECIAL_NOT_EQUAL_TRUE_R», «SIMP_SPECIAL_NOT_EQUAL_FALSE_L», «SIMP_SPECIAL_NOT_EQUAL_TRUE_L», «SIMP_SPECIAL_AND_BFALSE/OR_BTRUE», «SIMP_MULTI_AND_NOT/OR_NOT», «SIMP_SPECIAL_AND_BTRUE/OR_BFALSE/none», «SIMP_SPECIAL_AND_BTRUE/OR_BFALSE/MULTI_AND/OR/one», «SIMP_SPECIAL_AND_BTRUE/OR_BFALSE/MULTI_AND/OR», «SIMP_SPECIAL_IMP_BTRUE_L», «SIMP_SPECIAL_IMP_BFALSE_L», «SIMP_SPECIAL_IMP_BTRUE_R», «SIMP_SPECIAL_IMP_BFALSE_R», «SIMP_MULTI_IMP», «SIMP_MULTI_IMP_AND», «SIMP_MULTI_IMP_AND_NOT_R/L», «SIMP_MULTI_IMP_NOT_L», «SIMP_MULTI_IMP_NOT_R», «SIMP_SPECIAL_EQV_BTRUE/right», «SIMP_SPECIAL_EQV_BTRUE/left», «SIMP_MULTI_EQV», «SIMP_SPECIAL_EQV_BFALSE/right», «SIMP_SPECIAL_EQV_BFALSE/left», «SIMP_MULTI_EQV_NOT/right», «SIMP_MULTI_EQV_NOT/left», «SIMP_SPECIAL_NOT_BTRUE», «SIMP_SPECIAL_NOT_BFALSE», «SIMP_NOT_NOT», «SIMP_FORALL_AND», «SIMP_EXISTS_OR», «SIMP_EXISTS_IMP»}
 use Rattle.rules.specs.Equations.{Emptiness, is-∅, in-∅, ∅-is, Fullness, is-Ty, Ty-is, Equation, equal-type, equal-empty}
+use Rattle.rules.proofs.LogicAccepted.{emptiness-accepted, fullness-accepted}
 use Rattle.weight.specs.Weight.{typeWeight, scaleIn, scaleOf, weigh, weight, sumOf}
 use Rattle.weight.proofs.Positive.{both-positive, type-two, type-weight, weight-positive, product-positive}
 use Rattle.weight.proofs.Forests.{least-kids, pair-two, least-twos, sum-map, sum-at, twos-sum}
@@ -97,21 +98,10 @@ module _ (σ : ℕ → Ty) (Γ : Ctx) where
   emptiness-weight (in-∅ e t) = omega arith
   emptiness-weight (∅-is e t) = omega arith
 
-  emptiness-accepted : {e l : Tree} → Emptiness e l → Accepted σ l Γ predicate → Accepted σ e Γ expression
-  unfolding Accepted classOf lookup formAt
-  emptiness-accepted (is-∅ e t) a = a .kids .0
-  emptiness-accepted (in-∅ e t) a = a .kids .0
-  emptiness-accepted (∅-is e t) a = a .kids .1 .0
-
   fullness-weight : {e l : Tree} → Fullness Γ e l → weight l ≡ weight e * typeWeight (element (typeOf e Γ))
   unfolding weight scaleOf scaleIn weigh
   fullness-weight (is-Ty e) = rw type-weight (omega arith)
   fullness-weight (Ty-is e) = rw type-weight (omega arith)
-
-  fullness-accepted : {e l : Tree} → Fullness Γ e l → Accepted σ l Γ predicate → Accepted σ e Γ expression
-  unfolding Accepted classOf lookup formAt
-  fullness-accepted (is-Ty e) a = a .kids .0
-  fullness-accepted (Ty-is e) a = a .kids .1 .0
 
   -- ---- finite, quantifiers
   finite-accepted : (s : Tree) → Accepted σ (fin s) Γ predicate → Accepted σ s Γ expression
@@ -171,8 +161,8 @@ module _ (σ : ℕ → Ty) (Γ : Ctx) where
   falls («SIMP_SPECIAL_NOT_EQUAL_TRUE_R» e) acc = omega arith
   falls («SIMP_SPECIAL_NOT_EQUAL_FALSE_L» e) acc = omega arith
   falls («SIMP_SPECIAL_NOT_EQUAL_TRUE_L» e) acc = omega arith
-  falls (equal-type m h) acc = omega (arith, fullness-weight m, fills-fall σ Γ h (fullness-accepted m acc))
-  falls (equal-empty m h) acc = omega (arith, emptiness-weight m, empties-fall σ Γ h (emptiness-accepted m acc))
+  falls (equal-type m h) acc = omega (arith, fullness-weight m, fills-fall σ Γ h (fullness-accepted σ Γ m acc))
+  falls (equal-empty m h) acc = omega (arith, emptiness-weight m, empties-fall σ Γ h (emptiness-accepted σ Γ m acc))
   falls («SIMP_SPECIAL_AND_BFALSE/OR_BTRUE» g n d ps j i) acc = omega (arith, junction-weight ps j, absorbing-weight j, among-light (leaf d) ps i)
   falls («SIMP_MULTI_AND_NOT/OR_NOT» g n d ps q j i i′) acc = omega (arith, junction-weight ps j, absorbing-weight j, among-light q ps i, weight-positive q)
   falls («SIMP_SPECIAL_AND_BTRUE/OR_BFALSE/none» g n d ps j d′) acc = omega (arith, junction-weight ps j, neutral-weight j, sum-count ps, junction-many ps j acc)
