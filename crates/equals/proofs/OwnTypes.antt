@@ -1,6 +1,5 @@
 -- Which trees are the type expression of their own elements: by their nodes alone, whatever their type is.
--- Main results: express-type (the expression of a type has the power of that type); own-bool, own-int, own-ident, own-pow,
--- own-times, own-other.
+-- Main results: own-bool, own-int, own-ident, own-pow, own-times, own-other.
 use mathlib.Core.Path.{_≡_, refl, sym, ap, _∙_}
 use mathlib.Core.Bool.{Bool, true, false, _&&_, and-true}
 use mathlib.Core.List.{[], _∷_}
@@ -16,15 +15,8 @@ use Rattle.frame.specs.Sameness.{sameTy, sameTys, sameTree}
 use Rattle.frame.proofs.SameTrees.{same-tree}
 use Rattle.typing.specs.Typing.{element, typeOf}
 use Rattle.typing.specs.TypeExpression.{toExpression}
+use Rattle.typing.proofs.TypeExpression.{express-type}
 use Rattle.rules.specs.Dispatch.{isOwnType}
-
-pub express-type : (t : Ty) (Γ : Ctx) → typeOf (toExpression t) Γ ≡ pow t
-unfolding toExpression typeOf classOf lookup formAt
-express-type bool Γ = refl
-express-type int Γ = refl
-express-type (given n) Γ = refl
-express-type (pow t) Γ = ap pow (express-type t Γ)
-express-type (prod t u) Γ = rw (express-type t Γ, express-type u Γ)
 
 -- a tree whose type is no power is no type expression
 no-power : (a : Tree) (Γ : Ctx) (x : Ty) → ((u : Ty) → typeOf a Γ ≡ pow u → ⊥) → sameTree a (toExpression x) ≡ false

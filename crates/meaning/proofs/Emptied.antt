@@ -12,6 +12,7 @@ use Rattle.frame.specs.Tags.{predicate, classOf, lookup, formAt}
 use Rattle.frame.specs.Places.{Ctx}
 use Rattle.typing.specs.Typing.{element, typeOf}
 use Rattle.typing.specs.Accepted.{Accepted}
+use Rattle.typing.proofs.TypeExpression.{express-type}
 use Rattle.rules.specs.Equations.{_≐_, _⊆_, ∅, Ty-of, Emptiness, is-∅, in-∅, ∅-is, Fullness, is-Ty, Ty-is, _≐∅, _≐Ty}
 use Rattle.meaning.specs.Operations.{opAt, opOf}
 use Rattle.meaning.specs.Meaning.{Interpretation, Vals, truth, setOf, some, every, equals, means}
@@ -113,7 +114,7 @@ module _ (I : Interpretation) (σ : ℕ → Ty) (Γ : Ctx) where
     unfolding u NoInterOverNothing opOf opAt classOf lookup formAt
     type-equal r =
         keeps-truth I (Ty-of Γ e ≐ e) new Γ (refl, refl) (r .formula) (r .single) (λ a. r .alive (a .2 .1 .0)) (λ a ρ.
-        kit.equal-truth I Γ (Ty-of Γ e) e (pow u) (kit.type-type u Γ) ρ ∙ ap (λ x. equals I (pow u) x (setOf I (means I e Γ) ρ u)) (kit.type-full I u Γ ρ)
+        kit.equal-truth I Γ (Ty-of Γ e) e (pow u) (express-type u Γ) ρ ∙ ap (λ x. equals I (pow u) x (setOf I (means I e Γ) ρ u)) (kit.type-full I u Γ ρ)
         ∙ full-is (I .size) u (setOf I (means I e Γ) ρ u) ∙ sym (r .says (a .2 .1 .0) ρ))
 
   pub emptiness-keeps : {e l new : Tree} → Emptiness e l → Accepted σ l Γ predicate → Emptied e new → Keeps I Γ l new
@@ -130,5 +131,5 @@ module _ (I : Interpretation) (σ : ℕ → Ty) (Γ : Ctx) where
 
   pub fullness-keeps : {e l new : Tree} → Fullness Γ e l → Accepted σ l Γ predicate → Filled e new → Keeps I Γ l new
   unfolding Accepted typeOf classOf lookup formAt
-  fullness-keeps {new = new} (is-Ty e) a r = let h = a .fits in equal-type e new (cc (kit.type-type (element (typeOf e Γ)) Γ)) r
-  fullness-keeps {new = new} (Ty-is e) a r = let h = a .fits in type-equal e new (cc (kit.type-type (element (typeOf e Γ)) Γ)) r
+  fullness-keeps {new = new} (is-Ty e) a r = let h = a .fits in equal-type e new (cc (express-type (element (typeOf e Γ)) Γ)) r
+  fullness-keeps {new = new} (Ty-is e) a r = let h = a .fits in type-equal e new (cc (express-type (element (typeOf e Γ)) Γ)) r

@@ -2,7 +2,7 @@
 -- Main results: many-single, leaf-single, one-single, two-single (any predicate without binders), bound-single (a quantifier),
 -- many-alive, leaf-alive, one-alive, two-alive, bound-alive (any node that is no intersection), kids-single, kids-alive (the
 -- operands); NAME-truth for NAME one of not, and, or, implies, equiv, forall, exists, equal, member, subset; NAME-truth,
--- NAME-single, NAME-alive for empty (E = ∅) and full (E = Ty); type-full (a type's expression is everything), type-type,
+-- NAME-single, NAME-alive for empty (E = ∅) and full (E = Ty); type-full (a type's expression is everything),
 -- type-single, type-alive; single-type, no-int (the integers premise at a tree's type).
 use mathlib.Core.Path.{_≡_, refl, sym, ap, ap₂, _∙_, fun-ext}
 use mathlib.Core.Bool.{true, false, not, _&&_, _||_, Bool·beq, or-true}
@@ -17,6 +17,7 @@ use Prim.Native.Nat.{ℕ}
 use borrow.Author.Tests.{eq-eqb}
 use Rattle.typing.specs.Typing.{element, typeOf, typesIn}
 use Rattle.typing.specs.TypeExpression.{toExpression}
+use Rattle.typing.proofs.TypeExpression.{express-type}
 use Rattle.rules.specs.Equations.{¬ᵖ, _⇒_, _⇔_, ⋀, ⋁, ∀ᵖ, ∃ᵖ, _≐_, _∈ᵖ_, _⊆_, ∅, Ty-of, _≐∅, _≐Ty}
 use Rattle.meaning.specs.Lists.{any, all}
 use Rattle.meaning.specs.Operations.{Logic, Op, logic, equal, subset, member, opAt, opOf}
@@ -41,21 +42,13 @@ pub no-int : (t : Tree) (Γ : Ctx) (u : Ty) → SingleIntegers t Γ → typeOf t
 no-int t Γ u s e = rw e at (single-type t Γ s)
 
 -- ---- a type's expression
-pub type-type : (t : Ty) (Γ : Ctx) → typeOf (toExpression t) Γ ≡ pow t
-unfolding typeOf toExpression classOf lookup formAt
-type-type bool Γ = refl
-type-type int Γ = refl
-type-type (given n) Γ = refl
-type-type (pow t) Γ = rw (type-type t Γ)
-type-type (prod t u) Γ = rw (type-type t Γ, type-type u Γ)
-
 pub type-single : (t : Ty) (Γ : Ctx) → NoInt t → SingleIntegers (toExpression t) Γ
 unfolding SingleIntegers typeOf toExpression classOf lookup formAt
 type-single bool Γ n = (tt, tt, tt, tt)
 type-single int Γ n = absurd n
 type-single (given k) Γ n = ((tt, tt), tt, tt, tt)
-type-single (pow t) Γ n = (tt, rw (type-type t Γ) n, tt, (type-single t Γ n, tt))
-type-single (prod t u) Γ n = (tt, rw (type-type t Γ, type-type u Γ) n, tt, (type-single t Γ (n .0), (type-single u Γ (n .1), tt)))
+type-single (pow t) Γ n = (tt, rw (express-type t Γ) n, tt, (type-single t Γ n, tt))
+type-single (prod t u) Γ n = (tt, rw (express-type t Γ, express-type u Γ) n, tt, (type-single t Γ (n .0), (type-single u Γ (n .1), tt)))
 
 module _ (I : Interpretation) where
   pub type-alive : (t : Ty) (Γ : Ctx) → NoInterOverNothing I (toExpression t) Γ

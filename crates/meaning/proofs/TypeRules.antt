@@ -12,6 +12,7 @@ use Rattle.frame.specs.Places.{Ctx, push}
 use Rattle.typing.specs.Typing.{element, relation, typeOf, typesIn}
 use Rattle.typing.specs.TypeExpression.{toExpression}
 use Rattle.typing.specs.Accepted.{Accepted, TysOk}
+use Rattle.typing.proofs.TypeExpression.{express-type}
 use Rattle.rules.specs.Equations.{_⇒_, ⋀, ∀ᵖ, _≐_, ext, ⋂, Fills, _≐∅, _≐Ty, «SIMP_BINTER_EQUAL_TYPE», «SIMP_SETMINUS_EQUAL_TYPE», «SIMP_CPROD_EQUAL_TYPE», «SIMP_UPTO_EQUAL_INTEGER», «SIMP_DOMRES_EQUAL_TYPE», «SIMP_DOMSUB_EQUAL_TYPE», «SIMP_RANRES_EQUAL_TYPE», «SIMP_RANSUB_EQUAL_TYPE», «SIMP_DPROD_EQUAL_TYPE», «SIMP_PPROD_EQUAL_TYPE», «SIMP_KINTER_EQUAL_TYPE», «SIMP_CONVERSE_EQUAL_TYPE», «SIMP_QINTER_EQUAL_TYPE»}
 use Rattle.rules.proofs.Nodes.{Has}
 use Rattle.rules.proofs.OldNodes.{of-inter, of-converse, of-minus, of-times, of-domres, of-domsub, of-ranres, of-ransub, of-dprod, of-pprod, of-qinter}
@@ -167,7 +168,7 @@ module _ (I : Interpretation) (σ : ℕ → Ty) (Γ : Ctx) where
 
     only-single : NoInt u → SingleIntegers only Γ
     unfolding only SingleIntegers typeOf classOf lookup formAt
-    only-single n = (tt, rw (kit.type-type u Γ) n, tt, (kit.type-single u Γ n, tt))
+    only-single n = (tt, rw (express-type u Γ) n, tt, (kit.type-single u Γ n, tt))
 
     only-alive : NoInterOverNothing I only Γ
     unfolding only NoInterOverNothing opOf opAt classOf lookup

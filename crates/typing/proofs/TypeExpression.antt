@@ -1,5 +1,5 @@
 -- A type's expression stands for the whole type, and is accepted.
--- Main result: type-expression.
+-- Main results: express-type (it has the power of that type), type-expression (and is accepted).
 use mathlib.Core.Path.{_≡_, refl, sym, ap}
 use mathlib.Core.List.{[], _∷_}
 use Prim.Native.Nat.{ℕ, _≤_, _<_}
@@ -14,6 +14,14 @@ use Rattle.frame.specs.WellFormed.{HeadWf}
 use Rattle.typing.specs.Typing.{typeOf}
 use Rattle.typing.specs.TypeExpression.{toExpression}
 use Rattle.typing.specs.Accepted.{TyOk, Accepted}
+
+pub express-type : (t : Ty) (Γ : Ctx) → typeOf (toExpression t) Γ ≡ pow t
+unfolding toExpression typeOf classOf lookup formAt
+express-type bool Γ = refl
+express-type int Γ = refl
+express-type (given n) Γ = refl
+express-type (pow t) Γ = ap pow (express-type t Γ)
+express-type (prod t u) Γ = rw (express-type t Γ, express-type u Γ)
 
 -- the bytes of the parts of a type that has few
 pub short-pow : (t : Ty) → length (encTy (pow (pow t))) ≤ 64 → length (encTy (pow t)) ≤ 64
