@@ -2,7 +2,7 @@
 -- Main results: agree-told (a table that holds all the claims: the names agree), clash-disagree (two claims clash: they do
 -- not), type-unique (one place has one type).
 use mathlib.Core.Path.{_≡_, refl, sym, ap, _∙_, subst}
-use mathlib.Core.Logic.{_⊎_, inl, inr}
+use mathlib.Core.Logic.{inl, inr}
 use mathlib.Core.Bool.{Bool, true, false}
 use mathlib.Core.List.{List, [], _∷_, _++_}
 use Prim.Native.Nat.{ℕ, _+_}
@@ -18,32 +18,8 @@ use Rattle.typing.specs.Members.{In, All}
 use Rattle.typing.specs.Identifiers.{Named, named, givensTys, identOf, idents, identsIn, givens, givensIn, namesAgree}
 use Rattle.identifiers.specs.Claims.{powers, claims, claimsIn, Clash, TypeAt, Says, by-mark, by-place, Told}
 use Rattle.typing.specs.Signature.{signed, signature}
-use Rattle.typing.proofs.Names.{all-join, all-left, all-right, all-of, NameOk, GivenOk, Signed, SignedAll, signed-agree, names-signed}
-
--- ---- members of two lists joined
-module _ {A : Type 0} where
-  pub in-left : (x : A) (l m : List A) → In x l → In x (l ++ m)
-  in-left x [] m i = absurd i
-  in-left x (y ∷ l) m (inl e) = inl e
-  in-left x (y ∷ l) m (inr i) = inr (in-left x l m i)
-
-  pub in-right : (x : A) (l m : List A) → In x m → In x (l ++ m)
-  in-right x [] m i = i
-  in-right x (y ∷ l) m i = inr (in-right x l m i)
-
-  pub in-either : (x : A) (l m : List A) → In x (l ++ m) → In x l ⊎ In x m
-  in-either x [] m i = inr i
-  in-either x (y ∷ l) m (inl e) = inl (inl e)
-  in-either x (y ∷ l) m (inr i) = or-left (in-either x l m i)
-    where
-      or-left : In x l ⊎ In x m → In x (y ∷ l) ⊎ In x m
-      or-left (inl j) = inl (inr j)
-      or-left (inr j) = inr j
-
-  pub all-in : (P : A → Type 0) (l : List A) (x : A) → All P l → In x l → P x
-  all-in P [] x h i = absurd i
-  all-in P (y ∷ l) x h (inl e) = subst P (sym e) (h .0)
-  all-in P (y ∷ l) x h (inr i) = all-in P l x (h .1) i
+use Rattle.typing.proofs.Names.{NameOk, GivenOk, Signed, SignedAll, signed-agree, names-signed, later}
+use Rattle.typing.proofs.Members.{all-join, all-left, all-right, all-of, all-in}
 
 -- ---- a tree is signed exactly if its claims are
 module _ (σ : ℕ → Ty) where
@@ -102,13 +78,9 @@ unfolding signed
 first-in [] n t i = i
 first-in (named m u ∷ l) n t i = go (λ j. first-in l n t j) (eqb n m) refl
   where
-    later : In (named n t) (named m u ∷ l) → (n ≡ m → ⊥) → In (named n t) l
-    later (inl e) d = absurd (d (cc))
-    later (inr j) d = j
-
     go : (In (named n t) l → In (named n (signed l n)) l) → (b : Bool) → eqb n m ≡ b → In (named n (pick b u (signed l n))) (named m u ∷ l)
     go f true e = inl (ap (λ (x : ℕ). named x u) (eqb-true n m e))
-    go f false e = inr (f (later i (eqb-false n m e)))
+    go f false e = inr (f (later n m t u l i (eqb-false n m e)))
 
 abbrev Functional : List Named → Type 0
 Functional l = (n : ℕ) (t u : Ty) → In (named n t) l → In (named n u) l → t ≡ u

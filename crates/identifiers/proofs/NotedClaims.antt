@@ -20,10 +20,11 @@ use Rattle.frame.proofs.Numbers.{number-span, number-back, number-two}
 use Rattle.frame.proofs.Inversion.{true-not}
 use Rattle.typing.specs.Members.{In}
 use Rattle.typing.specs.Identifiers.{Named, named}
+use Rattle.typing.proofs.Members.{in-left, in-right, in-either}
 use Rattle.frame.proofs.ReadTypes.{ty-long}
 use Rattle.octets.specs.Bytes.{SameParts}
 use Rattle.identifiers.specs.Claims.{Clash, TypeAt, givenMark, Says, by-mark, by-place, Told, Noted, PowerPost, SameType, Held, NamePost, GivenPost}
-use Rattle.identifiers.proofs.Claims.{in-left, in-right, in-either, type-unique}
+use Rattle.identifiers.proofs.Claims.{type-unique}
 
 -- ---- the table at first
 zeros : (m n : ℕ) → _≡_ {A = ℕ} (getD (replicate m 0) n 0) 0

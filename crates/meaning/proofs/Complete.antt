@@ -11,10 +11,11 @@ use Prim.Native.Nat.{ℕ, zero, suc}
 use native.Mathlib.Decide.{ℕ-discrete}
 use lib.IntN.{ℤ-discrete}
 use Rattle.frame.specs.Types.{Ty, bool, int, given, pow, prod, Ty-discrete}
-use Rattle.meaning.specs.Lists.{In}
+use Rattle.typing.specs.Members.{In}
+use Rattle.typing.proofs.Members.{in-left, in-right}
 use Rattle.meaning.specs.Values.{Elements, listOf, sameElement, pairs, including, subsets, Value, values, same, someOf, everyOf, cast, asType}
 use Rattle.meaning.specs.Premises.{NoInt, Single}
-use Rattle.meaning.proofs.Lists.{iff, so-and, so-or, so-any, so-all, so-beq, In-left, In-right, In-map}
+use Rattle.meaning.proofs.Lists.{iff, so-and, so-or, so-any, so-all, so-beq, In-map}
 
 -- ---- the elements of a given set
 all-elements : (n : ℕ) (x : Elements n) → In x (listOf n)
@@ -34,8 +35,8 @@ so-element (suc n) (some a) (some b) = (λ h. ap some (so-element n a b .0 h), �
 -- ---- pairs
 all-pairs : {A B : Type 0} (a : A) (b : B) (l : List A) (m : List B) → In a l → In b m → In (a, b) (pairs l m)
 unfolding pairs
-all-pairs {A} {B} a b (x ∷ l) m (inl e) j = rw e (In-left (x, b) (map (λ y. (x, y)) m) (pairs l m) (In-map (λ y. (x, y)) b m j))
-all-pairs a b (x ∷ l) m (inr i) j = In-right (a, b) (map (λ y. (x, y)) m) (pairs l m) (all-pairs a b l m i j)
+all-pairs {A} {B} a b (x ∷ l) m (inl e) j = rw e (in-left (x, b) (map (λ y. (x, y)) m) (pairs l m) (In-map (λ y. (x, y)) b m j))
+all-pairs a b (x ∷ l) m (inr i) j = in-right (a, b) (map (λ y. (x, y)) m) (pairs l m) (all-pairs a b l m i j)
 
 -- ---- sets
 module _ {A : Type 0} (eq : A → A → Bool) (so-eq : (a b : A) → So (eq a b) ↔ (a ≡ b)) where
@@ -45,8 +46,8 @@ module _ {A : Type 0} (eq : A → A → Bool) (so-eq : (a b : A) → So (eq a b)
   part (a ∷ l) s = cond (s a) (including eq a (part l s)) (part l s)
 
   In-cond : (b : Bool) (f g : A → Bool) (l m : List (A → Bool)) → In f m → In g l → In (cond b f g) (l ++ m)
-  In-cond true f g l m i j = In-right f l m i
-  In-cond false f g l m i j = In-left g l m j
+  In-cond true f g l m i j = in-right f l m i
+  In-cond false f g l m i j = in-left g l m j
 
   part-listed : (l : List A) (s : A → Bool) → In (part l s) (subsets eq l)
   unfolding part subsets

@@ -11,14 +11,16 @@ use Rattle.frame.specs.Tags.{predicate, repeat, classOf, lookup, formAt}
 use Rattle.frame.specs.Operators.{#LAnd, #LOr, #BTrue, #BFalse}
 use Rattle.frame.specs.Places.{Ctx}
 use Rattle.typing.specs.Accepted.{Accepted, AcceptedAll}
+use Rattle.typing.specs.Members.{In}
+use Rattle.typing.proofs.Members.{in-left}
 use Rattle.rules.specs.Equations.{¬ᵖ, Among, Junction, conjunction, disjunction, Dropped, done, literal, repeated}
 use Rattle.rules.proofs.Nodes.{Every}
 use Rattle.rules.proofs.Operands.{dropped-every}
-use Rattle.meaning.specs.Lists.{any, all, In}
+use Rattle.meaning.specs.Lists.{any, all}
 use Rattle.meaning.specs.Operations.{opAt, opOf}
 use Rattle.meaning.specs.Meaning.{Interpretation, Vals, Den, truth, holds, means, meansAll}
 use Rattle.meaning.specs.Premises.{SingleIntegers, NoInterOverNothing}
-use Rattle.meaning.proofs.Lists.{so-any, so-all, clash, not-so, In-left, all-mid, any-mid}
+use Rattle.meaning.proofs.Lists.{so-any, so-all, clash, not-so, all-mid, any-mid}
 use Rattle.meaning.proofs.Sound.{Formula, Keeps, keeps-truth, accepted-formula}
 use Rattle.meaning.proofs.Kit.{NoInter}
 use Rattle.meaning.proofs.Kit as kit
@@ -65,10 +67,10 @@ module _ {A : Type 0} where
     joined-repeated d l k m i = joined-mid d l k m ∙ go d (p k) refl
       where
         go : (d b : Bool) → p k ≡ b → both d b (joined d p (l ++ m)) ≡ joined d p (l ++ m)
-        go true true h = sym (joined-decided true (l ++ m) k (In-left k l m i) h)
+        go true true h = sym (joined-decided true (l ++ m) k (in-left k l m i) h)
         go true false h = refl
         go false true h = refl
-        go false false h = sym (joined-decided false (l ++ m) k (In-left k l m i) h)
+        go false false h = sym (joined-decided false (l ++ m) k (in-left k l m i) h)
 
 -- ---- operands: what holds of each
 module _ (Γ : Ctx) where

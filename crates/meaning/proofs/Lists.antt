@@ -6,8 +6,9 @@ use mathlib.Core.Path.{_≡_, refl, sym, ap, _∙_}
 use mathlib.Core.Logic.{_↔_, _⊎_, inl, inr}
 use mathlib.Core.Bool.{Bool, true, false, not, _&&_, _||_, Bool·beq, So, true≢false, false≢true, Bool·not-not as not-not, and-assoc, or-assoc}
 use mathlib.Core.List.{List, [], _∷_, _++_, map}
-use Rattle.meaning.specs.Lists.{any, all, In}
+use Rattle.meaning.specs.Lists.{any, all}
 use Rattle.frame.proofs.Booleans.{and-swap}
+use Rattle.typing.specs.Members.{In}
 
 -- two truth values are equal if each follows from the other
 pub iff : {a b : Bool} → (So a ↔ So b) → a ≡ b
@@ -121,14 +122,6 @@ module _ {A : Type 0} where
           there : So (p y) → ((x : A) → In x l → So (p x)) → (x : A) → In x (y ∷ l) → So (p x)
           there h k x (inl e) = rw e h
           there h k x (inr i) = k x i
-
-  pub In-left : (x : A) (l m : List A) → In x l → In x (l ++ m)
-  In-left x (y ∷ l) m (inl e) = inl e
-  In-left x (y ∷ l) m (inr i) = inr (In-left x l m i)
-
-  pub In-right : (x : A) (l m : List A) → In x m → In x (l ++ m)
-  In-right x [] m i = i
-  In-right x (y ∷ l) m i = inr (In-right x l m i)
 
   pub all-is : (p : A → Bool) (l : List A) → all p l ≡ not (any (λ x. not (p x)) l)
   unfolding any all

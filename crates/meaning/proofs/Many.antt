@@ -10,9 +10,10 @@ use Rattle.frame.specs.Types.{Ty, pow}
 use Rattle.frame.specs.Trees.{Tree, Forest, nil, cons, append, mapF}
 use Rattle.frame.specs.Places.{Ctx}
 use Rattle.typing.specs.Typing.{alike, typeOf, typesIn}
+use Rattle.typing.specs.Members.{In}
 use Rattle.rules.specs.Equations.{Among, _≐∅, _≐Ty}
 use Rattle.rules.proofs.Nodes.{Every}
-use Rattle.meaning.specs.Lists.{any, all, In}
+use Rattle.meaning.specs.Lists.{any, all}
 use Rattle.meaning.specs.Meaning.{Interpretation, Vals, Den, truth, setOf, some, every, means, meansAll}
 use Rattle.meaning.specs.Premises.{SingleIntegers, SingleIntegersIn, NoInterOverNothing, NoInterOverNothingIn}
 use Rattle.meaning.proofs.Lists.{not-or}

@@ -23,8 +23,9 @@ use Rattle.typing.specs.TypeExpression.{toExpression}
 use Rattle.typing.specs.Check.{accepted, checkTree, check}
 use Rattle.typing.specs.Binding.{closedTree}
 use Rattle.typing.specs.Identifiers.{givensTy, givensTys, idents, givens, agrees, spares, consistent, namesAgree}
+use Rattle.typing.specs.Members.{In}
 use Rattle.rules.specs.Equations.{⊤, ¬ᵖ, ⋀, ∀ᵖ, ∃ᵖ, _≐_, _⊆_, ext, ∅}
-use Rattle.meaning.specs.Lists.{any, all, In}
+use Rattle.meaning.specs.Lists.{any, all}
 use Rattle.meaning.specs.Values.{listOf, sameElement, pairs, including, subsets, Value, default, values, same, someOf, everyOf, asType}
 use Rattle.meaning.specs.Operations.{opAt, opOf}
 use Rattle.meaning.specs.Meaning.{Interpretation, Val, leInt, valueAt, choices, identifierValue, setOf, equals, holds, valueOf, quantified, boundSet, means, isTrue}

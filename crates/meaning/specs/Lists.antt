@@ -1,6 +1,4 @@
 -- What holds of some or of every member of a list, decided by going through it.
-use mathlib.Core.Path.{_≡_}
-use mathlib.Core.Logic.{_⊎_}
 use mathlib.Core.Bool.{Bool, true, false, _&&_, _||_}
 use mathlib.Core.List.{List, [], _∷_}
 
@@ -12,7 +10,3 @@ module _ {A : Type 0} where
   unfoldable pub all : (A → Bool) → List A → Bool
   all p [] = true
   all p (x ∷ l) = p x && all p l
-
-  abbrev pub In : A → List A → Type 0
-  In x [] = ⊥
-  In x (y ∷ l) = (x ≡ y) ⊎ In x l

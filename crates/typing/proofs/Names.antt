@@ -6,7 +6,7 @@
 use mathlib.Core.Path.{_≡_, refl, sym, ap, _∙_}
 use mathlib.Core.Logic.{inl, inr}
 use mathlib.Core.Bool.{Bool, true, false, not, _&&_, _||_}
-use mathlib.Core.List.{List, [], _∷_, _++_}
+use mathlib.Core.List.{List, [], _∷_}
 use Prim.Native.Nat.{ℕ}
 use lib.Dec.{eqb}
 use borrow.Author.Tests.{eqb-true, eqb-false, eq-eqb}
@@ -25,25 +25,7 @@ use Rattle.typing.proofs.Derived.{push-ok, result-ok}
 use Rattle.frame.proofs.Booleans.{both-true, both-of, or-then, then-or}
 use Rattle.frame.proofs.SameTrees.{same-ty}
 use Rattle.typing.proofs.Same.{same-ty-of}
-
--- ---- lists: what holds of each member
-module _ {A : Type 0} where
-  pub all-join : (P : A → Type 0) (l m : List A) → All P l → All P m → All P (l ++ m)
-  all-join P [] m h k = k
-  all-join P (x ∷ l) m h k = (h .0, all-join P l m (h .1) k)
-
-  pub all-left : (P : A → Type 0) (l m : List A) → All P (l ++ m) → All P l
-  all-left P [] m h = tt
-  all-left P (x ∷ l) m h = (h .0, all-left P l m (h .1))
-
-  pub all-right : (P : A → Type 0) (l m : List A) → All P (l ++ m) → All P m
-  all-right P [] m h = h
-  all-right P (x ∷ l) m h = all-right P l m (h .1)
-
-  -- from membership
-  pub all-of : (P : A → Type 0) (l : List A) → ((x : A) → In x l → P x) → All P l
-  all-of P [] h = tt
-  all-of P (x ∷ l) h = (h x (inl refl), all-of P l (λ y i. h y (inr i)))
+use Rattle.typing.proofs.Members.{all-join, all-left, all-right, all-of}
 
 -- ---- what it is to be signed
 module _ (σ : ℕ → Ty) where
@@ -194,17 +176,18 @@ by-test n m R u v p q = go (eqb n m) refl
     go true e = p (eqb-true n m e)
     go false e = q (eqb-false n m e)
 
+-- a claim of another number is no first one
+pub later : (n m : ℕ) (t u : Ty) (l : List Named) → In (named n t) (named m u ∷ l) → (n ≡ m → ⊥) → In (named n t) l
+later n m t u l (inl e) d = absurd (d (cc))
+later n m t u l (inr j) d = j
+
 agree-signed : (l : List Named) (n : ℕ) (t : Ty) → agrees (named n t) l ≡ true → In (named n t) l → t ≡ signed l n
 unfolding agrees signed
 agree-signed [] n t h i = absurd i
 agree-signed (named m u ∷ l) n t h i =
     let k = both-true (not (eqb n m) || sameTy t u) (agrees (named n t) l) h in
     by-test n m (λ (v : Ty). t ≡ v) u (signed l n) (λ q. same-ty t u (or-then (eqb n m) (sameTy t u) (k .0) (eq-eqb n m q)))
-    (λ d. agree-signed l n t (k .1) (later i d))
-  where
-    later : In (named n t) (named m u ∷ l) → (n ≡ m → ⊥) → In (named n t) l
-    later (inl e) d = absurd (d (cc))
-    later (inr j) d = j
+    (λ d. agree-signed l n t (k .1) (later n m t u l i d))
 
 spare-given : (m n : ℕ) (t : Ty) (ms : List ℕ) → spares (named m t) ms ≡ true → n ≡ m → In n ms → t ≡ pow (given n)
 unfolding spares
