@@ -65,6 +65,12 @@ unfolding encTys
 row-some types at n [] r h = absurd (omega (arith, r .span .long))
 row-some types at n (t ∷ us) r h = (t, us, refl)
 
+-- by the first of them
+pub by-first : (types : List ℕ) (at n : ℕ) → at < n → (X : List Ty → Type 0) → ((t : Ty) (vs : List Ty) → RowAt types at n (t ∷ vs) → X (t ∷ vs)) → (us : List Ty) → RowAt types at n us → X us
+by-first types at n l X f us row =
+    let v = row-some types at n us row l in
+    subst X (sym (v .2)) (f (v .0) (v .1) (subst (RowAt types at n) (v .2) row))
+
 -- the first of them, and the others
 module _ (types : List ℕ) (at n : ℕ) (t : Ty) (us : List Ty) (r : RowAt types at n (t ∷ us)) where
   pub row-first : Spans types at (at + length (encTy t)) (encTy t)
@@ -227,21 +233,15 @@ module _ (p : ℕ) (types : List ℕ) (at n : ℕ) (s e : List ℕ) (k : ℕ) wh
     fit-none l = off (λ rest us ρ row env c. ap (λ (vs : List Ty). matches (b ∷ rest) vs ρ) (row-none types at n us row l))
 
     module _ (l : at < n) where
-      -- the first type of the row
-      firstly : (X : List Ty → Type 0) → ((t : Ty) (vs : List Ty) → RowAt types at n (t ∷ vs) → X (t ∷ vs)) → (us : List Ty) → RowAt types at n us → X us
-      firstly X f us row =
-          let v = row-some types at n us row l in
-          subst X (sym (v .2)) (f (v .0) (v .1) (subst (RowAt types at n) (v .2) row))
-
       pub first-type : (us ρ : List Ty) → RowAt types at n us → EnvAt types n s e ρ → length ρ ≡ k → TypeAt types at
-      first-type us ρ row env c = firstly (λ vs. TypeAt types at) (λ t vs r. row-type types at n t vs r) us row
+      first-type us ρ row env c = by-first types at n l (λ vs. TypeAt types at) (λ t vs r. row-type types at n t vs r) us row
 
       pub first-past : (q : ℕ) → EndOf types at q → (us : List Ty) → RowAt types at n us → at < q
       first-past q en us row =
-          firstly (λ vs. at < q) (λ t vs r. omega (arith, en .is t (at + length (encTy t)) (row-first types at n t vs r), ty-long t)) us row
+          by-first types at n l (λ vs. at < q) (λ t vs r. omega (arith, en .is t (at + length (encTy t)) (row-first types at n t vs r), ty-long t)) us row
 
       off-first : ((rest : List ℕ) (t : Ty) (vs ρ : List Ty) → RowAt types at n (t ∷ vs) → EnvAt types n s e ρ → length ρ ≡ k → matches (b ∷ rest) (t ∷ vs) ρ ≡ differs) → Post s e F.Differs
-      off-first f = off (λ rest us ρ row env c. firstly (λ vs. matches (b ∷ rest) vs ρ ≡ differs) (λ t vs r. f rest t vs ρ r env c) us row)
+      off-first f = off (λ rest us ρ row env c. by-first types at n l (λ vs. matches (b ∷ rest) vs ρ ≡ differs) (λ t vs r. f rest t vs ρ r env c) us row)
 
       pub fit-other : b < 5 → (getD types at 0 ≡ b → ⊥) → Post s e F.Differs
       fit-other m ne = off-first (λ rest t vs ρ row env c. off-fixed b rest t vs ρ m (fixed-off types at n t vs row b m ne))
@@ -253,7 +253,7 @@ module _ (p : ℕ) (types : List ℕ) (at n : ℕ) (s e : List ℕ) (k : ℕ) wh
       on-first : (at₁ : ℕ) (s₁ e₁ : List ℕ) (k₁ : ℕ)
           → ((rest : List ℕ) (t : Ty) (vs ρ : List Ty) → RowAt types at n (t ∷ vs) → EnvAt types n s e ρ → length ρ ≡ k → Next (b ∷ rest) (t ∷ vs) ρ rest types at₁ n s₁ e₁ k₁)
           → (rest : List ℕ) (us ρ : List Ty) → RowAt types at n us → EnvAt types n s e ρ → length ρ ≡ k → Next (b ∷ rest) us ρ rest types at₁ n s₁ e₁ k₁
-      on-first at₁ s₁ e₁ k₁ f rest us ρ row env c = firstly (λ vs. Next (b ∷ rest) vs ρ rest types at₁ n s₁ e₁ k₁) (λ t vs r. f rest t vs ρ r env c) us row
+      on-first at₁ s₁ e₁ k₁ f rest us ρ row env c = by-first types at n l (λ vs. Next (b ∷ rest) vs ρ rest types at₁ n s₁ e₁ k₁) (λ t vs r. f rest t vs ρ r env c) us row
 
       pub goes-on : (at₁ : ℕ) (s₁ e₁ : List ℕ) (k₁ : ℕ)
           → ((rest : List ℕ) (us ρ : List Ty) → RowAt types at n us → EnvAt types n s e ρ → length ρ ≡ k → Next (b ∷ rest) us ρ rest types at₁ n s₁ e₁ k₁)

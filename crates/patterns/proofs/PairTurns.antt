@@ -16,7 +16,7 @@ use Rattle.patterns.specs.declared.Fit.{Fit}
 use Rattle.patterns.specs.declared.Fit.the-variants as F
 use Rattle.patterns.specs.declared.Pairs.{Pairs}
 use Rattle.patterns.specs.declared.Pairs.the-variants as P
-use Rattle.patterns.proofs.MatchTurns.{row-none, row-some, row-first, row-rest, row-type}
+use Rattle.patterns.proofs.MatchTurns.{row-none, row-some, row-first, row-rest, row-type, by-first}
 
 pub env-empty : (types : List ℕ) (n : ℕ) (s e : List ℕ) → Slots s e → EnvAt types n s e []
 env-empty types n s e h = record { slots = h; few = omega arith; fit = tt; spans = λ i k. absurd (omega arith); low = λ i k. absurd (omega arith) }
@@ -39,13 +39,8 @@ module _ (ps types : List ℕ) (at n : ℕ) (s e : List ℕ) where
       }
 
   module _ (l : at < n) where
-    firstly : (X : List Ty → Type 0) → ((t : Ty) (vs : List Ty) → RowAt types at n (t ∷ vs) → X (t ∷ vs)) → (us : List Ty) → RowAt types at n us → X us
-    firstly X f us row =
-        let v = row-some types at n us row l in
-        subst X (sym (v .2)) (f (v .0) (v .1) (subst (RowAt types at n) (v .2) row))
-
     pub pairs-type : {w : ℕ} → PairsPre w types at n s e → TypeAt types at
-    pairs-type p = firstly (λ vs. TypeAt types at) (λ t vs r. row-type types at n t vs r) (p .us) (p .row)
+    pairs-type p = by-first types at n l (λ vs. TypeAt types at) (λ t vs r. row-type types at n t vs r) (p .us) (p .row)
 
     pub pairs-match : {w : ℕ} → PairsPre w types at n s e → MatchPre types at n s e 0
     pairs-match p = record { us = p .us; ρ = []; row = p .row; env = env-empty types n s e (p .slots); count = refl }
@@ -57,13 +52,13 @@ module _ (ps types : List ℕ) (at n : ℕ) (s e : List ℕ) where
           subst (λ (x : ℕ). RowAt types x n vs) (sym (en .is t (at + length (encTy t)) (row-first types at n t vs row))) (row-rest types at n t vs row)
 
       pub pairs-past : {w : ℕ} → PairsPre w types at n s e → at < q
-      pairs-past p = firstly (λ vs. at < q) (λ t vs r. omega (arith, en .is t (at + length (encTy t)) (row-first types at n t vs r), ty-long t)) (p .us) (p .row)
+      pairs-past p = by-first types at n l (λ vs. at < q) (λ t vs r. omega (arith, en .is t (at + length (encTy t)) (row-first types at n t vs r), ty-long t)) (p .us) (p .row)
 
       pub pairs-last : n ≤ q → PairsPost ps types at n s e s e (P.Last at)
       unfolding pairsFit
       pairs-last h =
           record {
-            answer = λ us row sl. firstly (λ vs. Pairing (pairsFit ps vs) types n vs s e (P.Last at)) (λ t vs r. (
+            answer = λ us row sl. by-first types at n l (λ vs. Pairing (pairsFit ps vs) types n vs s e (P.Last at)) (λ t vs r. (
                 let z = row-none types q n vs (after t vs r) h in
                 subst (λ (ws : List Ty). Pairing (pairsFit ps (t ∷ ws)) types n (t ∷ ws) s e (P.Last at)) (sym z)
                 (at, refl, subst (λ (ws : List Ty). RowAt types at n (t ∷ ws)) z r, sl))) us row;
@@ -72,7 +67,7 @@ module _ (ps types : List ℕ) (at n : ℕ) (s e : List ℕ) where
       module _ (h : q < n) where
         secondly : (X : List Ty → Type 0) → ((t u : Ty) (vs : List Ty) → RowAt types at n (t ∷ u ∷ vs) → X (t ∷ u ∷ vs)) → (us : List Ty) → RowAt types at n us → X us
         secondly X f us row =
-            firstly X (λ t vs r. (let v = row-some types q n vs (after t vs r) h in
+            by-first types at n l X (λ t vs r. (let v = row-some types q n vs (after t vs r) h in
             subst (λ (ws : List Ty). X (t ∷ ws)) (sym (v .2)) (f t (v .0) (v .1) (subst (λ (ws : List Ty). RowAt types at n (t ∷ ws)) (v .2) r)))) us row
 
         module _ (s₁ e₁ : List ℕ) (f : Fit) (mp : MatchPost ps types at n s e 0 s₁ e₁ f) where
@@ -96,7 +91,7 @@ module _ (ps types : List ℕ) (at n : ℕ) (s e : List ℕ) where
             pub pairs-further : {w : ℕ} → PairsPre w types at n s e → PairsPre w types q n s₁ e₁
             pairs-further {w} p =
                 let sl = fitted (p .us) (p .row) (p .slots) .1 in
-                firstly (λ vs. PairsPre w types q n s₁ e₁) (λ t vs r. record { ps = p .ps; packed = p .packed; us = vs; row = after t vs r; slots = sl }) (p .us) (p .row)
+                by-first types at n l (λ vs. PairsPre w types q n s₁ e₁) (λ t vs r. record { ps = p .ps; packed = p .packed; us = vs; row = after t vs r; slots = sl }) (p .us) (p .row)
 
             pub pairs-more : (s₂ e₂ : List ℕ) (r : Pairs) → PairsPost ps types q n s₁ e₁ s₂ e₂ r → PairsPost ps types at n s e s₂ e₂ r
             unfolding pairsFit

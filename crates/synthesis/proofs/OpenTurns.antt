@@ -34,8 +34,9 @@ use Rattle.patterns.specs.declared.Typed.the-variants as T
 use Rattle.synthesis.specs.declared.stack.OpenNode.{OpenNode}
 use Rattle.synthesis.specs.declared.Opened.the-variants as O
 use Rattle.type_rules.proofs.RuleTables.{carried-own, bound-own}
+use Rattle.type_rules.proofs.RuleShapes.{head-eq}
 use Rattle.synthesis.proofs.OwnTurns.{type-wf}
-use Rattle.synthesis.proofs.OwnResults.{ty-head, own-result, own-cases, carries-one, bound-only}
+use Rattle.synthesis.proofs.OwnResults.{own-result, own-cases, carries-one, bound-only}
 
 -- ---- the tree by the head
 pub record View (s : List ℕ) (at : ℕ) (e : Sort) (t : Tree) (q tag n tp p k : ℕ) : Type 0 where
@@ -146,13 +147,13 @@ module _ (s : List ℕ) (bs : Bytes s) (at : ℕ) (e : Sort) (t : Tree) (q tag n
         by : (b : Bool) → eqb (ruleNumber (classOf tag)) 6 ≡ b → (u : Ty) → ownTypes (classOf tag) n (v .us) Γ ≡ u ∷ [] → (x : ℕ) × Spans s (pick b leaf tp) x (encTy u) × TyWf u
         by true eb u eq =
             let h = eqb-true (ruleNumber (classOf tag)) 6 eb in
-            let z : typeAt Γ n ≡ u = ty-head (sym (bound-own (classOf tag) n (v .us) Γ h) ∙ eq) in
+            let z : typeAt Γ n ≡ u = head-eq (sym (bound-own (classOf tag) n (v .us) Γ h) ∙ eq) in
             let a = of-bound h in
             let b = subst (λ (w : Ty). Spans s leaf (leaf + length (encTy w)) (encTy w)) z a in
             (leaf + length (encTy u), b, type-wf s bs u leaf (leaf + length (encTy u)) b)
         by false eb u eq =
             let c = own-cases (classOf tag) n (v .us) Γ u eq (eqb-false (ruleNumber (classOf tag)) 6 eb) in
-            let z : carriedTy (v .us) ≡ u = ty-head (sym (carried-own (classOf tag) n (v .us) Γ (c .0) (c .1)) ∙ eq) in
+            let z : carriedTy (v .us) ≡ u = head-eq (sym (carried-own (classOf tag) n (v .us) Γ (c .0) (c .1)) ∙ eq) in
             let a = of-carried (c .0) (c .1) in
             let b = subst (λ (w : Ty). Spans s tp (a .0) (encTy w)) z (a .1) in
             (a .0, b, type-wf s bs u tp (a .0) b)

@@ -1,5 +1,5 @@
 -- The classes of nodes that have a type by themselves: which type it is, and what it takes to have one.
--- Main results: ty-head, own-result, own-cases, carries-one, bound-only.
+-- Main results: own-result, own-cases, carries-one, bound-only.
 use mathlib.Core.Path.{_≡_, refl, ap}
 use mathlib.Core.Bool.{Bool, true, false}
 use mathlib.Core.List.{List, [], _∷_}
@@ -14,11 +14,9 @@ use Rattle.frame.proofs.EveryTag.{alongRows, every-tag, unlisted-past}
 use Rattle.typing.specs.Typing.{result}
 use Rattle.type_rules.specs.Patterns.{ownTypes}
 use Rattle.type_rules.specs.RuleNumbers.{ruleNumber}
+use Rattle.type_rules.proofs.RuleShapes.{head-eq}
 
 -- ---- the classes that have a type by themselves
-pub ty-head : {t u : Ty} {ts us : List Ty} → (t ∷ ts) ≡ (u ∷ us) → t ≡ u
-ty-head e = cc
-
 nil-not {ℓ} : {X : Type ℓ} {u : Ty} {us : List Ty} → _≡_ {A = List Ty} [] (u ∷ us) → X
 nil-not e = let z : _≡_ {A = ℕ} 0 1 = cc in absurd (omega arith)
 
@@ -35,8 +33,8 @@ own-result negation n us Γ ts u e = nil-not e
 own-result quantifiedPred n us Γ ts u e = nil-not e
 own-result finite n us Γ ts u e = nil-not e
 own-result partition n us Γ ts u e = nil-not e
-own-result identifier n us Γ ts u e = ty-head e
-own-result bound n us Γ ts u e = ty-head e
+own-result identifier n us Γ ts u e = head-eq e
+own-result bound n us Γ ts u e = head-eq e
 own-result literal n us Γ ts u e = nil-not e
 own-result setExtension n us Γ ts u e = nil-not e
 own-result maplet n us Γ ts u e = nil-not e
@@ -60,10 +58,10 @@ own-result integerSet n us Γ ts u e = nil-not e
 own-result boolSet n us Γ ts u e = nil-not e
 own-result truthValue n us Γ ts u e = nil-not e
 own-result integerRelation n us Γ ts u e = nil-not e
-own-result emptySet n us Γ ts u e = ty-head e
-own-result projection1 n us Γ ts u e = ty-head e
-own-result projection2 n us Γ ts u e = ty-head e
-own-result identity n us Γ ts u e = ty-head e
+own-result emptySet n us Γ ts u e = head-eq e
+own-result projection1 n us Γ ts u e = head-eq e
+own-result projection2 n us Γ ts u e = head-eq e
+own-result identity n us Γ ts u e = head-eq e
 own-result boolExpr n us Γ ts u e = nil-not e
 own-result cardinal n us Γ ts u e = nil-not e
 own-result powerset n us Γ ts u e = nil-not e
