@@ -46,6 +46,11 @@ walk-nil s Γ depth k q b l bl ll =
     record { answer = ap (Ends q) z; leaves = λ f. tt; others = λ i f. refl; kept = λ i f. refl; binders-size = bl; leaves-size = ll }
 
 module _ (s : List ℕ) (t : Tree) (ts : Forest) (Γ : Ctx) (depth k q p : ℕ) (b₀ l₀ b₁ l₁ : List ℕ) where
+  -- what is not of the row is not of its first tree
+  sooner : (i : ℕ) → (i < k) ⊎ (k + (nodes t + nodesIn ts) ≤ i) → (i < k) ⊎ (k + nodes t ≤ i)
+  sooner i (inl h) = inl h
+  sooner i (inr h) = inr (omega arith)
+
   walk-stop : Walk s t Γ depth k p b₀ l₀ b₁ l₁ Refused → WalkAll s (cons t ts) Γ depth k q b₀ l₀ b₁ l₁ Refused
   unfolding closedTree LeavesAt nodes
   walk-stop w =
@@ -59,10 +64,6 @@ module _ (s : List ℕ) (t : Tree) (ts : Forest) (Γ : Ctx) (depth k q p : ℕ) 
         binders-size = w .binders-size;
         leaves-size = w .leaves-size;
       }
-    where
-      sooner : (i : ℕ) → (i < k) ⊎ (k + (nodes t + nodesIn ts) ≤ i) → (i < k) ⊎ (k + nodes t ≤ i)
-      sooner i (inl h) = inl h
-      sooner i (inr h) = inr (omega arith)
 
   walk-cons : (b₂ l₂ : List ℕ) (r : Bound) → Walk s t Γ depth k p b₀ l₀ b₁ l₁ (Ends p (k + nodes t)) → WalkAll s ts Γ depth (k + nodes t) q b₁ l₁ b₂ l₂ r
       → WalkAll s (cons t ts) Γ depth k q b₀ l₀ b₂ l₂ r
@@ -80,10 +81,6 @@ module _ (s : List ℕ) (t : Tree) (ts : Forest) (Γ : Ctx) (depth k q p : ℕ) 
         leaves-size = v .leaves-size;
       }
     where
-      sooner : (i : ℕ) → (i < k) ⊎ (k + (nodes t + nodesIn ts) ≤ i) → (i < k) ⊎ (k + nodes t ≤ i)
-      sooner i (inl h) = inl h
-      sooner i (inr h) = inr (omega arith)
-
       later : (i : ℕ) → (i < k) ⊎ (k + (nodes t + nodesIn ts) ≤ i) → (i < k + nodes t) ⊎ (k + nodes t + nodesIn ts ≤ i)
       later i (inl h) = inl (omega arith)
       later i (inr h) = inr (omega arith)

@@ -16,8 +16,9 @@ use Rattle.frame.specs.Places.{Ctx, under, found, find}
 use Rattle.frame.proofs.Splices.{find-lt}
 use Rattle.frame.proofs.Within.{kids-of, kid-first, kid-next}
 use Rattle.frame.proofs.Forests.{count-append, encs-append}
+use Rattle.frame.proofs.Extents.{some-node}
 use Rattle.nav.specs.PlaceTables.{Table, Placed, PlacedIn, ChildrenPost}
-use Rattle.nav.proofs.Hops.{place-sorted, some-node}
+use Rattle.nav.proofs.Hops.{place-sorted}
 use Rattle.nav.proofs.SamePlaces.{only-child}
 use Rattle.rules.specs.Change.{Change, joined}
 use Rattle.rules.specs.EqualsEmptySet.{minusOf, minuend, withSubtrahend, minuends, subtrahends}

@@ -22,7 +22,7 @@ use Rattle.rules.proofs.Operands.{count-map}
 use Rattle.nav.specs.PlaceTables.{Table, Placed, TagPost, ChildrenPost}
 use Rattle.nav.proofs.Hops.{framed-few, Sorted, place-sorted}
 use Rattle.nav.proofs.SamePlaces.{only-child, two-children}
-use Rattle.rules.specs.Change.{Change, to, same, _orElse_, onTag, with2, joined}
+use Rattle.rules.specs.Change.{Change, to, same, _orElse_, onTag, with2}
 use Rattle.templates.specs.Template.{filled}
 use Rattle.templates.specs.Programs.{template}
 use Rattle.templates.proofs.RightSides.{sides, isIn, side, right-side}
@@ -232,11 +232,6 @@ each-bytes place Δ us f h (cons a ks) = ap₂ (λ (x y : List ℕ). x ++ y) (h 
 -- the bytes of an operator over a list
 abbrev pub Joins : ℕ → Type 0
 Joins o = (ls : Forest) → enc (many o ls) ≡ encNumber 2 o ++ (count ls ∷ encs ls)
-
-pub joined-many : (o : ℕ) (f : Tree → Tree) (ks : Forest) → 2 ≤ count ks → joined o (mapF f ks) ≡ many o (mapF f ks)
-joined-many o f nil h = absurd (omega arith)
-joined-many o f (cons a nil) h = absurd (omega arith)
-joined-many o f (cons a (cons b ks)) h = refl
 
 pub each-means : (t : Tree) (place at binder : ℕ) (c : Change) → Joins (joint place) → (f : Tree → Tree) (ks : Forest) → c ≡ to place (many (joint place) (mapF f ks))
     → (Ξ : Ctx) (g n : ℕ) (vs : List Ty) → find t [] at ≡ found Ξ (node (head g n vs) ks) → count ks ≤ 255

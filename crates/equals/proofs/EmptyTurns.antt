@@ -11,6 +11,7 @@ use Rattle.typing.specs.Typing.{typeOf}
 use Rattle.nav.specs.PlaceTables.{TagPost}
 use Rattle.rules.specs.Change.{to, same, onTag}
 use Rattle.rules.specs.EqualsEmptySet.{interEmpty, rewriteEqualsEmptySet}
+use Rattle.rules.proofs.EmptyInstance.{joined-many}
 use Rattle.templates.proofs.Joins.{and-bytes}
 use Rattle.templates.proofs.RightSides.{side}
 use Rattle.decision.specs.Decides.{Here, Decides, Unlike}
@@ -18,7 +19,7 @@ use Rattle.inter.specs.Inter.{InterPre, InterPost}
 use Rattle.decision.specs.RulesAt.{lookedUp}
 use Rattle.decision.specs.declared.Decision.{Decision}
 use Rattle.decision.specs.declared.Decision.the-variants as D
-use Rattle.decision.proofs.Shapes.{any, OfNode, OfChild, OfTwo, OfEach, OfPair, by-rest, by-double, by-each, by-pair, joined-many, or-same, two-or-none}
+use Rattle.decision.proofs.Shapes.{any, OfNode, OfChild, OfTwo, OfEach, OfPair, by-rest, by-double, by-each, by-pair, or-same, two-or-none}
 use Rattle.decision.proofs.TagRows.{Row, row, isRow, by-children, by-doubles, by-nodes}
 
 -- ---- the tags, each with its place

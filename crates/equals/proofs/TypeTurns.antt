@@ -11,11 +11,12 @@ use Rattle.typing.specs.Typing.{typeOf}
 use Rattle.nav.specs.PlaceTables.{TagPost}
 use Rattle.rules.specs.Change.{to, same, onTag}
 use Rattle.rules.specs.EqualsType.{rewriteEqualsType}
+use Rattle.rules.proofs.EmptyInstance.{joined-many}
 use Rattle.templates.proofs.Joins.{and-bytes}
 use Rattle.templates.proofs.RightSides.{side}
 use Rattle.decision.specs.Decides.{Decides}
 use Rattle.decision.specs.declared.Decision.the-variants as D
-use Rattle.decision.proofs.Shapes.{OfChild, OfTwo, OfEach, by-rest, by-single, by-double, by-each, joined-many}
+use Rattle.decision.proofs.Shapes.{OfChild, OfTwo, OfEach, by-rest, by-single, by-double, by-each}
 use Rattle.decision.proofs.TagRows.{Row, row, isRow, by-doubles}
 
 -- ---- the tags, each with its place

@@ -1,5 +1,5 @@
 -- How far trees reach: where a tree that is read ends, and how many nodes and bytes it has.
--- Main results: node-end, node-fuel (more fuel reads the same), nodes-enc, nodesIn-encs, starts-length, startsIn-length,
+-- Main results: node-end, node-fuel (more fuel reads the same), some-node, nodes-enc, nodesIn-encs, starts-length, startsIn-length,
 -- starts-first, starts-rest (the table of starts, at a place of the first tree and of the others).
 use mathlib.Core.Path.{_≡_, refl, ap}
 use mathlib.Core.List.{List, _++_}
@@ -27,6 +27,11 @@ module _ (f : ℕ) (s : List ℕ) (bs : Bytes s) where
   pub many-fuel : (es : List Sort) (at : ℕ) (ts : Forest) (q : ℕ) → at ≤ length s → readMany es (readNode f s) at ≡ okF ts q
       → (k : ℕ) → q < at + k → readMany es (readNode k s) at ≡ okF ts q
   many-fuel es at ts q h eq k l = many-back ts k s es at q (many-enc f s bs es at ts q h eq) (many-wf f s bs es at ts q h eq) l
+
+-- a tree has a node
+pub some-node : (t : Tree) → 0 < nodes t
+unfolding nodes
+some-node (node h ks) = omega arith
 
 -- each node has two bytes at least
 mutual

@@ -14,6 +14,7 @@ use Rattle.frame.specs.Tags.{pick}
 use Rattle.frame.specs.Places.{Ctx, under, found, find, findIn}
 use Rattle.frame.proofs.AtPlace.{absent-not}
 use Rattle.frame.proofs.Splices.{find-lt}
+use Rattle.frame.proofs.Extents.{some-node}
 
 -- in the first tree, or past it
 first-side : (t : Tree) (ts : Forest) (Γ : Ctx) (k : ℕ) → k < nodes t → findIn (cons t ts) Γ k ≡ find t Γ k
@@ -71,14 +72,10 @@ root-found : (w : Tree) (Θ : Ctx) → find w Θ 0 ≡ found Θ w
 unfolding find
 root-found (node h ks) Θ = refl
 
-nodes-positive : (w : Tree) → 0 < nodes w
-unfolding nodes
-nodes-positive (node h ks) = omega arith
-
 pub kid-first : (t : Tree) (Γ : Ctx) (k : ℕ) (Θ : Ctx) (w : Tree) (ks : Forest) → KidsAtPlace t Γ k Θ (cons w ks) → find t Γ k ≡ found Θ w
 kid-first t Γ k Θ w ks h =
     let z : k + 0 ≡ k = omega arith in
-    rw z at (h 0 Θ w (first-side w ks Θ 0 (nodes-positive w) ∙ root-found w Θ))
+    rw z at (h 0 Θ w (first-side w ks Θ 0 (some-node w) ∙ root-found w Θ))
 
 pub kid-next : (t : Tree) (Γ : Ctx) (k : ℕ) (Θ : Ctx) (w : Tree) (ks : Forest) → KidsAtPlace t Γ k Θ (cons w ks) → KidsAtPlace t Γ (k + nodes w) Θ ks
 kid-next t Γ k Θ w ks h i Ξ x e =

@@ -1,5 +1,5 @@
 -- Places by the tables: what stands at a place, and how hops from place to place meet the children of a node.
--- Main results: framed-few, place-root, some-node; place-formed, place-sorted, place-stands (what stands at a place); place-end (its last place);
+-- Main results: framed-few; place-formed, place-sorted, place-stands (what stands at a place); place-end (its last place);
 -- child-first, child-next (a node's children in their order); hops-kids, hops-node (as many hops as children lead past a node);
 -- next-start, ends-inside, ends-last (where a subtree ends).
 use mathlib.Core.Path.{_≡_, refl, sym, ap, _∙_}
@@ -28,15 +28,6 @@ use Rattle.nav.specs.PlaceTables.{arity, Framed, NextsFrom, hops, HopsIn
 -- a frame's tree has few nodes
 pub framed-few : (s : List ℕ) (t : Tree) (st : List ℕ) (n : ℕ) → Framed s t st n → nodes t ≤ 2048
 framed-few s t st n f = let z : length s ≡ length (enc t) = ap length (f .bytes) in omega (arith, f .short, nodes-enc t)
-
--- the root is at place 0
-pub place-root : (t : Tree) (Γ : Ctx) → find t Γ 0 ≡ found Γ t
-unfolding find
-place-root (node h ks) Γ = refl
-
-pub some-node : (t : Tree) → 0 < nodes t
-unfolding nodes
-some-node (node h ks) = omega arith
 
 -- trees of some sort, children of some sorts
 abbrev pub Sorted : Tree → Type 0

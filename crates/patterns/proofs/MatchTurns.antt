@@ -164,7 +164,7 @@ fit-at i [] f = tt
 fit-at zero (t ∷ ρ) f = f .0
 fit-at (suc i) (t ∷ ρ) f = fit-at i ρ (f .1)
 
-fit-snoc : (ρ : List Ty) (t : Ty) → TysFit ρ → TyWf t → TysFit (ρ ++ (t ∷ []))
+pub fit-snoc : (ρ : List Ty) (t : Ty) → TysFit ρ → TyWf t → TysFit (ρ ++ (t ∷ []))
 fit-snoc [] t f w = (w, tt)
 fit-snoc (u ∷ ρ) t f w = (f .0, fit-snoc ρ t (f .1) w)
 

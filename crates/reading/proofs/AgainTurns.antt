@@ -20,7 +20,7 @@ use Rattle.reading.specs.Post.{frameAnswer, tableSize, tableOf, PlacesPr
 use Rattle.reading.specs.declared.FrameAnswer.the-variants as F
 use Rattle.frame.proofs.Spans.{span-left, span-right, span-join}
 use Rattle.frame.proofs.Frames.{parse-inv}
-use Rattle.frame.proofs.Extents.{nodes-enc, starts-length}
+use Rattle.frame.proofs.Extents.{nodes-enc, starts-length, some-node}
 use Rattle.frame.proofs.Forests.{encs-append, wfs-append, nodes-append, starts-append}
 use Rattle.reading.proofs.FrameTurns.{sets-zeros}
 use Rattle.heads.proofs.View.{at-span, at-wf, stands-at, parse-at, kids-span, kids-wf, View, view}
@@ -64,10 +64,7 @@ places-end s at k t₀ h = record { by = λ ts es a. go ts es a }
     go : (ts : Forest) (es : List Sort) → Rest s at ts es → (k ≡ k + nodesIn ts) × (t₀ ≡ sets t₀ k (startsIn ts at))
     go nil es a = (omega arith, refl)
     go (cons t ts) [] a = absurd (a .wf)
-    go (cons t ts) (e ∷ es) a = absurd (omega (arith, a .span .long, length-append (enc t) (encs ts), nodes-enc t, some t))
-      where
-        some : (u : Tree) → 0 < nodes u
-        some (node h ks) = omega arith
+    go (cons t ts) (e ∷ es) a = absurd (omega (arith, a .span .long, length-append (enc t) (encs ts), nodes-enc t, some-node t))
 
 -- the tree by its head
 seen : (s : List ℕ) → Bytes s → (e : Sort) (at : ℕ) (t : Tree) (q : ℕ) → IsAt s e at t q → (h : Head) (tp p : ℕ) (es : List Sort) → readHead s at e ≡ okH h tp p es

@@ -16,7 +16,8 @@ use Rattle.frame.specs.Spans.{Spans}
 use Rattle.frame.proofs.Spans.{span-join}
 use Rattle.frame.proofs.Inversion.{many-inv}
 use Rattle.type_rules.specs.Patterns.{ownTypes}
-use Rattle.patterns.specs.PatternPosts.{TysFit, RowAt, Kept}
+use Rattle.patterns.specs.PatternPosts.{RowAt, Kept}
+use Rattle.patterns.proofs.MatchTurns.{fit-snoc}
 use Rattle.synthesis.specs.Machine.{is, Open, given}
 use Rattle.type_rules.specs.Patterns.{Operands}
 use Rattle.synthesis.specs.TypingPosts.{Held, Stack}
@@ -37,13 +38,9 @@ unfolding encTys
 tys-snoc [] t = append-nil (encTy t)
 tys-snoc (u ∷ us) t = ap (λ (xs : List ℕ). encTy u ++ xs) (tys-snoc us t) ∙ sym (append-assoc (encTy u) (encTys us) (encTy t))
 
-pub fit-more : (us : List Ty) (t : Ty) → TysFit us → TyWf t → TysFit (us ++ (t ∷ []))
-fit-more [] t f w = (w, tt)
-fit-more (u ∷ us) t f w = (f .0, fit-more us t (f .1) w)
-
 pub row-more : (o p : List ℕ) (at n m : ℕ) (us : List Ty) (t : Ty) → Kept o p n → RowAt o at n us → Spans p n m (encTy t) → TyWf t → RowAt p at m (us ++ (t ∷ []))
 row-more o p at n m us t k r a w =
-    record { span = subst (λ (xs : List ℕ). Spans p at m xs) (sym (tys-snoc us t)) (span-join (row-kept o p at n us k r .span) a); fit = fit-more us t (r .fit) w }
+    record { span = subst (λ (xs : List ℕ). Spans p at m xs) (sym (tys-snoc us t)) (span-join (row-kept o p at n us k r .span) a); fit = fit-snoc us t (r .fit) w }
 
 -- the types that an open node has in the buffer
 abbrev pub shown : Open → List Ty

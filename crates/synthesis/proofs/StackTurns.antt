@@ -21,6 +21,7 @@ use Rattle.frame.proofs.Inversion.{many-inv}
 use Rattle.frame.proofs.ReadTrees.{node-enc}
 use Rattle.frame.proofs.ReadBack.{enc-long}
 use Rattle.frame.proofs.Forests.{no-kids}
+use Rattle.frame.proofs.Extents.{some-node}
 use Rattle.typing.specs.Typing.{result, nodeTyped, typedTree}
 use Rattle.typing.specs.Leaves.{LeavesAt, LeavesIn}
 use Rattle.type_rules.specs.Patterns.{ownTypes, ruleAt, Judged, typed, wrong, judge}
@@ -167,10 +168,6 @@ row-count : (k : Tree) (ks : Forest) → nodesIn (cons k ks) ≡ nodes k + nodes
 unfolding nodes
 row-count k ks = refl
 
-pub node-some : (k : Tree) → 0 < nodes k
-unfolding nodes
-node-some (node h ks) = omega arith
-
 -- the open node without its next operand
 abbrev without : Open → Forest → Open
 without o ks = opened (o .tag) (o .payload) (o .types) (o .ctx) (o .done) ks
@@ -254,7 +251,7 @@ module _ (t l f s leaves types : List ℕ) (bs : Bytes s) (st : State) (left : g
         let a = kid-at .1 in
         let w = tree-long s bs (a .sort) (st .at) (next-kid .0) (a .mid) (a .tree) in
         let p = place-stop t l f s leaves types base stop 0 o ps (st .end) (st .at) (st .place) (run .stack) in
-        (omega (arith, h .deep, w .0, w .1, run .frame), omega (arith, p, ap nodesIn (next-kid .2), row-count (next-kid .0) (next-kid .1), node-some (next-kid .0), run .places))
+        (omega (arith, h .deep, w .0, w .1, run .frame), omega (arith, p, ap nodesIn (next-kid .2), row-count (next-kid .0) (next-kid .1), some-node (next-kid .0), run .places))
 
   pub turn-space : TurnPre t l f s leaves types st → (st .top + 1 < 2048) × (st .place < 2048)
   turn-space x = open-room (x .base) (x .stop) (x .o) (x .ps) (x .running)

@@ -20,6 +20,7 @@ use Rattle.patterns.specs.PatternPosts.{RowAt}
 use Rattle.synthesis.specs.Machine.{Answer, is, bad, Open, opened, closeUp, answerOf}
 use Rattle.type_rules.specs.Patterns.{Operands}
 use Rattle.frame.specs.At.{IsAt}
+use Rattle.frame.proofs.Extents.{some-node}
 use Rattle.synthesis.specs.TypingPosts.{LeafAt, OpenPre, NodeOpen, Opening, tagsWith, leftsWith, fromsWith, NodePost, Held, Running, Ending, Top, TurnsPre, TurnsPost, TypePre, Typing, TypePost}
 use Rattle.patterns.specs.declared.Typed.{Typed}
 use Rattle.patterns.specs.declared.Typed.the-variants as T
@@ -28,7 +29,7 @@ use Rattle.synthesis.specs.declared.State.{State}
 use Rattle.synthesis.specs.declared.Opened.{Opened}
 use Rattle.synthesis.specs.declared.Opened.the-variants as O
 use Rattle.synthesis.proofs.Machine.{machine-start}
-use Rattle.synthesis.proofs.StackTurns.{leaf-of, kids-leaves, node-count, node-some}
+use Rattle.synthesis.proofs.StackTurns.{leaf-of, kids-leaves, node-count}
 
 -- tables with nothing in them, which the root is put on
 none : List ℕ
@@ -40,7 +41,7 @@ none-long = length-replicate {A = ℕ} 2048 0
 
 module _ (s : List ℕ) (at place : ℕ) (leaves : List ℕ) where
   pub type-place : {types : List ℕ} → TypePre s at place leaves types → place < 2048
-  type-place x = omega (arith, x .places, node-some (x .tree))
+  type-place x = omega (arith, x .places, some-node (x .tree))
 
   pub tree-open : {types : List ℕ} → TypePre s at place leaves types → (leaf : ℕ) → leaf ≡ getD leaves place 0 → OpenPre s at leaf types 0
   tree-open x leaf el = record {
