@@ -53,7 +53,7 @@ fn wide(n: u16) -> Bytes {
     many(351, &kids)
 }
 
-/// ¬ ⊥ over a conjunction of conjunctions, of about so many bytes: the step is at the root, the rest is read and checked.
+/// A conjunction of conjunctions ⇒ ⊥, of about so many bytes: the step is at the root, the rest is read and checked.
 fn mixed(bytes: usize) -> Bytes {
     let part = |i: u16| many(351, &[truth(2 * i + 1), truth(2 * i + 2)]);
     let parts = ((bytes / part(0).len()) as u16).clamp(1, 170);

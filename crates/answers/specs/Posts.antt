@@ -53,7 +53,7 @@ pub record Holds (st : LineState) (b held : List ℕ) : Type 0 where
   pub state : st ≡ lineState held
   pub buffer : b ≡ lineBuffer old held
 
--- the line ends: its answer
+-- the line ends: its answer; of a state that no line leaves, only how long it is at most
 pub record LinePost (st : LineState) (b o : List ℕ) (n : ℕ) (p : List ℕ) (m : ℕ) : Type 0 where
   pub puts : (held : List ℕ) → Holds st b held → Appends o n (lineText held) p m
   pub room : m ≤ n + longest

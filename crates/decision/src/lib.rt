@@ -8,7 +8,7 @@ pub enum Decision {
     // no rule applies
     Rests,
     // a right side of a fixed pattern, its two operands, and the node whose binders it takes; the pattern is the place's own, or
-    // 64 (the operand itself) where a negation is removed
+    // 64 (the operand itself) where a negation is removed, or 1 or 2 (⊤ or ⊥) where ∧ or ∨ is decided
     Fixed {
         place: usize,
         pattern: usize,

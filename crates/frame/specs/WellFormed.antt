@@ -1,4 +1,4 @@
--- Well formed trees: those that are read from some bytes. `frame/proofs` shows both directions: a tree that is read is
+-- Well formed trees: those that `readNode` gives for some bytes, however many. `frame/proofs` shows both directions: a tree that is read is
 -- well formed, and the bytes of a well formed tree are read as that tree.
 use mathlib.Core.Path.{_≡_}
 use mathlib.Core.Bool.{true}

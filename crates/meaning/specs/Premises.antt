@@ -12,8 +12,8 @@ use Rattle.meaning.specs.Lists.{any}
 use Rattle.meaning.specs.Operations.{opOf}
 use Rattle.meaning.specs.Meaning.{Interpretation, Vals, truth, kid, setOf, some, choices, bindersIn, meansAll}
 
--- ---- "Integers only as single numbers": no type in the first tree, carried or derived, holds 01 inside another type, and
--- no binder has type 01
+-- ---- "Integers only as single numbers: no type in the first tree, carried or derived, holds 01 inside another type, and
+-- no binder has type 01"
 -- the type holds no integers; none but the type itself
 abbrev pub NoInt : Ty → Type 0
 NoInt bool = Unit {0}
@@ -46,8 +46,8 @@ unfoldable mutual
   SingleIntegersIn nil Γ = Unit {0}
   SingleIntegersIn (cons t ts) Γ = SingleIntegers t Γ × SingleIntegersIn ts Γ
 
--- ---- "No intersection over nothing": at each 755 and 802 of the first tree, for every choice of values of the binders
--- around that node, the operand of 755 has a member, and the predicate of 802 is true for some values of its own binders
+-- ---- "No intersection over nothing: at each 755 and 802 of the first tree, for every choice of values of the binders
+-- around that node, the operand of 755 has a member, and the predicate of 802 is true for some values of its own binders"
 module _ (I : Interpretation) where
   unfoldable mutual
     pub NoInterOverNothing : Tree → Ctx → Type 0

@@ -1,4 +1,4 @@
--- A part of a template by the first byte of its code; the ways out of `put_part`, and the turns of `run`.
+-- A part of a template by the first byte of its code; the ways out of `put_part`, and the turns of `run_program`.
 use mathlib.Core.Path.{_≡_, refl, sym, ap, _∙_, subst}
 use mathlib.Core.List.{List, [], _∷_, _++_, append-assoc, append-nil}
 use Prim.Native.Nat.{ℕ, zero, suc, _+_, _≤_, _<_}
@@ -256,7 +256,7 @@ module _ (g : List ℕ) (at : ℕ) (s types : List ℕ) (r : Ranges) where
           as-bytes p binders f e (puts-as o n q k _ _ (between-span s (r .binders) (r .«binders_end») _ (as-part p binders f e h a .1)) w));
     }
 
--- ---- the turns of `run`
+-- ---- the turns of `run_program`
 -- what is left of the template ps, and that what was written is what came before
 pub record Left (g s types : List ℕ) (r : Ranges) (o : List ℕ) (n : ℕ) (ps : List Part) (f : Filling) (at : ℕ) (q : List ℕ) (k : ℕ) : Type 0 where
   pub left : List Part

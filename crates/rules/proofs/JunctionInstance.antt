@@ -128,7 +128,7 @@ finish-instance : {Γ : Ctx} {g n d : ℕ} → Junction g n d → (m : ℕ) (ps 
     → Is (λ p u. Equation Γ p (many g ps) u) (finish g n d m k)
 finish-instance {g} {n} {d} j m ps c decided (inl h) = gives (Equations.«SIMP_SPECIAL_AND_BFALSE/OR_BTRUE» g n d ps j h)
 finish-instance {g} {n} {d} j m ps c decided (inr h) = gives (Equations.«SIMP_MULTI_AND_NOT/OR_NOT» g n d ps (h .0) j (h .1) (h .2))
-finish-instance {g} {n} {d} j m ps c (kept nil) h = gives (Equations.«SIMP_SPECIAL_AND_BTRUE/OR_BFALSE/none» g n d ps j h)
+finish-instance {g} {n} {d} j m ps c (kept nil) h = gives (Equations.«SIMP_SPECIAL_AND_BTRUE/OR_BFALSE/MULTI_AND/OR/none» g n d ps j h)
 finish-instance {g} {n} {d} j m ps c (kept (cons a nil)) h = gives (Equations.«SIMP_SPECIAL_AND_BTRUE/OR_BFALSE/MULTI_AND/OR/one» g n d ps a j h)
 finish-instance {g} {n} {d} j m ps c (kept (cons a (cons b ks))) h =
     by-test (not (eqb (count (cons a (cons b ks))) m)) (λ i. gives (Equations.«SIMP_SPECIAL_AND_BTRUE/OR_BFALSE/MULTI_AND/OR» g n d ps a b ks j h (λ e. other-count (count (cons a (cons b ks))) m i (e ∙ sym c))))

@@ -114,12 +114,13 @@ pub data Dropped (neutral : ℕ) : Forest → Forest → Type 0 where
   literal : (ks ls left right : Forest) → ks ≡ append left (cons (leaf neutral) right) → Dropped neutral (append left right) ls → Dropped neutral ks ls
   repeated : (ks ls left right : Forest) (q : Tree) → ks ≡ append left (cons q right) → Among q left → Dropped neutral (append left right) ls → Dropped neutral ks ls
 
--- n is ¬p; a double negation is removed
+-- n is ¬p, or p is ¬n: a double negation may go
 pub data Opposite : Tree → Tree → Type 0 where
   negated : (p : Tree) → Opposite p (¬ᵖ p)
   restored : (p : Tree) → Opposite (¬ᵖ p) p
 
--- (A ∖ B), C, (D ∖ E): the operands A, C, D and the subtracted B, E
+-- (A ∖ B), C, (D ∖ E): the operands A, C, D and the subtracted B, E. An operand may be taken as it stands, one with a ∖ too: the
+-- equation holds for any of them (the source moves all).
 pub data Subtracted : Forest → Forest → Forest → Type 0 where
   none : Subtracted nil nil nil
   minus : (a b : Tree) (ks ls ms : Forest) → Subtracted ks ls ms → Subtracted (cons (two #SetMinus a b) ks) (cons a ls) (cons b ms)
@@ -241,7 +242,7 @@ pub data Equation (Γ : Ctx) : ℕ → Tree → Tree → Type 0 where
   «SIMP_MULTI_AND_NOT/OR_NOT» : (g n d : ℕ) (ps : Forest) (q : Tree) → Junction g n d → Among q ps → Among (¬ᵖ q) ps → Equation Γ 62 (many g ps) (leaf d)
   -- SIMP_SPECIAL_AND_BTRUE and SIMP_MULTI_AND, SIMP_SPECIAL_OR_BFALSE and SIMP_MULTI_OR: nothing is left, one, or more; some
   -- operand is dropped
-  «SIMP_SPECIAL_AND_BTRUE/OR_BFALSE/none» : (g n d : ℕ) (ps : Forest) → Junction g n d → Dropped n ps nil → Equation Γ 63 (many g ps) (leaf n)
+  «SIMP_SPECIAL_AND_BTRUE/OR_BFALSE/MULTI_AND/OR/none» : (g n d : ℕ) (ps : Forest) → Junction g n d → Dropped n ps nil → Equation Γ 63 (many g ps) (leaf n)
   «SIMP_SPECIAL_AND_BTRUE/OR_BFALSE/MULTI_AND/OR/one» : (g n d : ℕ) (ps : Forest) (p : Tree) → Junction g n d → Dropped n ps (sole p) → Equation Γ 64 (many g ps) p
   «SIMP_SPECIAL_AND_BTRUE/OR_BFALSE/MULTI_AND/OR» : (g n d : ℕ) (ps : Forest) (p q : Tree) (qs : Forest) → Junction g n d → Dropped n ps (cons p (cons q qs))
       → (count (cons p (cons q qs)) ≡ count ps → ⊥)

@@ -13,7 +13,7 @@ const LENT_LIMIT: usize = 8192;
 
 // ---- what a step answers
 
-// What the output holds before the step: no byte of it is 0, which every frame begins with.
+// What the output holds before the step: bytes that go by their place, so that one that was written or moved is seen.
 fn pattern(i: usize) -> u8 {
     (i % 251 + 1) as u8
 }

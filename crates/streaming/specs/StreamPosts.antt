@@ -36,7 +36,8 @@ pub record FeedPost (piece : List ℕ) (st : LineState) (b o : List ℕ) (st' : 
   pub within : taken ≤ length piece
   pub room : n ≤ length o'
 
--- the input ends: the answer of the last line, if there is one, where the output has room for an answer; else nothing is written
+-- the input ends: the answer of the last line, if there is one, where the output has room for an answer; else nothing is written. Of a state
+-- that no line leaves, only that m fits.
 pub record FinishPost (st : LineState) (b o p : List ℕ) (m : ℕ) : Type 0 where
   pub puts : longest ≤ length o → (held : List ℕ) → Holds st b held → Appends o 0 (lastAnswer held) p m
   pub short : length o < longest → (p ≡ o) × (m ≡ 0)

@@ -1,5 +1,5 @@
--- What it is for a tree to be accepted, said at each node: the numbers 3 to 10 can't arise. `check` decides it
--- (typing/proofs); the rules keep it (rules/proofs).
+-- What it is for a tree to be accepted, said at each node: the numbers 3 to 10 can't arise. Of trees whose bytes are no more than a frame
+-- may have, `check` accepts just these (typing/proofs); the rules keep it (rules/proofs).
 --
 -- σ gives each identifier number its type. Number 9 is turned down exactly where there is no such σ.
 use mathlib.Core.Path.{_≡_}

@@ -5,11 +5,12 @@ use lib.ListN.{length}
 use lib.Dec.{eqb, ltb}
 use Rattle.frame.specs.Trees.{head, Tree, node, Forest, nil, cons}
 use Rattle.frame.specs.Tags.{pick}
+use Rattle.frame.specs.Operators.{#BoundIdent}
 use Rattle.frame.specs.Places.{Ctx, under}
 
 -- the tag of bound identifiers
 abbrev pub boundTag : ℕ
-boundTag = 3
+boundTag = #BoundIdent
 
 -- a node's own index is below the number of binders around it
 abbrev pub indexBound : ℕ → ℕ → Ctx → Bool

@@ -7,12 +7,13 @@ use lib.Dec.{eqb}
 use Rattle.frame.specs.Types.{Ty, bool, int, given, pow, prod}
 use Rattle.frame.specs.Trees.{head, Tree, node, Forest, nil, cons}
 use Rattle.frame.specs.Tags.{pick}
+use Rattle.frame.specs.Operators.{#FreeIdent}
 use Rattle.frame.specs.Sameness.{sameTy}
 use Rattle.typing.specs.Typing.{carriedTy}
 
 -- the tag of identifiers
 abbrev pub identTag : ℕ
-identTag = 1
+identTag = #FreeIdent
 
 -- an identifier's number and the type that it carries
 pub data Named : Type 0 where

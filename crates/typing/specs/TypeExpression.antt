@@ -3,11 +3,12 @@
 use mathlib.Core.List.{[], _∷_}
 use Rattle.frame.specs.Types.{Ty, bool, int, given, pow, prod}
 use Rattle.frame.specs.Trees.{head, Tree, node, nil, leaf, one, two}
+use Rattle.frame.specs.Operators.{#FreeIdent, #CProd, #Integer, #Bool, #Pow}
 
 -- "`to_expression` calls itself on the smaller type."
 unfoldable pub toExpression : Ty → Tree
-toExpression bool = leaf 404
-toExpression int = leaf 401
-toExpression (given n) = node (head 1 n (pow (given n) ∷ [])) nil
-toExpression (pow t) = one 752 (toExpression t)
-toExpression (prod t u) = two 214 (toExpression t) (toExpression u)
+toExpression bool = leaf #Bool
+toExpression int = leaf #Integer
+toExpression (given n) = node (head #FreeIdent n (pow (given n) ∷ [])) nil
+toExpression (pow t) = one #Pow (toExpression t)
+toExpression (prod t u) = two #CProd (toExpression t) (toExpression u)

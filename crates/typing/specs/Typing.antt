@@ -11,6 +11,7 @@ use lib.Dec.{leb, eqb}
 use Rattle.frame.specs.Types.{Ty, bool, int, given, pow, prod}
 use Rattle.frame.specs.Trees.{head, Tree, node, Forest, nil, cons}
 use Rattle.frame.specs.Tags.{Class, literalPred, equality, order, membership, inclusion, binaryPred, associativePred, negation, quantifiedPred, finite, partition, identifier, bound, literal, setExtension, maplet, relationSet, setMinus, cartesian, directProduct, parallelProduct, domainRestriction, rangeRestriction, upTo, arithmetic, functionImage, relationalImage, setOperation, backwardComposition, forwardComposition, override, sum, integerSet, boolSet, truthValue, integerRelation, emptySet, projection1, projection2, identity, boolExpr, cardinal, powerset, generalised, domain, range, extremum, converse, unaryMinus, quantifiedSet, comprehension, unlisted, classOf, pick}
+use Rattle.frame.specs.Operators.{#EmptySet, #KPrj1Gen, #KPrj2Gen, #KIdGen}
 use Rattle.frame.specs.Encoding.{encTy}
 use Rattle.frame.specs.Reading.{typeLimit}
 use Rattle.frame.specs.Places.{Ctx, under}
@@ -87,7 +88,8 @@ typeAt (t ∷ Γ) (suc i) = typeAt Γ i
 -- type and bound identifiers: `None` where operands are not as wanted.
 abbrev pub wants : Class → List Ty → List Ty
 wants literalPred ts = []
--- = and ≠ take two of one type; < ≤ > ≥ integers; ∈ and ∉ a member and a power of its type; ⊂ ⊄ ⊆ ⊈ two of one power type
+-- By the language: = and ≠ take two of one type; < ≤ > ≥ integers; ∈ and ∉ a member and a power of its type; ⊂ ⊄ ⊆ ⊈ two of one power
+-- type; finite a set; partition a set and its parts, all of one power type
 wants equality ts = ty 0 ts ∷ ty 0 ts ∷ []
 wants order ts = int ∷ int ∷ []
 wants membership ts = ty 0 ts ∷ pow (ty 0 ts) ∷ []
@@ -204,10 +206,10 @@ result unlisted n us Γ ts = bool
 -- its own shape passes `verify_atomic_type` of expression.rs.
 abbrev pub shape : ℕ → Ty → Ty
 shape g t =
-    pick (eqb g 407) (pow (element t))
-    (pick (eqb g 410) (relation (prod (first (source t)) (second (source t))) (first (source t)))
-    (pick (eqb g 411) (relation (prod (first (source t)) (second (source t))) (second (source t)))
-    (pick (eqb g 412) (relation (source t) (source t))
+    pick (eqb g #EmptySet) (pow (element t))
+    (pick (eqb g #KPrj1Gen) (relation (prod (first (source t)) (second (source t))) (first (source t)))
+    (pick (eqb g #KPrj2Gen) (relation (prod (first (source t)) (second (source t))) (second (source t)))
+    (pick (eqb g #KIdGen) (relation (source t) (source t))
     t)))
 
 -- ---- the type of an expression in its binder context (a predicate's is bool)

@@ -28,7 +28,7 @@ pub data Scale : Type 0 where
   total : Scale
   -- c (n + 1) Π
   binding : ℕ → Scale
-  -- of a type ℙ(s × _): the weight of s, and 1
+  -- of a type ℙ(s × _): the weight of s times Π, and 1 (Π is 1: these have no operands)
   relating : Scale
 
 pub data ScaleRow : Type 0 where

@@ -1,4 +1,4 @@
--- `typing::lent_turns` meets its contract: a walk of its MIR, by hand. The array is filled with one record, lent as a slice for a
+-- `synthesis::lent_turns` meets its contract: a walk of its MIR, by hand. The array is filled with one record, lent as a slice for a
 -- lifetime that is made for the call of `turns`, and taken back. The buffer is given to the callee for good.
 use mathlib.Core.Path.{_≡_, refl, sym, subst}
 use Prim.Native.Nat.{ℕ, zero, suc}

@@ -1,4 +1,4 @@
--- `typing::turns` meets its contract: a walk of its MIR, by hand. The whole context is the loop's invariant, at what the stack, the
+-- `synthesis::turns` meets its contract: a walk of its MIR, by hand. The whole context is the loop's invariant, at what the stack, the
 -- buffer, the node at hand and the state are. A turn lends the buffer again to `one_turn`; what that answers is taken by cases, and the
 -- stack is lent again to `push` or to `pop`.
 use mathlib.Core.Path.{_≡_, refl, sym, ap, _∙_, subst}

@@ -42,7 +42,7 @@ use Rattle.synthesis.specs.OpenNodes.{noNode}
 use Rattle.synthesis.specs.declared.stack.OpenNode.{OpenNode}
 use Rattle.synthesis.proofs.stack.OpenNode as T
 use Rattle.synthesis.proofs.stack.OpenNode.Laws as T′
-use Rattle.synthesis.proofs.stack.pop.Key.{name as #typing·stack·pop}
+use Rattle.synthesis.proofs.stack.pop.Key.{name as #synthesis·stack·pop}
 use Rattle.synthesis.proofs.stack.pop as pop
 use Rattle.synthesis.proofs.stack.pop.Statement as stated
 use Rattle.synthesis.proofs.stack.pop.Code as code
@@ -123,5 +123,5 @@ pub pop-spec : {M : Type 1} → stated.statement M
 unfolding code.routine tablesOf
 pop-spec 𝓤 H 𝓜 𝓖 𝓡 =
     entered 𝓤 H (tripleOf 𝓤 H (𝓖 .A) pop.signature (pop.spec 𝓤 H (𝓖 .A) (𝓜 .mem) (𝓡 .run)))
-    (tables 𝓤 H 𝓜 𝓡 code.env .C) (tables 𝓤 H 𝓜 𝓡 code.env .Λ) #typing·stack·pop code.function (code.unfolded 𝓤 H 𝓜 𝓡)
+    (tables 𝓤 H 𝓜 𝓡 code.env .C) (tables 𝓤 H 𝓜 𝓡 code.env .Λ) #synthesis·stack·pop code.function (code.unfolded 𝓤 H 𝓜 𝓡)
     (pop-meets 𝓤 H (𝓖 .A) (givenOf 𝓤 H 𝓜 𝓖) (𝓜 .mem) (𝓡 .run) (tablesOf 𝓤 H 𝓜 (tables 𝓤 H 𝓜 𝓡 code.env)))

@@ -42,7 +42,7 @@ use Rattle.synthesis.specs.OpenNodes.{noNode}
 use Rattle.synthesis.specs.declared.stack.OpenNode.{OpenNode}
 use Rattle.synthesis.proofs.stack.OpenNode as T
 use Rattle.synthesis.proofs.stack.OpenNode.Laws as T′
-use Rattle.synthesis.proofs.stack.push.Key.{name as #typing·stack·push}
+use Rattle.synthesis.proofs.stack.push.Key.{name as #synthesis·stack·push}
 use Rattle.synthesis.proofs.stack.push as push
 use Rattle.synthesis.proofs.stack.push.Statement as stated
 use Rattle.synthesis.proofs.stack.push.Code as code
@@ -125,5 +125,5 @@ pub push-spec : {M : Type 1} → stated.statement M
 unfolding code.routine tablesOf
 push-spec 𝓤 H 𝓜 𝓖 𝓡 =
     entered 𝓤 H (tripleOf 𝓤 H (𝓖 .A) push.signature (push.spec 𝓤 H (𝓖 .A) (𝓜 .mem) (𝓡 .run)))
-    (tables 𝓤 H 𝓜 𝓡 code.env .C) (tables 𝓤 H 𝓜 𝓡 code.env .Λ) #typing·stack·push code.function (code.unfolded 𝓤 H 𝓜 𝓡)
+    (tables 𝓤 H 𝓜 𝓡 code.env .C) (tables 𝓤 H 𝓜 𝓡 code.env .Λ) #synthesis·stack·push code.function (code.unfolded 𝓤 H 𝓜 𝓡)
     (push-meets 𝓤 H (𝓖 .A) (givenOf 𝓤 H 𝓜 𝓖) (𝓜 .mem) (𝓡 .run) (tablesOf 𝓤 H 𝓜 (tables 𝓤 H 𝓜 𝓡 code.env)))
