@@ -74,7 +74,8 @@ readTys (suc n) s p = thenTs (readTy (suc typeLimit) (p + typeLimit) s p) (λ q.
 
 -- ---- heads
 pub data HeadRes : Type 0 where
-  -- a head, where its types start, where its children start, and their sorts
+  -- a head, where its types start (reading goes on without it; who comes back to a head asks for it), where its children start, and
+  -- their sorts
   okH : Head → ℕ → ℕ → List Sort → HeadRes
   noH : ℕ → HeadRes
 
