@@ -15,12 +15,11 @@ use Rattle.frame.specs.Trees.{head, Tree, node, Forest, nil, count, nodes, node
 use Rattle.frame.specs.Tags.{pick, Sort, formOf, formAt, classOf, lookup, sortsOf}
 use Rattle.tags.specs.TagCodes.{kindsFor}
 use Rattle.frame.specs.Encoding.{encTys}
-use Rattle.frame.specs.Reading.{readHead}
 use Rattle.frame.specs.Places.{Ctx, under}
 use Rattle.frame.specs.WellFormed.{HeadWf}
 use Rattle.frame.specs.Spans.{Bytes, Spans}
 use Rattle.frame.specs.At.{IsAt, KidsAt}
-use Rattle.heads.specs.HeadPost.{headAnswer}
+use Rattle.heads.specs.HeadPost.{headThere}
 use Rattle.heads.specs.declared.HeadAnswer.{HeadAnswer}
 use Rattle.heads.specs.declared.HeadAnswer.the-variants as H
 use Rattle.frame.proofs.Inversion.{true-not}
@@ -160,7 +159,7 @@ KidsHere s es at depth b = (ts : Forest) × (Γ : Ctx) × (q : ℕ) × KidsAt s 
 abbrev pub Walk : List ℕ → Tree → Ctx → ℕ → ℕ → ℕ → List ℕ → List ℕ → List ℕ → List ℕ → Bound → Type 0
 Walk s t Γ depth k q b₀ l₀ b₁ l₁ r = Walked (closedTree t Γ) (LeavesAt t Γ k s) depth k (k + nodes t) q b₀ l₀ b₁ l₁ r
 
-module _ (s : List ℕ) (e : Sort) (at depth k : ℕ) (b₀ l₀ : List ℕ) (x : HeadAnswer) (ex : x ≡ headAnswer (readHead s at e)) where
+module _ (s : List ℕ) (e : Sort) (at depth k : ℕ) (b₀ l₀ : List ℕ) (x : HeadAnswer) (ex : x ≡ headThere s at e) where
   pub bound-never {ℓ} : {X : Type ℓ} (c : ℕ) → x ≡ H.Refused c → Ready s at depth k b₀ l₀ → OneHere s e at depth b₀ → X
   bound-never c ec y h = no-view s e at (h .0) (h .2) (h .3) x ex c ec
 

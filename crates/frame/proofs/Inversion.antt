@@ -1,6 +1,6 @@
 -- What a result says of how it was read: each test that was passed on the way.
 -- Main results: many-inv, node-inv, head-inv (records ManyInv, NodeInv, HeadInv), many-count.
-use mathlib.Core.Path.{_≡_, refl, sym, ap, _∙_, subst}
+use mathlib.Core.Path.{_≡_, refl, ap, _∙_}
 use mathlib.Core.Bool.{Bool, true, false}
 use mathlib.Core.List.{List, [], _∷_}
 use Prim.Native.Nat.{ℕ, suc, _+_, _≤_}
@@ -11,10 +11,11 @@ use borrow.Author.Tests.{ltb-false}
 use Rattle.frame.specs.Types.{Ty}
 use Rattle.frame.specs.Trees.{Head, head, Tree, node, Forest, nil, cons, count}
 use Rattle.frame.specs.Tags.{pick, Sort, predicate, expression, sameSort, Layout, Form, formOf, width, inRange, payloadOf, typesOf, sortsOf}
+use Rattle.frame.specs.At.{typesAt}
 use Rattle.frame.specs.Reading.{numberAt, TysRes, okTs, noTs, readTys, HeadRes, okH, noH, withTys, withNumber, withForm, readHead, Res, ok, no, FRes, okF, noF, consF, thenF, readMany, nodeOf, withKids, readNode}
 
 -- ---- one answer is not the other
-pub noH-not {ℓ} : {X : Type ℓ} {c : ℕ} {h : Head} {a b : ℕ} {es : List Sort} → noH c ≡ okH h a b es → X
+pub noH-not {ℓ} : {X : Type ℓ} {c : ℕ} {h : Head} {p : ℕ} {es : List Sort} → noH c ≡ okH h p es → X
 noH-not e = let z : _≡_ {A = ℕ} 0 1 = cc in absurd (omega arith)
 
 pub noF-not {ℓ} : {X : Type ℓ} {c : ℕ} {ts : Forest} {p : ℕ} → noF c ≡ okF ts p → X
@@ -78,12 +79,11 @@ many-count (e ∷ es) go at ts q eq =
 -- ---- a node's head and its children
 pub record NodeInv (f : ℕ) (s : List ℕ) (e : Sort) (at : ℕ) (t : Tree) (q : ℕ) : Type 0 where
   pub top : Head
-  -- where its types start, where its children start, and their sorts
-  pub types : ℕ
+  -- where its children start, and their sorts
   pub from : ℕ
   pub sorts : List Sort
   pub kids : Forest
-  pub headed : readHead s at e ≡ okH top types from sorts
+  pub headed : readHead s at e ≡ okH top from sorts
   pub below : readMany sorts (readNode f s) from ≡ okF kids q
   pub is : t ≡ node top kids
 
@@ -91,13 +91,13 @@ pub node-inv : (f : ℕ) (s : List ℕ) (e : Sort) (at : ℕ) (t : Tree) (q : �
 unfolding readNode
 node-inv f s e at t q eq = on-head (readHead s at e) refl eq
   where
-    on-kids : (h : Head) (tp p : ℕ) (es : List Sort) → readHead s at e ≡ okH h tp p es → (y : FRes) → readMany es (readNode f s) p ≡ y
+    on-kids : (h : Head) (p : ℕ) (es : List Sort) → readHead s at e ≡ okH h p es → (y : FRes) → readMany es (readNode f s) p ≡ y
         → nodeOf h y ≡ ok t q → NodeInv f s e at t q
-    on-kids h tp p es eh (okF ts r) ey eq = record { top = h; types = tp; from = p; sorts = es; kids = ts; headed = eh; below = ey ∙ cc; is = cc }
-    on-kids h tp p es eh (noF c) ey eq = no-not eq
+    on-kids h p es eh (okF ts r) ey eq = record { top = h; from = p; sorts = es; kids = ts; headed = eh; below = ey ∙ cc; is = cc }
+    on-kids h p es eh (noF c) ey eq = no-not eq
 
     on-head : (x : HeadRes) → readHead s at e ≡ x → withKids x (readNode f s) ≡ ok t q → NodeInv f s e at t q
-    on-head (okH h tp p es) eh eq = on-kids h tp p es eh (readMany es (readNode f s) p) refl eq
+    on-head (okH h p es) eh eq = on-kids h p es eh (readMany es (readNode f s) p) refl eq
     on-head (noH c) eh eq = no-not eq
 
 -- ---- a head
@@ -112,22 +112,21 @@ abbrev pub behind : List ℕ → ℕ → ℕ
 behind s at = numberAt (width (layoutAt s at)) s (at + 2)
 
 -- all that a head that is read says
-pub record HeadInv (s : List ℕ) (at : ℕ) (e : Sort) (h : Head) (tp p : ℕ) (es : List Sort) : Type 0 where
+pub record HeadInv (s : List ℕ) (at : ℕ) (e : Sort) (h : Head) (p : ℕ) (es : List Sort) : Type 0 where
   pub ts : List Ty
   pub is : h ≡ head (tagAt s at) (payloadOf (layoutAt s at) (behind s at)) ts
   pub two-ok : at + 2 ≤ length s
   pub listed : formOf (tagAt s at) .listed ≡ true
   pub sort : formOf (tagAt s at) .sort ≡ e
-  pub starts : tp ≡ at + 2 + width (layoutAt s at)
-  pub room : tp ≤ length s
+  pub room : typesAt s at ≤ length s
   pub range : inRange (layoutAt s at) (behind s at) ≡ true
-  pub types : readTys (typesOf (layoutAt s at) (formOf (tagAt s at) .carried) (behind s at)) s tp ≡ okTs ts p
+  pub types : readTys (typesOf (layoutAt s at) (formOf (tagAt s at) .carried) (behind s at)) s (typesAt s at) ≡ okTs ts p
   pub sorts : es ≡ sortsOf (layoutAt s at) (behind s at)
 
-pub head-inv : (s : List ℕ) (at : ℕ) (e : Sort) (h : Head) (tp p : ℕ) (es : List Sort) → readHead s at e ≡ okH h tp p es → HeadInv s at e h tp p es
+pub head-inv : (s : List ℕ) (at : ℕ) (e : Sort) (h : Head) (p : ℕ) (es : List Sort) → readHead s at e ≡ okH h p es → HeadInv s at e h p es
 unfolding readHead withForm withNumber
-head-inv s at e h tp p es eq =
-    let z : HeadRes = okH h tp p es in
+head-inv s at e h p es eq =
+    let z : HeadRes = okH h p es in
     let never : (c : ℕ) → noH c ≡ z → ⊥ = (λ c y. noH-not y) in
     let g : ℕ = tagAt s at in
     let fm : Form = formOf g in
@@ -138,26 +137,24 @@ head-inv s at e h tp p es eq =
     let e₂ = then-of (fm .listed) (pick (sameSort (fm .sort) e) (pick (ltb (length s) t₀) (noH 3) (withNumber fm s g x t₀)) (noH 4)) (noH 4) z (never 4) (e₁ .1) in
     let e₃ = then-of (sameSort (fm .sort) e) (pick (ltb (length s) t₀) (noH 3) (withNumber fm s g x t₀)) (noH 4) z (never 4) (e₂ .1) in
     let e₄ = else-of (ltb (length s) t₀) (noH 3) (withNumber fm s g x t₀) z (never 3) (e₃ .1) in
-    let e₅ = then-of (inRange (fm .layout) x) (withTys fm g x t₀ tys) (noH 5) z (never 5) (e₄ .1) in
+    let e₅ = then-of (inRange (fm .layout) x) (withTys fm g x tys) (noH 5) z (never 5) (e₄ .1) in
     on-tys (ltb-false _ _ (e₁ .0)) (e₂ .0) (same-sort _ _ (e₃ .0)) (ltb-false _ _ (e₄ .0)) (e₅ .0) tys refl (e₅ .1)
   where
     on-tys : at + 2 ≤ length s → formOf (tagAt s at) .listed ≡ true → formOf (tagAt s at) .sort ≡ e
         → at + 2 + width (layoutAt s at) ≤ length s → inRange (layoutAt s at) (behind s at) ≡ true
         → (x : TysRes) → readTys (typesOf (layoutAt s at) (formOf (tagAt s at) .carried) (behind s at)) s (at + 2 + width (layoutAt s at)) ≡ x
-        → withTys (formOf (tagAt s at)) (tagAt s at) (behind s at) (at + 2 + width (layoutAt s at)) x ≡ okH h tp p es
-        → HeadInv s at e h tp p es
+        → withTys (formOf (tagAt s at)) (tagAt s at) (behind s at) x ≡ okH h p es
+        → HeadInv s at e h p es
     on-tys a l r o i (okTs us q) ex ez =
-        let et : at + 2 + width (layoutAt s at) ≡ tp = cc in
         let eq : q ≡ p = cc in record {
           ts = us;
           is = cc;
           two-ok = a;
           listed = l;
           sort = r;
-          starts = sym et;
-          room = subst (λ (i : ℕ). i ≤ length s) et o;
+          room = o;
           range = i;
-          types = subst (λ (i : ℕ). readTys (typesOf (layoutAt s at) (formOf (tagAt s at) .carried) (behind s at)) s i ≡ okTs us p) et (ex ∙ ap (okTs us) eq);
+          types = ex ∙ ap (okTs us) eq;
           sorts = cc;
         }
     on-tys a l r o i (noTs c) ex ez = noH-not ez

@@ -29,7 +29,7 @@ enc-long (node h ks) = simp length-append (omega (arith, head-long h (count ks))
 
 module _ (s : List ℕ) (at : ℕ) (e : Sort) (g n : ℕ) (ts : List Ty) (k p : ℕ) (w : HeadWf e g n ts k) where
   pub head-back : Spans s at p (encHead (head g n ts) k)
-      → readHead s at e ≡ okH (head g n ts) (at + 2 + width (formOf g .layout)) p (sortsOf (formOf g .layout) (numberIn g n ts k))
+      → readHead s at e ≡ okH (head g n ts) p (sortsOf (formOf g .layout) (numberIn g n ts k))
   unfolding encHead readHead withForm withNumber
   head-back a =
       let fm : Form = formOf g in
@@ -41,9 +41,9 @@ module _ (s : List ℕ) (at : ℕ) (e : Sort) (g n : ℕ) (ts : List Ty) (k p : 
       let t = tys-back ts s t₀ p (c .rest) (w .types) in
       let r : sameSort (fm .sort) e ≡ true = ap (λ (i : Sort). sameSort i e) (w .sort) ∙ same-sort-refl e in
       simp (le-ltb (length s) (at + 2) (b .within), b .number, w .listed, r, le-ltb (length s) t₀ (c .within), c .number, w .range)
-      (ap (λ (i : ℕ). withTys fm g x t₀ (readTys i s t₀)) (sym (w .many))
-      ∙ ap (withTys fm g x t₀) t
-      ∙ ap (λ (i : ℕ). okH (head g i ts) t₀ p (sortsOf l x)) (w .own))
+      (ap (λ (i : ℕ). withTys fm g x (readTys i s t₀)) (sym (w .many))
+      ∙ ap (withTys fm g x) t
+      ∙ ap (λ (i : ℕ). okH (head g i ts) p (sortsOf l x)) (w .own))
 
 -- ---- trees
 abbrev NodeBack : Tree → Type 0

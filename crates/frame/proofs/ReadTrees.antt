@@ -12,6 +12,7 @@ use Rattle.frame.specs.Encoding.{encNumber, encTys, encHead, enc, encs}
 use Rattle.frame.specs.Reading.{numberAt, okH, readHead, Res, ok, okF, readMany, readNode}
 use Rattle.frame.specs.WellFormed.{numberIn, HeadWf, Wf, Wfs}
 use Rattle.frame.specs.Spans.{Bytes, Spans}
+use Rattle.frame.specs.At.{typesAt}
 use Rattle.frame.proofs.Spans.{span-nil, span-join}
 use Rattle.frame.proofs.Numbers.{number-small, number-span}
 use Rattle.frame.proofs.ReadTypes.{tys-read}
@@ -36,35 +37,34 @@ said-again (binding lo hi es) c x m k z em ek = em
 
 -- ---- heads
 -- a head that is read, of a node with k children
-pub record HeadRead (s : List ℕ) (at : ℕ) (e : Sort) (h : Head) (tp p : ℕ) (es : List Sort) (k : ℕ) : Type 0 where
+pub record HeadRead (s : List ℕ) (at : ℕ) (e : Sort) (h : Head) (p : ℕ) (es : List Sort) (k : ℕ) : Type 0 where
   pub tag : ℕ
   pub own : ℕ
   pub ts : List Ty
   pub is : h ≡ head tag own ts
   pub span : Spans s at p (encHead h k)
   -- where its types stand
-  pub types : Spans s tp p (encTys ts)
+  pub types : Spans s (typesAt s at) p (encTys ts)
   pub past : at + 2 ≤ p
   pub wf : HeadWf e tag own ts k
   pub sorts : es ≡ sortsOf (formOf tag .layout) (numberIn tag own ts k)
 
-pub head-read : (s : List ℕ) → Bytes s → (at : ℕ) (e : Sort) (h : Head) (tp p : ℕ) (es : List Sort) → readHead s at e ≡ okH h tp p es
-    → (k : ℕ) → k ≡ length es → HeadRead s at e h tp p es k
+pub head-read : (s : List ℕ) → Bytes s → (at : ℕ) (e : Sort) (h : Head) (p : ℕ) (es : List Sort) → readHead s at e ≡ okH h p es
+    → (k : ℕ) → k ≡ length es → HeadRead s at e h p es k
 unfolding encHead
-head-read s bs at e h tp p es eq k ek =
-    let v = head-inv s at e h tp p es eq in
+head-read s bs at e h p es eq k ek =
+    let v = head-inv s at e h p es eq in
     let g : ℕ = tagAt s at in
     let l : Layout = layoutAt s at in
     let x : ℕ = behind s at in
     let n : ℕ = payloadOf l x in
     let c : ℕ = formOf g .carried in
     let ts = v .ts in
-    let t = tys-read (typesOf l c x) s bs tp ts p (v .room) (v .types) in
+    let t = tys-read (typesOf l c x) s bs (typesAt s at) ts p (v .room) (v .types) in
     let ex : numberIn g n ts k ≡ x = said-again l c x (length ts) k (no-width (width l) s (at + 2)) (t .many) (ek ∙ ap length (v .sorts)) in
-    let room : at + 2 + width l ≤ length s = omega (arith, v .starts, v .room) in
     let front : Spans s at (at + 2 + width l) (encNumber 2 g ++ encNumber (width l) (numberIn g n ts k)) =
-    rw ex (span-join (number-span 2 s bs at (v .two-ok)) (number-span (width l) s bs (at + 2) room)) in
-    let back : Spans s (at + 2 + width l) p (encTys ts) = subst (λ (i : ℕ). Spans s i p (encTys ts)) (v .starts) (t .span) in
+    rw ex (span-join (number-span 2 s bs at (v .two-ok)) (number-span (width l) s bs (at + 2) (v .room))) in
+    let back = t .span in
     record {
       tag = g;
       own = n;
@@ -115,7 +115,7 @@ node-read (suc f) s bs e at t q eq =
     let v = node-inv f s e at t q eq in
     let ks = v .kids in
     let c = many-count (v .sorts) (readNode f s) (v .from) ks q (v .below) in
-    let h = head-read s bs at e (v .top) (v .types) (v .from) (v .sorts) (v .headed) (count ks) c in
+    let h = head-read s bs at e (v .top) (v .from) (v .sorts) (v .headed) (count ks) c in
     let m = many-read s (readNode f s) (node-read f s bs) (v .sorts) (v .from) ks q (h .span .within) (v .below) in
     let w : Wf (node (head (h .tag) (h .own) (h .ts)) ks) e = (h .wf, rw (← h .sorts) (m .wf)) in
     rw (v .is) record { span = span-join (h .span) (m .span); wf = rw (h .is) w }

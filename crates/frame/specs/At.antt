@@ -2,14 +2,18 @@
 -- read goes by these; heads/proofs/View.antt takes them apart by the head that the code reads.
 use mathlib.Core.Path.{_≡_}
 use mathlib.Core.List.{List}
-use Prim.Native.Nat.{ℕ}
+use Prim.Native.Nat.{ℕ, _+_}
 use lib.ListN.{length}
 use Rattle.frame.specs.Trees.{Tree, Forest}
-use Rattle.frame.specs.Tags.{Sort}
+use Rattle.frame.specs.Tags.{Sort, width, formOf}
 use Rattle.frame.specs.Encoding.{encs}
 use Rattle.frame.specs.WellFormed.{Wfs}
 use Rattle.frame.specs.Spans.{Spans}
-use Rattle.frame.specs.Reading.{ok, okF, readMany, readNode}
+use Rattle.frame.specs.Reading.{numberAt, ok, okF, readMany, readNode}
+
+-- where the types of the head at `at` start: behind its tag and its number
+abbrev pub typesAt : List ℕ → ℕ → ℕ
+typesAt s at = at + 2 + width (formOf (numberAt 2 s at) .layout)
 
 abbrev pub IsAt : List ℕ → Sort → ℕ → Tree → ℕ → Type 0
 IsAt s e at t q = (f : ℕ) × (readNode f s e at ≡ ok t q)

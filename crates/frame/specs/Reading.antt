@@ -74,19 +74,18 @@ readTys (suc n) s p = thenTs (readTy (suc typeLimit) (p + typeLimit) s p) (λ q.
 
 -- ---- heads
 pub data HeadRes : Type 0 where
-  -- a head, where its types start (reading goes on without it; who comes back to a head asks for it), where its children start, and
-  -- their sorts
-  okH : Head → ℕ → ℕ → List Sort → HeadRes
+  -- a head, where its children start, and their sorts
+  okH : Head → ℕ → List Sort → HeadRes
   noH : ℕ → HeadRes
 
-abbrev pub withTys : Form → ℕ → ℕ → ℕ → TysRes → HeadRes
-withTys fm g x p (okTs ts q) = okH (head g (payloadOf (fm .layout) x) ts) p q (sortsOf (fm .layout) x)
-withTys fm g x p (noTs c) = noH c
+abbrev pub withTys : Form → ℕ → ℕ → TysRes → HeadRes
+withTys fm g x (okTs ts q) = okH (head g (payloadOf (fm .layout) x) ts) q (sortsOf (fm .layout) x)
+withTys fm g x (noTs c) = noH c
 
 -- the tag g and the number x have been read, up to p: "5. A count is outside its range."
 unfoldable pub withNumber : Form → List ℕ → ℕ → ℕ → ℕ → HeadRes
 withNumber fm s g x p =
-    pick (inRange (fm .layout) x) (withTys fm g x p (readTys (typesOf (fm .layout) (fm .carried) x) s p)) (noH 5)
+    pick (inRange (fm .layout) x) (withTys fm g x (readTys (typesOf (fm .layout) (fm .carried) x) s p)) (noH 5)
 
 -- the tag has been read: "4. A tag isn't listed, or a predicate stands where an expression must, or the reverse."
 unfoldable pub withForm : Form → List ℕ → ℕ → Sort → HeadRes
@@ -130,7 +129,7 @@ nodeOf h (okF ts q) = ok (node h ts) q
 nodeOf h (noF c) = no c
 
 abbrev pub withKids : HeadRes → (Sort → ℕ → Res) → Res
-withKids (okH h tp p es) go = nodeOf h (readMany es go p)
+withKids (okH h p es) go = nodeOf h (readMany es go p)
 withKids (noH c) go = no c
 
 -- the tree of sort e at `at`; the fuel is more than the bytes that are left

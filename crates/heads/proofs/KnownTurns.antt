@@ -16,8 +16,8 @@ use Rattle.tags.specs.TagCodes.{formAtCode, formCode}
 use Rattle.frame.specs.Encoding.{encNumber, encTy, encTys}
 use Rattle.frame.specs.Reading.{numberAt, okTs, withTys, okH, readHead, ok, readNode}
 use Rattle.frame.specs.Spans.{Bytes, Spans}
-use Rattle.frame.specs.At.{IsAt}
-use Rattle.heads.specs.HeadPost.{headAnswer, TypesStand, SkipPost, leadOf, partsOf, HeadStands, HeadEnd, KnownPost}
+use Rattle.frame.specs.At.{typesAt, IsAt}
+use Rattle.heads.specs.HeadPost.{headAnswer, headThere, TypesStand, SkipPost, leadOf, partsOf, HeadStands, HeadEnd, KnownPost}
 use Rattle.heads.specs.declared.HeadAnswer.{HeadAnswer}
 use Rattle.frame.proofs.Inversion.{no-not, tagAt, behind, HeadInv, head-inv, node-inv}
 use Rattle.frame.proofs.Spans.{span-first, span-right}
@@ -142,11 +142,10 @@ skip-done s at m p left w z = w .back p (skip-end s p left (omega arith))
 -- ---- the head of a tree that stands somewhere
 pub record Head-at (s : List ℕ) (at : ℕ) (e : Sort) : Type 0 where
   pub h : Head
-  pub tp : ℕ
   pub p : ℕ
   pub es : List Sort
-  pub headed : readHead s at e ≡ okH h tp p es
-  pub inv : HeadInv s at e h tp p es
+  pub headed : readHead s at e ≡ okH h p es
+  pub inv : HeadInv s at e h p es
 
 pub head-at : (s : List ℕ) (at : ℕ) (e : Sort) (t : Tree) (q : ℕ) → IsAt s e at t q → Head-at s at e
 unfolding readNode
@@ -156,11 +155,10 @@ head-at s at e t q a = go (a .0) (a .1)
     go zero eq = no-not eq
     go (suc f) eq = let v = node-inv f s e at t q eq in record {
       h = v .top;
-      tp = v .types;
       p = v .from;
       es = v .sorts;
       headed = v .headed;
-      inv = head-inv s at e (v .top) (v .types) (v .from) (v .sorts) (v .headed);
+      inv = head-inv s at e (v .top) (v .from) (v .sorts) (v .headed);
     }
 
 pub known-two : (s : List ℕ) (at : ℕ) → HeadStands s at → at + 2 ≤ length s
@@ -177,7 +175,7 @@ module _ (s : List ℕ) (at tag : ℕ) (et : tag ≡ numberAt 2 s at) (form : �
   pub known-room : HeadStands s at → at + 2 + w ≤ length s
   known-room k =
       let v = head-at s at (k .0) (k .1) (k .2) (k .3) .inv in
-      omega (arith, is-width, v .starts, v .room)
+      omega (arith, is-width, v .room)
 
   module _ (x : ℕ) (ex : x ≡ numberAt w s (at + 2)) where
     is-behind : x ≡ behind s at
@@ -196,8 +194,8 @@ module _ (s : List ℕ) (at tag : ℕ) (et : tag ≡ numberAt 2 s at) (form : �
       tys-of bs e t q a =
           let k = head-at s at e t q a in
           let v = k .inv in
-          let z : at + 2 + w ≡ k .tp = ap (λ (i : ℕ). at + 2 + i) is-width ∙ sym (v .starts) in
-          let y = tys-read _ s bs (k .tp) (v .ts) (k .p) (v .room) (v .types) in
+          let z : at + 2 + w ≡ typesAt s at = ap (λ (i : ℕ). at + 2 + i) is-width in
+          let y = tys-read _ s bs (typesAt s at) (v .ts) (k .p) (v .room) (v .types) in
           (v .ts, k .p, y .many ∙ sym is-many, subst (λ (i : ℕ). Spans s i (k .p) (encTys (v .ts))) (sym z) (y .span))
 
       pub known-types : Bytes s → HeadStands s at → TypesStand s (at + 2 + w) m
@@ -207,26 +205,26 @@ module _ (s : List ℕ) (at tag : ℕ) (et : tag ≡ numberAt 2 s at) (form : �
       unfolding head-at tys-of
       known-found bs to sk r hr = record { by = λ e t q a. found e t q a }
         where
-          found : (e : Sort) (t : Tree) (q : ℕ) → IsAt s e at t q → r ≡ headAnswer (readHead s at e)
+          found : (e : Sort) (t : Tree) (q : ℕ) → IsAt s e at t q → r ≡ headThere s at e
           found e t q a =
               let k = head-at s at e t q a in
               let v = k .inv in
               let ty = tys-of bs e t q a in
               let z : to ≡ k .p = sk .ends (ty .0) (ty .1) (ty .2) (ty .3) in
-              let y : at + 2 + w ≡ k .tp = ap (λ (i : ℕ). at + 2 + i) is-width ∙ sym (v .starts) in
+              let y : at + 2 + w ≡ typesAt s at = ap (λ (i : ℕ). at + 2 + i) is-width in
               hr (v .ts)
-              ∙ ap₂ (λ (fm : Form) (i : ℕ). headAnswer (withTys fm tag i (at + 2 + w) (okTs (v .ts) to))) is-form is-behind
-              ∙ ap₂ (λ (g i : ℕ). headAnswer (withTys (formOf (tagAt s at)) g (behind s at) i (okTs (v .ts) to))) et y
-              ∙ ap (λ (i : ℕ). headAnswer (withTys (formOf (tagAt s at)) (tagAt s at) (behind s at) (k .tp) (okTs (v .ts) i))) z
-              ∙ ap₂ (λ (h : Head) (es : List Sort). headAnswer (okH h (k .tp) (k .p) es)) (sym (v .is)) (sym (v .sorts))
-              ∙ ap headAnswer (sym (k .headed))
+              ∙ ap₂ (λ (fm : Form) (i : ℕ). headAnswer (at + 2 + w) (withTys fm tag i (okTs (v .ts) to))) is-form is-behind
+              ∙ ap₂ (λ (g i : ℕ). headAnswer i (withTys (formOf (tagAt s at)) g (behind s at) (okTs (v .ts) to))) et y
+              ∙ ap (λ (i : ℕ). headAnswer (typesAt s at) (withTys (formOf (tagAt s at)) (tagAt s at) (behind s at) (okTs (v .ts) i))) z
+              ∙ ap₂ (λ (h : Head) (es : List Sort). headAnswer (typesAt s at) (okH h (k .p) es)) (sym (v .is)) (sym (v .sorts))
+              ∙ ap (headAnswer (typesAt s at)) (sym (k .headed))
 
       pub known-end : Bytes s → (to : ℕ) → SkipPost s (at + 2 + w) m to → HeadEnd s at to
       unfolding head-at tys-of
       known-end bs to sk = record { by = λ e t q a. at-end e t q a }
         where
-          at-end : (e : Sort) (t : Tree) (q : ℕ) → IsAt s e at t q → (h : Head) (tp p : ℕ) (es : List Sort) → readHead s at e ≡ okH h tp p es → to ≡ p
-          at-end e t q a h tp p es eq =
+          at-end : (e : Sort) (t : Tree) (q : ℕ) → IsAt s e at t q → (h : Head) (p : ℕ) (es : List Sort) → readHead s at e ≡ okH h p es → to ≡ p
+          at-end e t q a h p es eq =
               let k = head-at s at e t q a in
               let ty = tys-of bs e t q a in
               let z : to ≡ k .p = sk .ends (ty .0) (ty .1) (ty .2) (ty .3) in

@@ -3,7 +3,7 @@
 -- Main results: at-span, at-wf, at-end, at-unique, stands-at, parse-at, at-parse (what it is to stand somewhere);
 -- kids-span, kids-wf, kids-end, kids-count, kids-unique, stand-all (the same of trees in a row); kids-none, kids-some (the
 -- first child and the others); head-of, view, no-view (by a head that was read).
-use mathlib.Core.Path.{_≡_, sym, ap, ap₂, _∙_, subst}
+use mathlib.Core.Path.{_≡_, sym, ap, ap₂, _∙_, subst, subst₂}
 use mathlib.Core.Bool.{Bool}
 use mathlib.Core.List.{List, []}
 use Prim.Native.Nat.{ℕ, zero, suc, _+_, _-_, _≤_}
@@ -18,15 +18,15 @@ use Rattle.frame.specs.Encoding.{encTys, enc, encs}
 use Rattle.frame.specs.Reading.{okH, readHead, ok, okF, readMany, readNode, frameLimit, tree, parse}
 use Rattle.frame.specs.WellFormed.{numberIn, HeadWf, Wf, Wfs}
 use Rattle.frame.specs.Spans.{Bytes, Spans}
-use Rattle.frame.specs.At.{IsAt, KidsAt}
-use Rattle.heads.specs.HeadPost.{headAnswer}
+use Rattle.frame.specs.At.{typesAt, IsAt, KidsAt}
+use Rattle.heads.specs.HeadPost.{headThere}
 use Rattle.heads.specs.declared.HeadAnswer.{HeadAnswer}
 use Rattle.heads.specs.declared.HeadAnswer.the-variants as H
 use Rattle.frame.proofs.Inversion.{noH-not, no-not, many-inv, many-count, NodeInv, node-inv, head-inv, tagAt}
 use Rattle.frame.proofs.ReadTrees.{head-read, node-enc, node-wf, many-enc, many-wf}
 use Rattle.frame.proofs.ReadBack.{enc-long, node-back, many-back}
 use Rattle.frame.proofs.Frames.{parse-inv}
-use Rattle.heads.proofs.HeadSays.{head-no, HeadSaid, head-yes, head-kinds}
+use Rattle.heads.proofs.HeadSays.{head-no, SaidThere, head-yes, head-kinds}
 use Rattle.tags.proofs.FormTables.{kinds-rest}
 
 -- ---- a tree that stands somewhere
@@ -126,11 +126,11 @@ pub record HeadOf (s : List ℕ) (at : ℕ) (e : Sort) (g n : ℕ) (us : List Ty
   pub wf : HeadWf e g n us k
   pub sorts : es ≡ sortsOf (formOf g .layout) (numberIn g n us k)
 
-pub head-of : (s : List ℕ) → Bytes s → (at : ℕ) (e : Sort) (g n : ℕ) (us : List Ty) (tp p : ℕ) (es : List Sort) → readHead s at e ≡ okH (head g n us) tp p es
+pub head-of : (s : List ℕ) → Bytes s → (at : ℕ) (e : Sort) (g n : ℕ) (us : List Ty) (tp p : ℕ) (es : List Sort) → readHead s at e ≡ okH (head g n us) p es → tp ≡ typesAt s at
     → (k : ℕ) → k ≡ length es → HeadOf s at e g n us tp p es k
-head-of s bs at e g n us tp p es eq k ek =
-    let r = head-read s bs at e (head g n us) tp p es eq k ek in
-    let v = head-inv s at e (head g n us) tp p es eq in
+head-of s bs at e g n us tp p es eq st k ek =
+    let r = head-read s bs at e (head g n us) p es eq k ek in
+    let v = head-inv s at e (head g n us) p es eq in
     let i = r .is in
     let j = v .is in
     let eg : r .tag ≡ g = cc in
@@ -138,8 +138,8 @@ head-of s bs at e g n us tp p es eq k ek =
     let eu : r .ts ≡ us = cc in
     let et : tagAt s at ≡ g = cc in
     record {
-      types = rw eu at (r .types);
-      starts = v .starts ∙ ap (λ (i : ℕ). at + 2 + width (formOf i .layout)) et;
+      types = subst₂ (λ (i : ℕ) (l : List Ty). Spans s i p (encTys l)) (sym st) eu (r .types);
+      starts = st ∙ ap (λ (i : ℕ). at + 2 + width (formOf i .layout)) et;
       wf = rw (eg, en, eu) at (r .wf);
       sorts = rw (eg, en, eu) at (r .sorts);
     }
@@ -150,7 +150,7 @@ pub record View (s : List ℕ) (e : Sort) (at : ℕ) (t : Tree) (q : ℕ) (g n t
   pub us : List Ty
   pub ks : Forest
   pub is : t ≡ node (head g n us) ks
-  pub headed : readHead s at e ≡ okH (head g n us) tp p (kindsFor k a b)
+  pub headed : readHead s at e ≡ okH (head g n us) p (kindsFor k a b)
   pub top : HeadOf s at e g n us tp p (kindsFor k a b) (count ks)
   -- its children, up to its end
   pub below : KidsAt s (kindsFor k a b) p ks q
@@ -158,23 +158,23 @@ pub record View (s : List ℕ) (e : Sort) (at : ℕ) (t : Tree) (q : ℕ) (g n t
   pub within : (at + 2 ≤ tp) × (tp ≤ p) × (p ≤ q) × (q ≤ length s)
 
 -- the sorts that an answer says are those of the children
-said-kinds : (s : List ℕ) (at : ℕ) (e : Sort) (g n tp p k : ℕ) (a b : Bool) (y : HeadSaid (readHead s at e) g n tp p k a b) → kindsFor k a b ≡ y .es
+said-kinds : (s : List ℕ) (at : ℕ) (e : Sort) (g n tp p k : ℕ) (a b : Bool) (y : SaidThere s at e g n tp p k a b) → kindsFor k a b ≡ y .es
 said-kinds s at e g n tp p k a b y =
     ap (λ (i : ℕ). kindsFor i a b) (y .many)
     ∙ ap₂ (λ (i j : Bool). kindsFor (length (y .es)) i j) (y .first) (y .later)
-    ∙ head-kinds s at e (head g n (y .ts)) tp p (y .es) (y .is)
+    ∙ head-kinds s at e (head g n (y .ts)) p (y .es) (y .is)
 
 -- a node whose head was read, and its children
 view-node : (s : List ℕ) → Bytes s → (f : ℕ) (e : Sort) (at : ℕ) (t : Tree) (q g n : ℕ) (us : List Ty) (tp p k : ℕ) (a b : Bool)
-    → readHead s at e ≡ okH (head g n us) tp p (kindsFor k a b) → length (kindsFor k a b) ≡ k → NodeInv f s e at t q → View s e at t q g n tp p k a b
-view-node s bs f e at t q g n us tp p k a b eq el d =
+    → readHead s at e ≡ okH (head g n us) p (kindsFor k a b) → tp ≡ typesAt s at → length (kindsFor k a b) ≡ k → NodeInv f s e at t q → View s e at t q g n tp p k a b
+view-node s bs f e at t q g n us tp p k a b eq st el d =
     let i = d .headed in
     let top : d .top ≡ head g n us = cc in
     let from : d .from ≡ p = cc in
     let sorts : d .sorts ≡ kindsFor k a b = cc in
     let below : readMany (kindsFor k a b) (readNode f s) p ≡ okF (d .kids) q = rw (sorts, from) at (d .below) in
     let many : count (d .kids) ≡ length (kindsFor k a b) = many-count (kindsFor k a b) (readNode f s) p (d .kids) q below in
-    let h = head-of s bs at e g n us tp p (kindsFor k a b) eq (count (d .kids)) many in
+    let h = head-of s bs at e g n us tp p (kindsFor k a b) eq st (count (d .kids)) many in
     let c = kids-end s bs (kindsFor k a b) p (h .types .within) (d .kids) q (f, below) in
     record {
       us = us;
@@ -187,7 +187,7 @@ view-node s bs f e at t q g n us tp p k a b eq el d =
       within = (omega (arith, h .starts), omega (arith, h .types .long), c .0, c .1);
     }
 
-module _ (s : List ℕ) (e : Sort) (at : ℕ) (t : Tree) (q : ℕ) (h : IsAt s e at t q) (x : HeadAnswer) (ex : x ≡ headAnswer (readHead s at e)) where
+module _ (s : List ℕ) (e : Sort) (at : ℕ) (t : Tree) (q : ℕ) (h : IsAt s e at t q) (x : HeadAnswer) (ex : x ≡ headThere s at e) where
   pub view : Bytes s → (g n tp p k : ℕ) (a b : Bool) → x ≡ H.Is g n tp p k a b → View s e at t q g n tp p k a b
   unfolding readNode
   view bs g n tp p k a b ei = go (h .0) (h .1)
@@ -195,9 +195,9 @@ module _ (s : List ℕ) (e : Sort) (at : ℕ) (t : Tree) (q : ℕ) (h : IsAt s e
       go : (f : ℕ) → readNode f s e at ≡ ok t q → View s e at t q g n tp p k a b
       go zero eq = no-not eq
       go (suc f) eq =
-          let y = head-yes (readHead s at e) g n tp p k a b (sym ei ∙ ex) in
+          let y = head-yes s at e g n tp p k a b (sym ei ∙ ex) in
           let z = said-kinds s at e g n tp p k a b y in
-          view-node s bs f e at t q g n (y .ts) tp p k a b (y .is ∙ ap (okH (head g n (y .ts)) tp p) (sym z)) (ap length z ∙ sym (y .many)) (node-inv f s e at t q eq)
+          view-node s bs f e at t q g n (y .ts) tp p k a b (y .is ∙ ap (okH (head g n (y .ts)) p) (sym z)) (y .starts) (ap length z ∙ sym (y .many)) (node-inv f s e at t q eq)
 
   pub no-view {ℓ} : {X : Type ℓ} (c : ℕ) → x ≡ H.Refused c → X
   unfolding readNode
@@ -205,4 +205,4 @@ module _ (s : List ℕ) (e : Sort) (at : ℕ) (t : Tree) (q : ℕ) (h : IsAt s e
     where
       go : {X : Type ℓ} (f : ℕ) → readNode f s e at ≡ ok t q → X
       go zero eq = no-not eq
-      go (suc f) eq = noH-not (sym (head-no (readHead s at e) c (sym ec ∙ ex)) ∙ node-inv f s e at t q eq .headed)
+      go (suc f) eq = noH-not (sym (head-no s at e c (sym ec ∙ ex)) ∙ node-inv f s e at t q eq .headed)

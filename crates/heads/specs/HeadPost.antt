@@ -11,7 +11,7 @@ use Rattle.tags.specs.TagCodes.{firstSort, laterSort}
 use Rattle.frame.specs.Encoding.{encTys}
 use Rattle.frame.specs.Reading.{TyRes, okT, noT, byteOf, TysRes, okTs, noTs, HeadRes, okH, noH, readHead}
 use Rattle.frame.specs.Spans.{Spans}
-use Rattle.frame.specs.At.{IsAt}
+use Rattle.frame.specs.At.{typesAt, IsAt}
 use Rattle.heads.specs.declared.TypeAnswer.{TypeAnswer}
 use Rattle.heads.specs.declared.TypeAnswer.the-variants as T
 use Rattle.heads.specs.declared.HeadAnswer.{HeadAnswer}
@@ -31,10 +31,14 @@ typesAnswer (okTs ts p) = T.Ends p
 typesAnswer (noTs c) = T.Refused c
 
 -- ---- heads
--- the sorts of the children by how many they are, the first and the later ones
-abbrev pub headAnswer : HeadRes → HeadAnswer
-headAnswer (okH (head g n ts) tp p es) = H.Is g n tp p (length es) (firstSort es) (laterSort es)
-headAnswer (noH c) = H.Refused c
+-- with where its types start, and the sorts of the children by how many they are, the first and the later ones
+abbrev pub headAnswer : ℕ → HeadRes → HeadAnswer
+headAnswer tp (okH (head g n ts) p es) = H.Is g n tp p (length es) (firstSort es) (laterSort es)
+headAnswer tp (noH c) = H.Refused c
+
+-- what is answered for the head at `at`
+abbrev pub headThere : List ℕ → ℕ → Sort → HeadAnswer
+headThere s at e = headAnswer (typesAt s at) (readHead s at e)
 
 -- ---- what was read before
 -- m types stand in a row from `at` on
@@ -58,8 +62,8 @@ HeadStands s at = (e : Sort) × (t : Tree) × (q : ℕ) × IsAt s e at t q
 
 -- r is where its head ends
 pub record HeadEnd (s : List ℕ) (at r : ℕ) : Type 0 where
-  pub by : (e : Sort) (t : Tree) (q : ℕ) → IsAt s e at t q → (h : Head) (tp p : ℕ) (es : List Sort) → readHead s at e ≡ okH h tp p es → r ≡ p
+  pub by : (e : Sort) (t : Tree) (q : ℕ) → IsAt s e at t q → (h : Head) (p : ℕ) (es : List Sort) → readHead s at e ≡ okH h p es → r ≡ p
 
 -- r is the answer of the definition
 pub record KnownPost (s : List ℕ) (at : ℕ) (r : HeadAnswer) : Type 0 where
-  pub by : (e : Sort) (t : Tree) (q : ℕ) → IsAt s e at t q → r ≡ headAnswer (readHead s at e)
+  pub by : (e : Sort) (t : Tree) (q : ℕ) → IsAt s e at t q → r ≡ headThere s at e

@@ -10,7 +10,7 @@ ghost use Rattle.frame.specs.Types.{Ty};
 ghost use Rattle.frame.specs.Tags.{inRange};
 ghost use Rattle.tags.specs.TagCodes.{formAtCode, sortFor};
 ghost use Rattle.frame.specs.Reading.{numberAt, readTy, readTys, okTs, withTys, readHead, tree};
-ghost use Rattle.heads.specs.HeadPost.{typeAnswer, givenAt, typesAnswer, headAnswer, TypesStand, SkipPost, leadOf, partsOf, HeadStands, HeadEnd, KnownPost};
+ghost use Rattle.heads.specs.HeadPost.{typeAnswer, givenAt, typesAnswer, headAnswer, headThere, TypesStand, SkipPost, leadOf, partsOf, HeadStands, HeadEnd, KnownPost};
 use frame::refusals::BAD_COUNT;
 use frame::refusals::BAD_TAG;
 use frame::refusals::BAD_TYPE;
@@ -117,7 +117,7 @@ pub fn read_types(s: &[u8], at: usize, n: usize) -> TypeAnswer
 // The head that has been read: a tag of this form, the number x, and types up to `children`.
 fn head_is(tag: usize, form: usize, x: usize, types: usize, children: usize) -> HeadAnswer
     requires { ⌜ (form < 20) × (inRange (formAtCode form .layout) x ≡ true) ⌝ }
-    ensures { λ r. ⌜ ((ts : List Ty) → r ≡ headAnswer (withTys (formAtCode form) tag x types (okTs ts children))) ⌝ }
+    ensures { λ r. ⌜ ((ts : List Ty) → r ≡ headAnswer types (withTys (formAtCode form) tag x (okTs ts children))) ⌝ }
 {
     HeadAnswer::Is {
         tag: tag,
@@ -133,7 +133,7 @@ fn head_is(tag: usize, form: usize, x: usize, types: usize, children: usize) -> 
 // The head at `at` of a tree that has to be an expression where e, else a predicate.
 pub fn read_head(s: &[u8], at: usize, e: bool) -> HeadAnswer
     requires { ⌜ at ≤ length (now s) ⌝ }
-    ensures { λ r. ⌜ r ≡ headAnswer (readHead (now (s .entry)) at (sortFor e)) ⌝ }
+    ensures { λ r. ⌜ r ≡ headThere (now (s .entry)) at (sortFor e) ⌝ }
 {
     if s.len() < at + 2 {
         return HeadAnswer::Refused(ENDS_INSIDE);

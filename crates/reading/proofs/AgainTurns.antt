@@ -14,8 +14,8 @@ use Rattle.tags.specs.TagCodes.{firstSort, laterSort, kindsFor}
 use Rattle.frame.specs.Encoding.{encHead, enc, encs, starts, startsIn}
 use Rattle.frame.specs.Reading.{okH, readHead, tree, parse}
 use Rattle.frame.specs.Spans.{Bytes, Spans}
-use Rattle.frame.specs.At.{IsAt, Rest}
-use Rattle.heads.specs.HeadPost.{headAnswer, HeadStands, HeadEnd}
+use Rattle.frame.specs.At.{typesAt, IsAt, Rest}
+use Rattle.heads.specs.HeadPost.{headAnswer, headThere, HeadStands, HeadEnd}
 use Rattle.reading.specs.Post.{frameAnswer, tableSize, tableOf, PlacesPre, PlacesPost}
 use Rattle.reading.specs.declared.FrameAnswer.the-variants as F
 use Rattle.frame.proofs.Spans.{span-left, span-right, span-join}
@@ -67,10 +67,10 @@ places-end s at k t₀ h = record { by = λ ts es a. go ts es a }
     go (cons t ts) (e ∷ es) a = absurd (omega (arith, a .span .long, length-append (enc t) (encs ts), nodes-enc t, some-node t))
 
 -- the tree by its head
-seen : (s : List ℕ) → Bytes s → (e : Sort) (at : ℕ) (t : Tree) (q : ℕ) → IsAt s e at t q → (h : Head) (tp p : ℕ) (es : List Sort) → readHead s at e ≡ okH h tp p es
-    → (g n m : ℕ) × (a b : Bool) × View s e at t q g n tp p m a b
-seen s bs e at t q w (head g n us) tp p es eq =
-    (g, n, length es, firstSort es, laterSort es, view s e at t q w (headAnswer (readHead s at e)) refl bs g n tp p (length es) (firstSort es) (laterSort es) (ap headAnswer eq))
+seen : (s : List ℕ) → Bytes s → (e : Sort) (at : ℕ) (t : Tree) (q : ℕ) → IsAt s e at t q → (h : Head) (p : ℕ) (es : List Sort) → readHead s at e ≡ okH h p es
+    → (g n m : ℕ) × (a b : Bool) × View s e at t q g n (typesAt s at) p m a b
+seen s bs e at t q w (head g n us) p es eq =
+    (g, n, length es, firstSort es, laterSort es, view s e at t q w (headThere s at e) refl bs g n (typesAt s at) p (length es) (firstSort es) (laterSort es) (ap (headAnswer (typesAt s at)) eq))
 
 module _ (s : List ℕ) (bs : Bytes s) (at k : ℕ) (l : at < length s) where
   module _ (p : ℕ) where
@@ -109,9 +109,9 @@ module _ (s : List ℕ) (bs : Bytes s) (at k : ℕ) (l : at < length s) where
         let f = first-at s at ts es l r in
         let z : at + length (enc (f .t)) ≡ f .q = at-span s bs (f .e) at (f .t) (f .q) (f .stands) .long in
         let k = head-at s at (f .e) (f .t) (f .q) (f .stands) in
-        let y : k .p ≡ p = sym (he .by (f .e) (f .t) (f .q) (f .stands) (k .h) (k .tp) (k .p) (k .es) (k .headed)) in
-        let v = seen s bs (f .e) at (f .t) (f .q) (f .stands) (k .h) (k .tp) p (k .es) (k .headed ∙ ap (λ (i : ℕ). okH (k .h) (k .tp) i (k .es)) y) in
-        subst (λ (us : Forest). After us es) (sym (f .is)) (after-node (f .t) (f .later) (f .e) (f .sorts) (f .q) (f .after) (v .0) (v .1) (k .tp) (v .2) (v .3) (v .4) (v .5) z)
+        let y : k .p ≡ p = sym (he .by (f .e) (f .t) (f .q) (f .stands) (k .h) (k .p) (k .es) (k .headed)) in
+        let v = seen s bs (f .e) at (f .t) (f .q) (f .stands) (k .h) p (k .es) (k .headed ∙ ap (λ (i : ℕ). okH (k .h) i (k .es)) y) in
+        subst (λ (us : Forest). After us es) (sym (f .is)) (after-node (f .t) (f .later) (f .e) (f .sorts) (f .q) (f .after) (v .0) (v .1) (typesAt s at) (v .2) (v .3) (v .4) (v .5) z)
 
     pub places-next : HeadEnd s at p → (t₀ : List ℕ) → PlacesPre s at k t₀ → (at + 2 ≤ p) × PlacesPre s p (k + 1) (set t₀ k at)
     places-next he t₀ w =

@@ -11,9 +11,9 @@ use Rattle.frame.specs.Trees.{Head, head, Tree, node, Forest, nil, cons, count,
 use Rattle.frame.specs.Tags.{Sort}
 use Rattle.tags.specs.TagCodes.{sortFor, kindsFor}
 use Rattle.frame.specs.Encoding.{encHead, enc, starts, startsIn}
-use Rattle.frame.specs.Reading.{HeadRes, readHead, Res, ok, no, FRes, okF, noF, consF, thenF, readMany, nodeOf, withKids, readNode}
+use Rattle.frame.specs.Reading.{HeadRes, Res, ok, no, FRes, okF, noF, consF, thenF, readMany, nodeOf, withKids, readNode}
 use Rattle.frame.specs.Spans.{Bytes, Spans}
-use Rattle.heads.specs.HeadPost.{headAnswer}
+use Rattle.heads.specs.HeadPost.{headThere}
 use Rattle.reading.specs.Post.{nodeAnswer, kidsAnswer, Room, NodePost, KidsPost}
 use Rattle.heads.specs.declared.HeadAnswer.{HeadAnswer}
 use Rattle.reading.specs.declared.NodeAnswer.{NodeAnswer}
@@ -23,7 +23,7 @@ use Rattle.frame.proofs.Inversion.{noF-not, no-not, many-count}
 use Rattle.frame.proofs.ReadTrees.{head-read, node-enc}
 use Rattle.frame.proofs.Extents.{node-end, nodes-enc, starts-length}
 use Rattle.heads.specs.declared.HeadAnswer.the-variants as H
-use Rattle.heads.proofs.HeadSays.{head-no, HeadSaid, head-yes, head-kinds}
+use Rattle.heads.proofs.HeadSays.{head-no, SaidThere, head-yes, head-kinds}
 use Rattle.tags.proofs.FormTables.{kinds-rest}
 
 pub node-yes : (x : Res) (k p j : ℕ) → Ends p j ≡ nodeAnswer k x → (t : Tree) × (x ≡ ok t p) × (j ≡ k + nodes t)
@@ -35,18 +35,18 @@ node-no (ok t q) k c e = let z : _≡_ {A = ℕ} 0 1 = cc in absurd (omega arith
 node-no (no d) k c e = cc
 
 -- ---- read_node
-module _ (s : List ℕ) (e : Sort) (at k : ℕ) (t₀ t₁ : List ℕ) (room : Room s at k) (hd : HeadAnswer) (eh : hd ≡ headAnswer (readHead s at e)) where
+module _ (s : List ℕ) (e : Sort) (at k : ℕ) (t₀ t₁ : List ℕ) (room : Room s at k) (hd : HeadAnswer) (eh : hd ≡ headThere s at e) where
   pub node-refused : (c : ℕ) → hd ≡ H.Refused c → NodePost s e at k t₀ t₁ (Refused c)
   unfolding readNode
   node-refused c ec = record { answer = λ f l. ap (nodeAnswer k) (sym (is-no f l)); table = λ f l t q eq. no-not (sym (is-no f l) ∙ eq) }
     where
       is-no : (f : ℕ) → length s < at + f → readNode f s e at ≡ no c
       is-no zero l = absurd (omega (arith, room .within))
-      is-no (suc f) l = ap (λ (x : HeadRes). withKids x (readNode f s)) (head-no (readHead s at e) c (sym ec ∙ eh))
+      is-no (suc f) l = ap (λ (x : HeadRes). withKids x (readNode f s)) (head-no s at e c (sym ec ∙ eh))
 
   module _ (bs : Bytes s) (g n tp p m : ℕ) (a b : Bool) (ei : hd ≡ H.Is g n tp p m a b) where
-    said : HeadSaid (readHead s at e) g n tp p m a b
-    said = head-yes (readHead s at e) g n tp p m a b (sym ei ∙ eh)
+    said : SaidThere s at e g n tp p m a b
+    said = head-yes s at e g n tp p m a b (sym ei ∙ eh)
 
     abbrev top : Head
     top = head g n (said .ts)
@@ -55,10 +55,10 @@ module _ (s : List ℕ) (e : Sort) (at k : ℕ) (t₀ t₁ : List ℕ) (room : R
     kinds =
         ap (λ (i : ℕ). kindsFor i a b) (said .many)
         ∙ ap₂ (λ (x y : Bool). kindsFor (length (said .es)) x y) (said .first) (said .later)
-        ∙ head-kinds s at e top tp p (said .es) (said .is)
+        ∙ head-kinds s at e top p (said .es) (said .is)
 
     spanned : Spans s at p (encHead top m) × (at + 2 ≤ p)
-    spanned = let r = head-read s bs at e top tp p (said .es) (said .is) m (said .many) in (r .span, r .past)
+    spanned = let r = head-read s bs at e top p (said .es) (said .is) m (said .many) in (r .span, r .past)
 
     pub node-room : Room s p (k + 1) × (at + 2 ≤ p)
     node-room = (record { within = spanned .0 .within; short = room .short; room = omega (arith, room .room, spanned .1) }, spanned .1)

@@ -11,10 +11,9 @@ use Rattle.frame.specs.Trees.{head, Tree, node, Forest, nil, cons, count}
 use Rattle.frame.specs.Tags.{Sort}
 use Rattle.tags.specs.TagCodes.{sortFor, kindsFor}
 use Rattle.frame.specs.Encoding.{encHead, enc, encs}
-use Rattle.frame.specs.Reading.{readHead}
 use Rattle.frame.specs.Spans.{Spans}
 use Rattle.octets.specs.Bytes.{SameParts}
-use Rattle.heads.specs.HeadPost.{headAnswer, HeadStands, KnownPost}
+use Rattle.heads.specs.HeadPost.{headThere, HeadStands, KnownPost}
 use Rattle.frame.specs.At.{IsAt}
 use Rattle.heads.proofs.View.{stands-at}
 use Rattle.heads.specs.declared.HeadAnswer.{HeadAnswer}
@@ -59,7 +58,7 @@ module _ (s : List ℕ) (e : Sort) (a b : ℕ) where
   pub both-inside : BothStand s e a b → (a + 2 ≤ length s) × (b + 2 ≤ length s)
   both-inside w = (stand-inside (w .left), stand-inside (w .right))
 
-  module _ (hd : HeadAnswer) (eh : hd ≡ headAnswer (readHead s a e)) where
+  module _ (hd : HeadAnswer) (eh : hd ≡ headThere s a e) where
     pub heads-refused : BothStand s e a b → (c : ℕ) → hd ≡ H.Refused c → HeadsPost s e a b Differ
     heads-refused w c ec = view-refused s a e (w .t) hd eh (w .left) c ec
 
@@ -256,7 +255,7 @@ left-at s e a b w = stands-at s e a (w .t) (a + length (enc (w .t))) (w .left .b
 pub left-stands : (s : List ℕ) (e : Sort) (a b : ℕ) → BothStand s e a b → HeadStands s a
 left-stands s e a b w = (e, w .t, _, left-at s e a b w)
 
-pub left-known : (s : List ℕ) (e : Sort) (a b : ℕ) → BothStand s e a b → (h : HeadAnswer) → KnownPost s a h → h ≡ headAnswer (readHead s a e)
+pub left-known : (s : List ℕ) (e : Sort) (a b : ℕ) → BothStand s e a b → (h : HeadAnswer) → KnownPost s a h → h ≡ headThere s a e
 left-known s e a b w h k = k .by e (w .t) _ (left-at s e a b w)
 
 pub at-sort : {s : List ℕ} {f o : Bool} {a b : ℕ} → f ≡ o → BothStand s (sortFor f) a b → BothStand s (sortFor o) a b

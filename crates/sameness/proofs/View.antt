@@ -17,12 +17,13 @@ use Rattle.frame.specs.Encoding.{encNumber, encTys, encHead, enc, encs}
 use Rattle.frame.specs.Reading.{okH, readHead}
 use Rattle.frame.specs.WellFormed.{numberIn, HeadWf, Wfs}
 use Rattle.frame.specs.Spans.{Spans}
-use Rattle.heads.specs.HeadPost.{headAnswer}
+use Rattle.frame.specs.At.{typesAt}
+use Rattle.heads.specs.HeadPost.{headThere}
 use Rattle.heads.specs.declared.HeadAnswer.{HeadAnswer}
 use Rattle.heads.specs.declared.HeadAnswer.the-variants as H
 use Rattle.frame.proofs.Spans.{span-left, span-right}
 use Rattle.frame.proofs.Numbers.{number-length}
-use Rattle.frame.proofs.Inversion.{noH-not}
+use Rattle.frame.proofs.Inversion.{noH-not, tagAt, head-inv}
 use Rattle.frame.proofs.ReadBack.{head-long, enc-long, head-back}
 use Rattle.heads.proofs.HeadSays.{head-yes, head-no, head-kinds}
 use Rattle.tags.proofs.FormTables.{kinds-rest}
@@ -30,21 +31,20 @@ use Rattle.sameness.specs.Stands.{Stands, StandAll}
 
 -- ---- a tree and its head
 
--- the head of the tree that stands at `at` as it is read: its types from tp to p, its children from p on, of the sorts es
+-- the head of the tree that stands at `at` as it is read: its types up to p, its children from p on, of the sorts es
 pub record Read (s : List ℕ) (at : ℕ) (e : Sort) (t : Tree) : Type 0 where
   pub g : ℕ
   pub n : ℕ
   pub us : List Ty
   pub ks : Forest
-  pub tp : ℕ
   pub p : ℕ
   pub es : List Sort
   pub is : t ≡ node (head g n us) ks
   pub wf : HeadWf e g n us (count ks)
   pub sorts : es ≡ sortsOf (formOf g .layout) (numberIn g n us (count ks))
-  pub read : readHead s at e ≡ okH (head g n us) tp p es
+  pub read : readHead s at e ≡ okH (head g n us) p es
   pub top : Spans s at p (encHead (head g n us) (count ks))
-  pub types : Spans s tp p (encTys us)
+  pub types : Spans s (typesAt s at) p (encTys us)
   pub kids : StandAll s p es ks
   pub ends : at + length (enc t) ≡ p + length (encs ks)
   pub past : at + 2 ≤ p
@@ -67,20 +67,22 @@ module _ (s : List ℕ) (at : ℕ) (e : Sort) where
       let a = span-left (encHead h k) (encs ks) (st .bytes) in
       let b = span-right (encHead h k) (encs ks) (st .bytes) in
       let z : at + length (encHead h k ++ encs ks) ≡ p + length (encs ks) = omega (arith, length-append (encHead h k) (encs ks)) in
+      let r = head-back s at e g n us k p (st .formed .0) a in
+      let i = head-inv s at e h p (sortsOf (formOf g .layout) (numberIn g n us k)) r .is in
+      let y : g ≡ tagAt s at = cc in
       record {
         g = g;
         n = n;
         us = us;
         ks = ks;
-        tp = at + 2 + width (formOf g .layout);
         p = p;
         es = sortsOf (formOf g .layout) (numberIn g n us k);
         is = refl;
         wf = st .formed .0;
         sorts = refl;
-        read = head-back s at e g n us k p (st .formed .0) a;
+        read = r;
         top = a;
-        types = types-of g n us k p a;
+        types = subst (λ (g : ℕ). Spans s (at + 2 + width (formOf g .layout)) p (encTys us)) y (types-of g n us k p a);
         kids = record { bytes = subst (λ (i : ℕ). Spans s p i (encs ks)) z b; formed = st .formed .1 };
         ends = z;
         past = omega (arith, head-long h k);
@@ -106,29 +108,29 @@ all-count nil (e ∷ es) w = absurd w
 all-count (cons t ts) [] w = absurd w
 all-count (cons t ts) (e ∷ es) w = ap suc (all-count ts es (w .1))
 
-module _ (s : List ℕ) (at : ℕ) (e : Sort) (t : Tree) (hd : HeadAnswer) (eh : hd ≡ headAnswer (readHead s at e)) where
+module _ (s : List ℕ) (at : ℕ) (e : Sort) (t : Tree) (hd : HeadAnswer) (eh : hd ≡ headThere s at e) where
   -- an answer says what the head is
   pub record Said (r : Read s at e t) (g n tp p m : ℕ) (a b : Bool) : Type 0 where
     pub tag : r .g ≡ g
     pub own : r .n ≡ n
-    pub types : r .tp ≡ tp
+    pub types : typesAt s at ≡ tp
     pub from : r .p ≡ p
     pub many : m ≡ count (r .ks)
     pub kinds : kindsFor m a b ≡ r .es
 
   pub said : (r : Read s at e t) (g n tp p m : ℕ) (a b : Bool) → hd ≡ H.Is g n tp p m a b → Said r g n tp p m a b
   said r g n tp p m a b ei =
-      let d = head-yes (readHead s at e) g n tp p m a b (sym ei ∙ eh) in
+      let d = head-yes s at e g n tp p m a b (sym ei ∙ eh) in
       let ee : d .es ≡ r .es = cc (r .read, d .is) in
       record {
         tag = cc (r .read);
         own = cc (r .read);
-        types = cc (r .read, d .is);
+        types = sym (d .starts);
         from = cc (r .read, d .is);
         many = d .many ∙ ap (λ (l : List Sort). length l) ee ∙ sym (all-count (r .ks) (r .es) (r .kids .formed));
         kinds = ap (λ (i : ℕ). kindsFor i a b) (d .many)
             ∙ ap₂ (λ (x y : Bool). kindsFor (length (d .es)) x y) (d .first) (d .later)
-            ∙ head-kinds s at e (head g n (d .ts)) tp p (d .es) (d .is)
+            ∙ head-kinds s at e (head g n (d .ts)) p (d .es) (d .is)
             ∙ ee;
       }
 
@@ -152,7 +154,7 @@ module _ (s : List ℕ) (at : ℕ) (e : Sort) (t : Tree) (hd : HeadAnswer) (eh :
 
     -- where a tree stands, its head is read
     pub view-refused {ℓ} : {X : Type ℓ} (c : ℕ) → hd ≡ H.Refused c → X
-    view-refused c ec = noH-not (sym (head-no (readHead s at e) c (sym ec ∙ eh)) ∙ read-there s at e t st .read)
+    view-refused c ec = noH-not (sym (head-no s at e c (sym ec ∙ eh)) ∙ read-there s at e t st .read)
 
 -- ---- where trees stand
 module _ {s : List ℕ} {at : ℕ} where

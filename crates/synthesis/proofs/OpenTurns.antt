@@ -1,6 +1,6 @@
 -- The ways out of `open_node`: what the head that is read says of the tree that stands there.
 -- Main results: view (the tree by the head that the code read), own-at, open-refused, open-bad, open-to.
-use mathlib.Core.Path.{_≡_, refl, sym, ap, ap₂, _∙_, subst, subst₃}
+use mathlib.Core.Path.{_≡_, refl, sym, ap, ap₂, _∙_, subst, subst₂, subst₃}
 use mathlib.Core.Bool.{Bool, true, false, _&&_}
 use mathlib.Core.List.{List, [], _∷_}
 use Prim.Native.Nat.{ℕ, zero, suc, _+_, _≤_, _<_}
@@ -17,7 +17,7 @@ use Rattle.frame.specs.WellFormed.{TyWf, HeadWf, numberIn}
 use Rattle.frame.specs.Places.{Ctx, under}
 use Rattle.frame.specs.Sameness.{sameTy, sameTys}
 use Rattle.frame.specs.Spans.{Bytes, Spans}
-use Rattle.heads.specs.HeadPost.{headAnswer, KnownPost}
+use Rattle.heads.specs.HeadPost.{headAnswer, headThere, KnownPost}
 use Rattle.heads.specs.declared.HeadAnswer.{HeadAnswer}
 use Rattle.heads.specs.declared.HeadAnswer.the-variants as H
 use Rattle.frame.proofs.Spans.{span-left}
@@ -27,7 +27,7 @@ use Rattle.typing.specs.Typing.{carriedTy, typeAt, wants, shape, nodeTyped, typ
 use Rattle.type_rules.specs.Patterns.{ownTypes}
 use Rattle.type_rules.specs.RuleNumbers.{ruleNumber}
 use Rattle.type_rules.specs.Patterns.{Operands}
-use Rattle.frame.specs.At.{IsAt, KidsAt}
+use Rattle.frame.specs.At.{typesAt, IsAt, KidsAt}
 use Rattle.synthesis.specs.TypingPosts.{ownPlace, OwnAt, OwnPre, Owning, OwnPost, LeafAt, OpenPre, OpenPost}
 use Rattle.patterns.specs.declared.Typed.{Typed}
 use Rattle.patterns.specs.declared.Typed.the-variants as T
@@ -47,7 +47,8 @@ pub record View (s : List ℕ) (at : ℕ) (e : Sort) (t : Tree) (q tag n tp p k 
   pub below : KidsAt s es p ks q
   pub many : count ks ≡ k
   pub counted : count ks ≡ length es
-  pub headed : readHead s at e ≡ okH (head tag n us) tp p es
+  pub headed : readHead s at e ≡ okH (head tag n us) p es
+  pub starts : tp ≡ typesAt s at
 
 tree-down : (s : List ℕ) (e : Sort) (at : ℕ) (t : Tree) (q f : ℕ) → readNode f s e at ≡ ok t q → (g : ℕ) × NodeInv g s e at t q
 unfolding readNode
@@ -57,16 +58,15 @@ tree-down s e at t q (suc f) a = (f, node-inv f s e at t q a)
 pub tree-head : (s : List ℕ) (e : Sort) (at : ℕ) (t : Tree) (q : ℕ) → IsAt s e at t q → (at + 2 ≤ length s) × (formOf (numberAt 2 s at) .sort ≡ e)
 tree-head s e at t q a =
     let v = tree-down s e at t q (a .0) (a .1) .1 in
-    let h = head-inv s at e (v .top) (v .types) (v .from) (v .sorts) (v .headed) in
+    let h = head-inv s at e (v .top) (v .from) (v .sorts) (v .headed) in
     (h .two-ok, h .sort)
 
 module _ (s : List ℕ) (at : ℕ) (e : Sort) (t : Tree) (q : ℕ) where
-  view-of : (top : Head) (tp′ p′ : ℕ) (es : List Sort) (ks : Forest) (f : ℕ) → readHead s at e ≡ okH top tp′ p′ es → readMany es (readNode f s) p′ ≡ okF ks q → t ≡ node top ks
-      → (tag n tp p k : ℕ) (a b : Bool) → H.Is tag n tp p k a b ≡ headAnswer (okH top tp′ p′ es) → View s at e t q tag n tp p k
-  view-of (head g m us) tp′ p′ es ks f hd bl ist tag n tp p k a b eq =
+  view-of : (top : Head) (p′ : ℕ) (es : List Sort) (ks : Forest) (f : ℕ) → readHead s at e ≡ okH top p′ es → readMany es (readNode f s) p′ ≡ okF ks q → t ≡ node top ks
+      → (tag n tp p k : ℕ) (a b : Bool) → H.Is tag n tp p k a b ≡ headAnswer (typesAt s at) (okH top p′ es) → View s at e t q tag n tp p k
+  view-of (head g m us) p′ es ks f hd bl ist tag n tp p k a b eq =
       let eg : tag ≡ g = cc in
       let em : n ≡ m = cc in
-      let et : tp ≡ tp′ = cc in
       let ep : p ≡ p′ = cc in
       let ek : k ≡ length es = cc in
       let c = many-count es (readNode f s) p′ ks q bl in
@@ -79,21 +79,22 @@ module _ (s : List ℕ) (at : ℕ) (e : Sort) (t : Tree) (q : ℕ) where
         many = c ∙ sym ek;
         counted = c;
         headed = cc;
+        starts = cc;
       }
 
-  pub view : IsAt s e at t q → (h : HeadAnswer) → h ≡ headAnswer (readHead s at e) → (tag n tp p k : ℕ) (a b : Bool) → h ≡ H.Is tag n tp p k a b → View s at e t q tag n tp p k
+  pub view : IsAt s e at t q → (h : HeadAnswer) → h ≡ headThere s at e → (tag n tp p k : ℕ) (a b : Bool) → h ≡ H.Is tag n tp p k a b → View s at e t q tag n tp p k
   view w h eh tag n tp p k a b hi =
       let d = tree-down s e at t q (w .0) (w .1) in
       let v = d .1 in
-      view-of (v .top) (v .types) (v .from) (v .sorts) (v .kids) (d .0) (v .headed) (v .below) (v .is) tag n tp p k a b (sym hi ∙ eh ∙ ap headAnswer (v .headed))
+      view-of (v .top) (v .from) (v .sorts) (v .kids) (d .0) (v .headed) (v .below) (v .is) tag n tp p k a b (sym hi ∙ eh ∙ ap (headAnswer (typesAt s at)) (v .headed))
 
-  refused-of {ℓ} : {X : Type ℓ} (top : Head) (tp p : ℕ) (es : List Sort) (c : ℕ) → H.Refused c ≡ headAnswer (okH top tp p es) → X
-  refused-of (head g m us) tp p es c eq = let z : _≡_ {A = ℕ} 0 1 = cc in absurd (omega arith)
+  refused-of {ℓ} : {X : Type ℓ} (top : Head) (p : ℕ) (es : List Sort) (c : ℕ) → H.Refused c ≡ headAnswer (typesAt s at) (okH top p es) → X
+  refused-of (head g m us) p es c eq = let z : _≡_ {A = ℕ} 0 1 = cc in absurd (omega arith)
 
-  no-view {ℓ} : {X : Type ℓ} → IsAt s e at t q → (h : HeadAnswer) → h ≡ headAnswer (readHead s at e) → (c : ℕ) → h ≡ H.Refused c → X
+  no-view {ℓ} : {X : Type ℓ} → IsAt s e at t q → (h : HeadAnswer) → h ≡ headThere s at e → (c : ℕ) → h ≡ H.Refused c → X
   no-view w h eh c hr =
       let v = tree-down s e at t q (w .0) (w .1) .1 in
-      refused-of (v .top) (v .types) (v .from) (v .sorts) c (sym hr ∙ eh ∙ ap headAnswer (v .headed))
+      refused-of (v .top) (v .from) (v .sorts) c (sym hr ∙ eh ∙ ap (headAnswer (typesAt s at)) (v .headed))
 
 -- ---- what a view says
 one-type : (us : List Ty) → length us ≡ 1 → (v : Ty) × (us ≡ v ∷ [])
@@ -102,8 +103,8 @@ one-type (v ∷ []) h = (v, refl)
 one-type (v ∷ w ∷ us) h = absurd (omega arith)
 
 module _ (s : List ℕ) (bs : Bytes s) (at : ℕ) (e : Sort) (t : Tree) (q tag n tp p k : ℕ) (v : View s at e t q tag n tp p k) where
-  read : HeadRead s at e (head tag n (v .us)) tp p (v .es) (count (v .ks))
-  read = head-read s bs at e (head tag n (v .us)) tp p (v .es) (v .headed) (count (v .ks)) (v .counted)
+  read : HeadRead s at e (head tag n (v .us)) p (v .es) (count (v .ks))
+  read = head-read s bs at e (head tag n (v .us)) p (v .es) (v .headed) (count (v .ks)) (v .counted)
 
   formed : HeadWf e tag n (v .us) (count (v .ks))
   formed =
@@ -125,7 +126,7 @@ module _ (s : List ℕ) (bs : Bytes s) (at : ℕ) (e : Sort) (t : Tree) (q tag n
   view-past = (read .past, read .span .within)
 
   carried-span : Spans s tp p (encTys (v .us))
-  carried-span = let z = read .is in let c : read .ts ≡ v .us = cc in subst (λ (l : List Ty). Spans s tp p (encTys l)) c (read .types)
+  carried-span = let z = read .is in let c : read .ts ≡ v .us = cc in subst₂ (λ (i : ℕ) (l : List Ty). Spans s i p (encTys l)) (sym (v .starts)) c (read .types)
 
   module _ (Γ : Ctx) (leaf : ℕ) (lf : LeafAt t Γ s leaf) where
     of-bound : ruleNumber (classOf tag) ≡ 6 → Spans s leaf (leaf + length (encTy (typeAt Γ n))) (encTy (typeAt Γ n))
