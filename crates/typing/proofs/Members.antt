@@ -1,7 +1,7 @@
 -- Members of lists: of two lists joined, and what holds of each.
 -- Main results: in-left, in-right, in-either (members of two lists joined); all-join, all-left, all-right (what holds of each member
 -- of them); all-of, all-in (from membership, and back).
-use mathlib.Core.Path.{_≡_, refl, sym, subst}
+use mathlib.Core.Path.{refl, sym, subst}
 use mathlib.Core.Logic.{_⊎_, inl, inr}
 use mathlib.Core.List.{List, [], _∷_, _++_}
 use Rattle.typing.specs.Members.{In, All}
