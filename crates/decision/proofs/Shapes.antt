@@ -52,10 +52,6 @@ pub second-placed : {s st nx : List ℕ} {a b : ℕ} → HereTwo s st nx a b →
 second-placed h = placed (h .table) (h .second)
 
 -- ---- shapes
-none-left : (ks : Forest) → Wfs ks [] → ks ≡ nil
-none-left nil w = refl
-none-left (cons a ks) w = absurd w
-
 pub record Bare (g : ℕ) (v : Tree) : Type 0 where
   pub n : ℕ
   pub us : List Ty

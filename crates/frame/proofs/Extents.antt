@@ -1,5 +1,5 @@
 -- How far trees reach: where a tree that is read ends, and how many nodes and bytes it has.
--- Main results: node-end, node-fuel (more fuel reads the same), some-node, nodes-enc, nodesIn-encs, starts-length, startsIn-length,
+-- Main results: node-end, some-node, nodes-enc, nodesIn-encs, starts-length, startsIn-length,
 -- starts-first, starts-rest (the table of starts, at a place of the first tree and of the others).
 use mathlib.Core.Path.{_≡_, refl, ap}
 use mathlib.Core.List.{List, _++_}
@@ -10,23 +10,15 @@ use lib.Seq.{getD-append-add}
 use Rattle.frame.specs.Trees.{Tree, node, Forest, nil, cons, count, nodes, nodesIn}
 use Rattle.frame.specs.Tags.{Sort}
 use Rattle.frame.specs.Encoding.{encHead, enc, encs, starts, startsIn}
-use Rattle.frame.specs.Reading.{ok, okF, readMany, readNode}
+use Rattle.frame.specs.Reading.{ok, readNode}
 use Rattle.frame.specs.Spans.{Bytes}
-use Rattle.frame.proofs.ReadTrees.{node-enc, node-wf, many-enc, many-wf}
-use Rattle.frame.proofs.ReadBack.{head-long, enc-long, node-back, many-back}
+use Rattle.frame.proofs.ReadTrees.{node-enc}
+use Rattle.frame.proofs.ReadBack.{head-long, enc-long}
 
 module _ (f : ℕ) (s : List ℕ) (bs : Bytes s) where
   -- a tree that is read has two bytes at least, all of them in the list
   pub node-end : (e : Sort) (at : ℕ) (t : Tree) (q : ℕ) → readNode f s e at ≡ ok t q → (at + 2 ≤ q) × (q ≤ length s)
   node-end e at t q eq = let a = node-enc f s bs e at t q eq in (omega (arith, a .long, enc-long t), a .within)
-
-  -- it is read with any fuel that reaches past its end
-  pub node-fuel : (e : Sort) (at : ℕ) (t : Tree) (q : ℕ) → readNode f s e at ≡ ok t q → (k : ℕ) → q < at + k → readNode k s e at ≡ ok t q
-  node-fuel e at t q eq k l = node-back t k s e at q (node-enc f s bs e at t q eq) (node-wf f s bs e at t q eq) l
-
-  pub many-fuel : (es : List Sort) (at : ℕ) (ts : Forest) (q : ℕ) → at ≤ length s → readMany es (readNode f s) at ≡ okF ts q
-      → (k : ℕ) → q < at + k → readMany es (readNode k s) at ≡ okF ts q
-  many-fuel es at ts q h eq k l = many-back ts k s es at q (many-enc f s bs es at ts q h eq) (many-wf f s bs es at ts q h eq) l
 
 -- a tree has a node
 pub some-node : (t : Tree) → 0 < nodes t

@@ -1,7 +1,7 @@
 -- Numbers of w bytes, high byte first: reading and writing are inverse. One law over the width for both directions.
--- Main results: number-length, number-small, number-span, number-back, number-bytes, number-injective, number-more.
+-- Main results: number-length, number-small, number-span, number-back, number-bytes, number-more.
 use mathlib.Core.Path.{_≡_, refl, sym, ap, ap₂, _∙_, subst}
-use mathlib.Core.List.{List, [], _++_, append-nil}
+use mathlib.Core.List.{List, _++_}
 use Prim.Native.Nat.{ℕ, zero, suc, _+_, _*_, _/_, _%_, _^_, _≤_, _<_}
 use native.Mathlib.Omega.{arith}
 use native.Mathlib.Nat.{add-zero, suc-mul, mul-le-mul-right, one-le-pow, pow-suc, mod-lt, mul-add-div-right, mul-add-mod-self-right, div-eq-of-lt, mod-eq-of-lt, div-add-mod', div-lt-iff-lt-mul, mul-assoc, pow-le-pow-right, lt-of-lt-of-le}
@@ -11,7 +11,7 @@ use lib.Dec.{lit<}
 use Rattle.frame.specs.Encoding.{encNumber}
 use Rattle.frame.specs.Reading.{numberAt}
 use Rattle.frame.specs.Spans.{Bytes, Spans}
-use Rattle.frame.proofs.Spans.{span-nil, span-cons, span-first, span-whole, bytes-nil, bytes-cons}
+use Rattle.frame.proofs.Spans.{span-nil, span-cons, span-first, bytes-nil, bytes-cons}
 
 -- a power of 256 is no zero
 pub power-positive : (w : ℕ) → 0 < 256 ^ w
@@ -85,20 +85,7 @@ number-bytes zero n h = bytes-nil
 number-bytes (suc w) n h =
     bytes-cons (n / 256 ^ w) (encNumber w (n % 256 ^ w)) (high-small w n h) (number-bytes w (n % 256 ^ w) (mod-lt n (power-positive w)))
 
--- a number read back from its own bytes
-pub number-own : (w n : ℕ) → n < 256 ^ w → numberAt w (encNumber w n) 0 ≡ n
-number-own w n h =
-    let a : Spans (encNumber w n) 0 (length (encNumber w n)) (encNumber w n ++ []) = rw append-nil (span-whole (encNumber w n)) in
-    number-back w (encNumber w n) 0 (length (encNumber w n)) n [] h a .number
-
-pub number-injective : (w m n : ℕ) → m < 256 ^ w → n < 256 ^ w → encNumber w m ≡ encNumber w n → m ≡ n
-number-injective w m n h k e = sym (number-own w m h) ∙ ap (λ (s : List ℕ). numberAt w s 0) e ∙ number-own w n k
-
--- the two widths that the code reads by name
-pub number-one : (s : List ℕ) (p : ℕ) → numberAt 1 s p ≡ getD s p 0
-unfolding numberAt
-number-one s p = omega arith
-
+-- a number of two bytes, as the code puts it together
 pub number-two : (s : List ℕ) (p : ℕ) → numberAt 2 s p ≡ getD s p 0 * 256 + getD s (p + 1) 0
 unfolding numberAt
 number-two s p = omega arith

@@ -20,9 +20,6 @@ cut-both u v xs ys l e = (
 pub cons-head : {x y : ℕ} {xs ys : List ℕ} → x ∷ xs ≡ y ∷ ys → x ≡ y
 cons-head e = cc
 
-pub cons-tail : {x y : ℕ} {xs ys : List ℕ} → x ∷ xs ≡ y ∷ ys → xs ≡ ys
-cons-tail e = cc
-
 -- the first byte of what stands there, and the rest
 pub record FirstOf (s : List ℕ) (at p x : ℕ) (xs : List ℕ) : Type 0 where
   pub byte : getD s at 0 ≡ x

@@ -1,5 +1,5 @@
 -- Places and bytes: the table of starts, what stands at a place, and what replacing it does to the bytes.
--- Main results: find-some, find-none, find-lt; find-moved, find-same (the subtree does not depend on the
+-- Main results: find-some, find-none, find-lt; find-moved (the subtree does not depend on the
 -- context); count-replace, replace-same; splice (a tree's bytes around a place, the same before and after whatever is put
 -- there), and by positions splice-there, splice-within, splice-bytes.
 use mathlib.Core.Path.{_≡_, refl, sym, ap, ap₂, _∙_}
@@ -75,9 +75,6 @@ mutual
   findIn-moved (cons t ks) Γ k Δ v e Θ =
       found-either (Finds v) (ltb k (nodes t)) (find t Γ k) (findIn ks Γ (k - nodes t)) (find t Θ k) (findIn ks Θ (k - nodes t)) Δ v e
       (λ h. find-moved t Γ k Δ v h Θ) (λ h. findIn-moved ks Γ (k - nodes t) Δ v h Θ)
-
-pub find-same : (t : Tree) (Γ Θ : Ctx) (k : ℕ) (Δ Ξ : Ctx) (v w : Tree) → find t Γ k ≡ found Δ v → find t Θ k ≡ found Ξ w → v ≡ w
-find-same t Γ Θ k Δ Ξ v w e f = let m = find-moved t Γ k Δ v e Θ in cc (m .1)
 
 -- ---- what a replacement keeps
 pub count-replace : (ks : Forest) (k : ℕ) (u : Tree) → count (replaceIn ks k u) ≡ count ks
@@ -177,9 +174,6 @@ mutual
   spliceIn (cons t ks) Γ k Δ v e p =
       splice-cons t ks k Δ v p (find t Γ k) (findIn ks Γ (k - nodes t)) (ltb k (nodes t)) refl e (λ h. splice t Γ k Δ v h p)
       (λ h. spliceIn ks Γ (k - nodes t) Δ v h (p + length (enc t)))
-
-pub splice-from : (t : Tree) (k : ℕ) (v : Tree) (p : ℕ) → Spliced t k v p → p ≤ getD (starts t p) k 0
-splice-from t k v p s = omega arith
 
 -- ---- the same by positions, for bytes that start at 0
 module _ (v : Tree) (a : ℕ) (s : List ℕ) (changed : Tree → List ℕ) (c : Splits v 0 a s changed) where

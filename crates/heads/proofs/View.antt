@@ -1,7 +1,7 @@
 -- Going over a frame that was read: from a tree that stands somewhere, and the head that `read_head` answers there, to the
 -- tree's own head and its children.
--- Main results: at-span, at-wf, at-end, at-unique, stands-at, parse-at, at-parse (what it is to stand somewhere);
--- kids-span, kids-wf, kids-end, kids-count, kids-unique, stand-all (the same of trees in a row); kids-none, kids-some (the
+-- Main results: at-span, at-wf, at-end, stands-at, parse-at (what it is to stand somewhere); kids-span, kids-wf,
+-- kids-end (the same of trees in a row); kids-none, kids-some (the
 -- first child and the others); head-of, view, no-view (by a head that was read).
 use mathlib.Core.Path.{_≡_, sym, ap, ap₂, _∙_, subst, subst₂}
 use mathlib.Core.Bool.{Bool}
@@ -9,13 +9,12 @@ use mathlib.Core.List.{List, []}
 use Prim.Native.Nat.{ℕ, zero, suc, _+_, _-_, _≤_}
 use native.Mathlib.Omega.{arith}
 use lib.ListN.{length}
-use borrow.Author.Tests.{ne-eqb, le-ltb}
 use Rattle.frame.specs.Types.{Ty}
 use Rattle.frame.specs.Trees.{Head, head, Tree, node, Forest, nil, cons, count}
 use Rattle.frame.specs.Tags.{Sort, predicate, formOf, width, sortsOf}
 use Rattle.tags.specs.TagCodes.{sortFor, kindsFor}
 use Rattle.frame.specs.Encoding.{encTys, enc, encs}
-use Rattle.frame.specs.Reading.{okH, readHead, ok, okF, readMany, readNode, frameLimit, tree, parse}
+use Rattle.frame.specs.Reading.{okH, readHead, ok, okF, readMany, readNode, tree, parse}
 use Rattle.frame.specs.WellFormed.{numberIn, HeadWf, Wf, Wfs}
 use Rattle.frame.specs.Spans.{Bytes, Spans}
 use Rattle.frame.specs.At.{typesAt, IsAt, KidsAt}
@@ -24,7 +23,7 @@ use Rattle.heads.specs.declared.HeadAnswer.{HeadAnswer}
 use Rattle.heads.specs.declared.HeadAnswer.the-variants as H
 use Rattle.frame.proofs.Inversion.{noH-not, no-not, many-inv, many-count, NodeInv, node-inv, head-inv, tagAt}
 use Rattle.frame.proofs.ReadTrees.{head-read, node-enc, node-wf, many-enc, many-wf}
-use Rattle.frame.proofs.ReadBack.{enc-long, node-back, many-back}
+use Rattle.frame.proofs.ReadBack.{enc-long, node-back}
 use Rattle.frame.proofs.Frames.{parse-inv}
 use Rattle.heads.proofs.HeadSays.{head-no, SaidThere, head-yes, head-kinds}
 use Rattle.tags.proofs.FormTables.{kinds-rest}
@@ -43,28 +42,12 @@ module _ (s : List ℕ) (bs : Bytes s) (e : Sort) (at : ℕ) (t : Tree) (q : ℕ
 pub stands-at : (s : List ℕ) (e : Sort) (at : ℕ) (t : Tree) (q : ℕ) → Spans s at q (enc t) → Wf t e → IsAt s e at t q
 stands-at s e at t q a w = (suc q, node-back t (suc q) s e at q a w (omega arith))
 
-pub at-unique : (s : List ℕ) → Bytes s → (e : Sort) (at : ℕ) (t : Tree) (q : ℕ) → IsAt s e at t q → (u : Tree) (r : ℕ) → IsAt s e at u r → (t ≡ u) × (q ≡ r)
-at-unique s bs e at t q a u r b =
-    let f : ℕ = suc (q + r) in
-    let x : readNode f s e at ≡ ok t q = node-back t f s e at q (at-span s bs e at t q a) (at-wf s bs e at t q a) (omega arith) in
-    let y : readNode f s e at ≡ ok u r = node-back u f s e at r (at-span s bs e at u r b) (at-wf s bs e at u r b) (omega arith) in
-    (cc, cc)
-
 -- a frame that parses is its tree, from its first byte to its last
 pub parse-at : (s : List ℕ) → Bytes s → (t : Tree) → parse s ≡ tree t → IsAt s predicate 0 t (length s)
 parse-at s bs t e =
     let v = parse-inv s t e in
     let z : v .end ≡ length s = omega (arith, v .all, node-enc (suc (length s)) s bs predicate 0 t (v .end) (v .root) .within) in
     subst (IsAt s predicate 0 t) z (suc (length s), v .root)
-
-pub at-parse : (s : List ℕ) → Bytes s → (t : Tree) → IsAt s predicate 0 t (length s) → length s ≤ frameLimit → parse s ≡ tree t
-unfolding parse
-at-parse s bs t a l =
-    let n : ℕ = length s in
-    let h : 2 ≤ n = at-end s bs predicate 0 t n a .0 in
-    let r : readNode (suc n) s predicate 0 ≡ ok t n = node-back t (suc n) s predicate 0 n (at-span s bs predicate 0 t n a) (at-wf s bs predicate 0 t n a) (omega arith) in
-    let z : n ≡ 0 → ⊥ = omega arith in
-    rw (ne-eqb n 0 z, le-ltb frameLimit n l, r, le-ltb n n (omega arith))
 
 -- ---- trees in a row
 module _ (s : List ℕ) (bs : Bytes s) (es : List Sort) (at : ℕ) (h : at ≤ length s) (ts : Forest) (q : ℕ) (a : KidsAt s es at ts q) where
@@ -76,20 +59,6 @@ module _ (s : List ℕ) (bs : Bytes s) (es : List Sort) (at : ℕ) (h : at ≤ l
 
   pub kids-end : (at ≤ q) × (q ≤ length s)
   kids-end = (omega (arith, kids-span .long), kids-span .within)
-
-pub kids-count : (s : List ℕ) (es : List Sort) (at : ℕ) (ts : Forest) (q : ℕ) → KidsAt s es at ts q → count ts ≡ length es
-kids-count s es at ts q a = many-count es (readNode (a .0) s) at ts q (a .1)
-
-pub stand-all : (s : List ℕ) (es : List Sort) (at : ℕ) (ts : Forest) (q : ℕ) → Spans s at q (encs ts) → Wfs ts es → KidsAt s es at ts q
-stand-all s es at ts q a w = (suc q, many-back ts (suc q) s es at q a w (omega arith))
-
-pub kids-unique : (s : List ℕ) → Bytes s → (es : List Sort) (at : ℕ) → at ≤ length s → (ts : Forest) (q : ℕ) → KidsAt s es at ts q → (us : Forest) (r : ℕ) → KidsAt s es at us r
-    → (ts ≡ us) × (q ≡ r)
-kids-unique s bs es at h ts q a us r b =
-    let f : ℕ = suc (q + r) in
-    let x : readMany es (readNode f s) at ≡ okF ts q = many-back ts f s es at q (kids-span s bs es at h ts q a) (kids-wf s bs es at h ts q a) (omega arith) in
-    let y : readMany es (readNode f s) at ≡ okF us r = many-back us f s es at r (kids-span s bs es at h us r b) (kids-wf s bs es at h us r b) (omega arith) in
-    (cc, cc)
 
 -- no child, or a first and the others
 pub record KidsView (s : List ℕ) (n : ℕ) (a b : Bool) (at : ℕ) (ks : Forest) (q : ℕ) : Type 0 where

@@ -100,7 +100,7 @@ fn given_number(s: &[u8], at: usize, lim: usize) -> TypeAnswer
 }
 
 // n types in a row.
-pub fn read_types(s: &[u8], at: usize, n: usize) -> TypeAnswer
+fn read_types(s: &[u8], at: usize, n: usize) -> TypeAnswer
     requires { ⌜ at ≤ length (now s) ⌝ }
     ensures { λ r. ⌜ r ≡ typesAnswer (readTys n (now (s .entry)) at) ⌝ }
 {

@@ -36,10 +36,6 @@ both-neutral : (d b : Bool) → both d (not d) b ≡ b
 both-neutral true b = refl
 both-neutral false b = refl
 
-both-decided : (d b : Bool) → both d d b ≡ d
-both-decided true b = refl
-both-decided false b = refl
-
 module _ {A : Type 0} where
   abbrev joined : Bool → (A → Bool) → List A → Bool
   joined false p l = all p l

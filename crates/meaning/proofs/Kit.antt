@@ -1,7 +1,7 @@
 -- What the trees that the equations build mean: truth, single integers, no intersection over nothing.
 -- Main results: many-single, leaf-single, one-single, two-single (any predicate without binders), bound-single (a quantifier),
 -- many-alive, leaf-alive, one-alive, two-alive, bound-alive (any node that is no intersection), kids-single, kids-alive (the
--- operands); NAME-truth for NAME one of not, and, or, implies, equiv, forall, exists, equal, member, subset; NAME-truth,
+-- operands); NAME-truth for NAME one of not, and, implies, equiv, forall, exists, equal, member, subset; NAME-truth,
 -- NAME-single, NAME-alive for empty (E = ∅) and full (E = Ty); type-full (a type's expression is everything),
 -- type-single, type-alive; single-type, no-int (the integers premise at a tree's type).
 use mathlib.Core.Path.{_≡_, refl, sym, ap, ap₂, _∙_, fun-ext}
@@ -18,7 +18,7 @@ use borrow.Author.Tests.{eq-eqb}
 use Rattle.typing.specs.Typing.{element, typeOf, typesIn}
 use Rattle.typing.specs.TypeExpression.{toExpression}
 use Rattle.typing.proofs.TypeExpression.{express-type}
-use Rattle.rules.specs.Equations.{¬ᵖ, _⇒_, _⇔_, ⋀, ⋁, ∀ᵖ, ∃ᵖ, _≐_, _∈ᵖ_, _⊆_, ∅, Ty-of, _≐∅, _≐Ty}
+use Rattle.rules.specs.Equations.{¬ᵖ, _⇒_, _⇔_, ⋀, ∀ᵖ, ∃ᵖ, _≐_, _∈ᵖ_, _⊆_, ∅, Ty-of, _≐∅, _≐Ty}
 use Rattle.meaning.specs.Lists.{any, all}
 use Rattle.meaning.specs.Operations.{Logic, Op, logic, equal, subset, member, opAt, opOf}
 use Rattle.meaning.specs.Meaning.{Interpretation, Vals, truth, val, setOf, some, every, equals, choices, bindersIn, nodeMeans, identifierValue, holds, valueOf, quantified, means, meansAll}
@@ -153,10 +153,6 @@ module _ (I : Interpretation) (Γ : Ctx) where
     pub and-truth : (ρ : Vals I Γ) → truth I (means I (⋀ ks) Γ) ρ ≡ all (λ k. truth I k ρ) (meansAll I ks Γ)
     unfolding means holds opOf opAt classOf lookup
     and-truth ρ = refl
-
-    pub or-truth : (ρ : Vals I Γ) → truth I (means I (⋁ ks) Γ) ρ ≡ any (λ k. truth I k ρ) (meansAll I ks Γ)
-    unfolding means holds opOf opAt classOf lookup
-    or-truth ρ = refl
 
   module _ (p q : Tree) where
     pub implies-truth : (ρ : Vals I Γ) → truth I (means I (p ⇒ q) Γ) ρ ≡ (not (truth I (means I p Γ) ρ) || truth I (means I q Γ) ρ)

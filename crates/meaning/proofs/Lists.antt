@@ -87,11 +87,6 @@ pub not-and : (a b : Bool) → not (a && b) ≡ (not a || not b)
 not-and true b = refl
 not-and false b = refl
 
-pub not-both : (a b : Bool) → not (a && b) ≡ (not a || (not b || false))
-not-both true true = refl
-not-both true false = refl
-not-both false b = refl
-
 pub nand : (a b : Bool) → (not a || b) ≡ not (a && not b)
 nand true true = refl
 nand true false = refl

@@ -1,6 +1,6 @@
 -- Replacing a subtree by one that means the same keeps what the tree means.
--- Main results: binders-agree (typing and meaning put the same binders around a node's operands), is-pred, is-expr (a
--- predicate means a truth, an expression a value), by-truth, Keeps, keeps-truth, keeps-at-place, single-at-place.
+-- Main results: binders-agree (typing and meaning put the same binders around a node's operands), is-pred (a
+-- predicate means a truth), by-truth, Keeps, keeps-truth, keeps-at-place.
 use mathlib.Core.Path.{_≡_, refl, sym, ap, _∙_, fun-ext}
 use mathlib.Core.Bool.{Bool, true, false}
 use mathlib.Core.List.{List, []}
@@ -11,11 +11,11 @@ use Rattle.frame.specs.Trees.{head, Tree, node, Forest, cons}
 use Rattle.frame.specs.Tags.{Sort, predicate, expression, bindersOf, formAt, formOf, classOf}
 use Rattle.frame.specs.Tags as C
 use Rattle.frame.specs.Places.{Ctx, push, under, found, find, replace}
-use Rattle.frame.proofs.AtPlace.{at-place, down-place}
+use Rattle.frame.proofs.AtPlace.{at-place}
 use Rattle.typing.specs.Typing.{result, typeOf, typesIn}
 use Rattle.typing.specs.Accepted.{Accepted}
 use Rattle.meaning.specs.Operations.{Op, logic, quantifier, operator, binding, opAt, opOf}
-use Rattle.meaning.specs.Meaning.{Interpretation, Vals, Den, pred, expr, truth, val, bindersIn, nodeMeans, means, meansAll}
+use Rattle.meaning.specs.Meaning.{Interpretation, Vals, Den, pred, truth, bindersIn, nodeMeans, means, meansAll}
 use Rattle.meaning.specs.Premises.{SingleIntegers, SingleIntegersIn, NoInterOverNothing, NoInterOverNothingIn}
 
 -- an operator suits the sort of its tag, and a predicate has no type
@@ -30,20 +30,13 @@ Suits true expression (quantifier o) t = ⊥
 Suits true expression (operator o) t = Unit {0}
 Suits true expression (binding o) t = Unit {0}
 
--- a node with this head is a predicate, an expression
+-- a node with this head is a predicate
 abbrev pub Formula : Tree → Type 0
 Formula (node (head g n us) ks) = (formOf g .listed ≡ true) × (formOf g .sort ≡ predicate)
-
-abbrev pub Expression : Tree → Type 0
-Expression (node (head g n us) ks) = (formOf g .listed ≡ true) × (formOf g .sort ≡ expression)
 
 pub accepted-formula : (σ : ℕ → Ty) (t : Tree) (Γ : Ctx) → Accepted σ t Γ predicate → Formula t
 unfolding Accepted
 accepted-formula σ (node (head g n us) ks) Γ a = (a .top .formed .listed, a .top .formed .sort)
-
-pub accepted-expression : (σ : ℕ → Ty) (t : Tree) (Γ : Ctx) → Accepted σ t Γ expression → Expression t
-unfolding Accepted
-accepted-expression σ (node (head g n us) ks) Γ a = (a .top .formed .listed, a .top .formed .sort)
 
 module _ (I : Interpretation) where
   class-op : (c : C.Class) (g n : ℕ) (us : List Ty) (Γ : Ctx) (ts : List Ty)
@@ -119,15 +112,6 @@ module _ (I : Interpretation) where
   suits-pred true predicate (binding o) t g n us Γ ts ks p q s = absurd s
   suits-pred true expression o t g n us Γ ts ks p q s = let z : _≡_ {A = ℕ} 0 1 = cc in absurd (omega arith)
 
-  suits-expr : (b : Bool) (e : Sort) (o : Op) (t : Ty) (g n : ℕ) (us : List Ty) (Γ : Ctx) (ts : List Ty) (ks : List (Den I (push (bindersIn I o us) Γ)))
-      → b ≡ true → e ≡ expression → Suits b e o t → expr (val I (nodeMeans I o g n us Γ ts ks)) ≡ nodeMeans I o g n us Γ ts ks
-  suits-expr false e o t g n us Γ ts ks p q s = let z : _≡_ {A = ℕ} 0 1 = cc in absurd (omega arith)
-  suits-expr true predicate o t g n us Γ ts ks p q s = let z : _≡_ {A = ℕ} 0 1 = cc in absurd (omega arith)
-  suits-expr true expression (logic o) t g n us Γ ts ks p q s = absurd s
-  suits-expr true expression (quantifier o) t g n us Γ ts ks p q s = absurd s
-  suits-expr true expression (operator o) t g n us Γ ts ks p q s = refl
-  suits-expr true expression (binding o) t g n us Γ ts ks p q s = refl
-
   -- ts are the types of the operands
   pred-node : (g n : ℕ) (us : List Ty) (ks : Forest) (Γ : Ctx) (ts : List Ty) → Formula (node (head g n us) ks)
       → let k = nodeMeans I (opOf g) g n us Γ ts (meansAll I ks (push (bindersIn I (opOf g) us) Γ)) in (pred (truth I k) ≡ k) × (result (classOf g) n us Γ ts ≡ bool)
@@ -139,14 +123,6 @@ module _ (I : Interpretation) where
   pub is-pred : (t : Tree) (Γ : Ctx) → Formula t → pred (truth I (means I t Γ)) ≡ means I t Γ
   unfolding means
   is-pred (node (head g n us) ks) Γ f = pred-node g n us ks Γ (typesIn ks (push (bindersIn I (opOf g) us) Γ)) f .0
-
-  pub is-expr : (t : Tree) (Γ : Ctx) → Expression t → expr (val I (means I t Γ)) ≡ means I t Γ
-  unfolding means opOf
-  is-expr (node (head g n us) ks) Γ f =
-      let Δ = push (bindersIn I (opOf g) us) Γ in
-      let ts = typesIn ks Δ in
-      suits-expr (formOf g .listed) (formOf g .sort) (opOf g) (result (classOf g) n us Γ ts) g n us Γ ts (meansAll I ks Δ) (f .0) (f .1)
-      (class-op (classOf g) g n us Γ ts .1)
 
   pub formula-type : (t : Tree) (Γ : Ctx) → Formula t → typeOf t Γ ≡ bool
   unfolding typeOf
@@ -210,8 +186,3 @@ module _ (I : Interpretation) where
       → (SingleIntegers v Δ → Keeps Δ v u) → Keeps Γ t (replace t k u)
   keeps-at-place t Γ k Δ v u e f h =
       at-place (λ Γ a b. SingleIntegers a Γ → Keeps Γ a b) (λ Γ ks ls. SingleIntegersIn ks Γ → KeepsAll Γ ks ls) at-node at-first at-rest t Γ k Δ v u e h f
-
-pub single-at-place : (t : Tree) (Γ : Ctx) (k : ℕ) (Δ : Ctx) (v : Tree) → find t Γ k ≡ found Δ v → SingleIntegers t Γ → SingleIntegers v Δ
-unfolding SingleIntegers
-single-at-place t Γ k Δ v e f =
-    down-place (λ Γ a. SingleIntegers a Γ) (λ Γ ks. SingleIntegersIn ks Γ) (λ g n us ks Γ s. s .3) (λ t ks Γ s. s .0) (λ t ks Γ s. s .1) t Γ k Δ v e f

@@ -14,7 +14,7 @@ const FIRST_BINARY: usize = 101;
 const LAST_BINARY: usize = 252;
 
 // How many children the node that starts at `at` has: its tag says it, or the count byte behind the tag.
-pub fn children_at(s: &[u8], at: usize) -> usize
+fn children_at(s: &[u8], at: usize) -> usize
     requires { ⌜ Rooted (now s) at ⌝ }
     ensures { λ r. ⌜ ArityPost (now (s .entry)) at r ⌝ }
 {

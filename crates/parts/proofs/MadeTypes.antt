@@ -47,9 +47,6 @@ module _ (s : List ℕ) (at : ℕ) where
   pub parts-within : HasParts s at → at < length s
   parts-within w = lead-is (w .0) (w .1 .1) .1
 
-  pub parts-has : HasParts s at → HasType s at
-  parts-has w = (w .0, w .1 .1)
-
   pub element-below : getD s at 0 ≡ 3 → PartAt element s at (at + 1)
   element-below e = record { there = λ t h. go t (h .1) (sym (lead-is t (h .1) .0) ∙ e) }
     where

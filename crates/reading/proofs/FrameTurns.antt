@@ -1,10 +1,10 @@
 -- The ways out of `read`, on plain values.
--- Main results: read-empty, read-long, read-refused, read-more, read-whole; sets-zeros; table-at (the start of the node at a place).
+-- Main results: read-empty, read-long, read-refused, read-more, read-whole; sets-zeros.
 use mathlib.Core.Path.{_≡_, sym, ap, _∙_}
 use mathlib.Core.List.{List, _++_}
 use Prim.Native.Nat.{ℕ, zero, suc, _+_, _-_, _≤_, _<_}
 use native.Mathlib.Omega.{arith}
-use lib.ListN.{length, drop, getD, replicate, length-replicate, List·getD-append}
+use lib.ListN.{length, drop, replicate, length-replicate}
 use lib.Seq.{sets, sets-eq}
 use borrow.Author.Tests.{lt-ltb, le-ltb, eq-eqb, ne-eqb}
 use Rattle.frame.specs.Trees.{Tree, nodes}
@@ -88,7 +88,3 @@ module _ (s : List ℕ) (h : length s ≡ 0 → ⊥) (l : length s ≤ frameLimi
               ∙ ap (λ (i : ℕ). starts u 0 ++ replicate (tableSize - i) 0) n
               ∙ ap tableOf (sym is),
         )
-
--- ---- what the table says of a place: where its node starts
-pub table-at : (t : Tree) (k : ℕ) → k < nodes t → getD (tableOf (tree t)) k 0 ≡ getD (starts t 0) k 0
-table-at t k h = List·getD-append (starts t 0) (replicate (tableSize - nodes t) 0) 0 k (omega (arith, starts-length t 0))

@@ -12,7 +12,7 @@ use Rattle.frame.specs.Types.{Ty}
 use Rattle.frame.specs.Trees.{Head, head, Tree, node, Forest, count}
 use Rattle.frame.specs.Tags.{pick, Sort, formOf, sortsOf, classOf, range}
 use Rattle.frame.specs.Encoding.{encTy, encTys}
-use Rattle.frame.specs.Reading.{numberAt, okH, readHead, ok, okF, readMany, readNode, typeLimit}
+use Rattle.frame.specs.Reading.{okH, readHead, ok, okF, readMany, readNode, typeLimit}
 use Rattle.frame.specs.WellFormed.{TyWf, HeadWf, numberIn}
 use Rattle.frame.specs.Places.{Ctx, under}
 use Rattle.frame.specs.Sameness.{sameTy, sameTys}
@@ -21,7 +21,7 @@ use Rattle.heads.specs.HeadPost.{headAnswer, headThere, KnownPost}
 use Rattle.heads.specs.declared.HeadAnswer.{HeadAnswer}
 use Rattle.heads.specs.declared.HeadAnswer.the-variants as H
 use Rattle.frame.proofs.Spans.{span-left}
-use Rattle.frame.proofs.Inversion.{NodeInv, node-inv, no-not, head-inv, many-count}
+use Rattle.frame.proofs.Inversion.{NodeInv, node-inv, no-not, many-count}
 use Rattle.frame.proofs.ReadTrees.{HeadRead, head-read}
 use Rattle.typing.specs.Typing.{carriedTy, typeAt, wants, shape, nodeTyped, typesIn, typedTree, typedForest}
 use Rattle.type_rules.specs.Patterns.{ownTypes}
@@ -54,12 +54,6 @@ tree-down : (s : List ℕ) (e : Sort) (at : ℕ) (t : Tree) (q f : ℕ) → read
 unfolding readNode
 tree-down s e at t q zero a = no-not a
 tree-down s e at t q (suc f) a = (f, node-inv f s e at t q a)
-
-pub tree-head : (s : List ℕ) (e : Sort) (at : ℕ) (t : Tree) (q : ℕ) → IsAt s e at t q → (at + 2 ≤ length s) × (formOf (numberAt 2 s at) .sort ≡ e)
-tree-head s e at t q a =
-    let v = tree-down s e at t q (a .0) (a .1) .1 in
-    let h = head-inv s at e (v .top) (v .from) (v .sorts) (v .headed) in
-    (h .two-ok, h .sort)
 
 module _ (s : List ℕ) (at : ℕ) (e : Sort) (t : Tree) (q : ℕ) where
   view-of : (top : Head) (p′ : ℕ) (es : List Sort) (ks : Forest) (f : ℕ) → readHead s at e ≡ okH top p′ es → readMany es (readNode f s) p′ ≡ okF ks q → t ≡ node top ks

@@ -376,7 +376,3 @@ close-as {st} {o} {p} {r} x y z = subst₂ (λ (i j : ℕ). ClosePost i st o j p
 
 pub judge-as : {o : List ℕ} {c d n : ℕ} → c ≡ d → JudgePre o d n → JudgePre o c n
 judge-as {o} {n} x z = subst (λ (i : ℕ). JudgePre o i n) (sym x) z
-
-pub open-as : {s : List ℕ} {at leaf : ℕ} {t l l₀ f : List ℕ} {top : ℕ} {o : List ℕ} {end : ℕ} {t₁ l₁ f₁ types : List ℕ} {r : Opened}
-    → l ≡ l₀ → OpenPost s at leaf t l f top o end t₁ l₁ f₁ types r → OpenPost s at leaf t l₀ f top o end t₁ l₁ f₁ types r
-open-as {s} {at} {leaf} {t} {f} {top} {o} {end} {t₁} {l₁} {f₁} {types} {r} x z = subst (λ (l : List ℕ). OpenPost s at leaf t l f top o end t₁ l₁ f₁ types r) x z

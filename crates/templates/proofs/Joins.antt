@@ -1,5 +1,5 @@
 -- The bytes of a node with any children, by what its tag asks for: the tag, a count where there is one, and the children.
--- Main results: plain-bytes, counted-bytes, binding-bytes; and-bytes, or-bytes, inter-bytes, union-bytes.
+-- Main results: plain-bytes, counted-bytes; and-bytes, or-bytes, inter-bytes, union-bytes.
 use mathlib.Core.Path.{_≡_, refl, ap, _∙_}
 use mathlib.Core.List.{List, [], _∷_, _++_, append-assoc, append-nil}
 use Prim.Native.Nat.{ℕ, _/_}
@@ -7,7 +7,7 @@ use native.Mathlib.Omega.{arith}
 use lib.ListN.{length}
 use Rattle.frame.specs.Types.{Ty}
 use Rattle.frame.specs.Trees.{head, node, Forest, count, many}
-use Rattle.frame.specs.Tags.{Sort, Layout, these, counted, binding, lookup, classOf, formAt, formOf, width, numberOf}
+use Rattle.frame.specs.Tags.{Sort, Layout, these, counted, lookup, classOf, formAt, formOf, width, numberOf}
 use Rattle.frame.specs.Operators.{#BUnion, #BInter, #LAnd, #LOr}
 use Rattle.frame.specs.Encoding.{encNumber, encTys, encHead, enc, encs}
 
@@ -34,14 +34,6 @@ module _ (g : ℕ) (ks : Forest) where
       enc-by [] ∙ ap (bytes-by []) e
       ∙ append-assoc (encNumber 2 g) (encNumber 1 (count ks) ++ []) (encs ks)
       ∙ ap (λ (l : List ℕ). encNumber 2 g ++ ((l ++ []) ++ encs ks)) (one-byte (count ks))
-
-  pub binding-bytes : (ts : List Ty) (lo hi : ℕ) (es : List Sort) → formOf g .layout ≡ binding lo hi es
-      → enc (node (head g 0 ts) ks) ≡ encNumber 2 g ++ ((length ts ∷ encTys ts) ++ encs ks)
-  unfolding bytes-by
-  binding-bytes ts lo hi es e =
-      enc-by ts ∙ ap (bytes-by ts) e
-      ∙ append-assoc (encNumber 2 g) (encNumber 1 (length ts) ++ encTys ts) (encs ks)
-      ∙ ap (λ (l : List ℕ). encNumber 2 g ++ ((l ++ encTys ts) ++ encs ks)) (one-byte (length ts))
 
 pub and-bytes : (ks : Forest) → enc (many #LAnd ks) ≡ encNumber 2 #LAnd ++ (count ks ∷ encs ks)
 unfolding lookup classOf formAt

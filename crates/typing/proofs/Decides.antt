@@ -1,6 +1,5 @@
 -- `check` decides what it is to be accepted: numbers 8, 9 and 10 of a well formed tree.
--- Main results: tests-accepted (general form), check-accepted, accepted-check, accepted-wf, accepted-not-refused,
--- accepted-signature (the signature of a tree serves as well as any σ).
+-- Main results: tests-accepted (general form), check-accepted, accepted-check, accepted-wf.
 use mathlib.Core.Path.{_≡_, refl}
 use mathlib.Core.Bool.{Bool, true, false, _&&_}
 use mathlib.Core.List.{List, [], _∷_}
@@ -143,12 +142,3 @@ check-accepted t u w h =
 pub accepted-check : (σ : ℕ → Ty) (t : Tree) → Accepted σ t [] predicate → checkTree t ≡ accepted t
 unfolding checkTree
 accepted-check σ t a = rw (accepted-closed σ t [] predicate a, accepted-names σ t [] predicate a, accepted-typed σ t [] predicate a)
-
--- a tree that is accepted is not turned down by 8, 9 or 10, nor by any other number
-pub accepted-not-refused : (σ : ℕ → Ty) (t : Tree) (c : ℕ) → Accepted σ t [] predicate → checkTree t ≡ refused c → ⊥
-accepted-not-refused σ t c a h = let e = accepted-check σ t a in let z : _≡_ {A = ℕ} 0 1 = cc in omega arith
-
--- a tree that is accepted with some σ is accepted with its own signature
-pub accepted-signature : (σ : ℕ → Ty) (t : Tree) (Γ : Ctx) (e : Sort) → Accepted σ t Γ e → Accepted (signature t) t Γ e
-accepted-signature σ t Γ e a =
-    tests-accepted (signature t) t Γ e (accepted-wf σ t Γ e a) (accepted-closed σ t Γ e a) (accepted-typed σ t Γ e a) (names-signed t (accepted-names σ t Γ e a))
