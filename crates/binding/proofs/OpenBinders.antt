@@ -1,22 +1,19 @@
 -- The list of open binders, and the ways out of open_binders.
--- Main results: opened-length, opened-at (the type of an index), opened-below, opened-push; open-none, open-more, open-never.
+-- Main results: opened-length, opened-at (the type of an index), opened-below, opened-push; binders-first, binders-after, open-none, open-more.
 use mathlib.Core.Path.{_≡_, refl, sym, ap, _∙_, subst}
-use mathlib.Core.List.{List, [], _∷_}
+use mathlib.Core.List.{List, [], _∷_, append-nil}
 use Prim.Native.Nat.{ℕ, zero, suc, _+_, _-_, _≤_, _<_}
 use native.Mathlib.Omega.{arith}
 use lib.ListN.{length, getD, set, length-append}
 use lib.Seq.{getD-set-same, getD-set-other}
 use Rattle.frame.specs.Types.{Ty}
 use Rattle.frame.specs.Encoding.{encTy, encTys}
-use Rattle.frame.specs.Reading.{readTy, typeLimit}
+use Rattle.frame.specs.Reading.{typeLimit}
 use Rattle.frame.specs.Places.{Ctx, push}
 use Rattle.frame.specs.WellFormed.{TyWf, TysWf}
 use Rattle.frame.specs.Spans.{Spans}
-use Rattle.heads.specs.HeadPost.{typeAnswer}
-use Rattle.heads.specs.declared.TypeAnswer.{TypeAnswer}
-use Rattle.heads.specs.declared.TypeAnswer.the-variants as T
+use Rattle.heads.specs.HeadPost.{TypesStand, SkipPost}
 use Rattle.frame.proofs.Spans.{span-left, span-right}
-use Rattle.frame.proofs.ReadTypes.{ty-back}
 use Rattle.typing.specs.Typing.{typeAt}
 use Rattle.binding.specs.Bound.{Opened, Below, OpenPost}
 use Rattle.frame.proofs.ReadTypes.{ty-long}
@@ -79,48 +76,41 @@ first-ty s at end (u ∷ us) l a w = record {
   after = span-right (encTy u) (encTys us) a;
 }
 
--- it is read there
-pub ty-answer : (s : List ℕ) (at : ℕ) (u : Ty) → TyWf u → length (encTy u) ≤ typeLimit → TyAt s at u → (r : TypeAnswer)
-    → ((f : ℕ) → at + typeLimit < at + f → r ≡ typeAnswer (readTy f (at + typeLimit) s at)) → r ≡ T.Ends (at + length (encTy u))
-ty-answer s at u w l a r h =
-    h (suc typeLimit) (omega arith)
-    ∙ ap typeAnswer (ty-back u (suc typeLimit) (at + typeLimit) s at (at + length (encTy u)) a w (omega arith) (omega arith))
-
 -- ---- what is handed on
 abbrev pub Binders : List ℕ → ℕ → ℕ → Type 0
 Binders s at end = (us : List Ty) × Spans s at end (encTys us) × TysWf us
-
-abbrev pub TypeRead : List ℕ → ℕ → TypeAnswer → Type 0
-TypeRead s at r = (f : ℕ) → at + typeLimit < at + f → r ≡ typeAnswer (readTy f (at + typeLimit) s at)
 
 module _ (s : List ℕ) (at end : ℕ) (l : at < end) where
   pub binders-room : Binders s at end → end ≤ length s
   binders-room h = h .1 .within
 
-  module _ (r : TypeAnswer) (a : TypeRead s at r) where
-    ends-at : (p : ℕ) → r ≡ T.Ends p → (us : List Ty) (v : FirstTy s at end us) → p ≡ at + length (encTy (v .u))
-    ends-at p e us v = let z = ty-answer s at (v .u) (v .wf .0) (v .wf .1) (v .stands) r a in cc
+  -- the first of them alone
+  alone : (us : List Ty) (v : FirstTy s at end us) → Spans s at (at + length (encTy (v .u))) (encTys (v .u ∷ []))
+  unfolding encTys
+  alone us v = subst (Spans s at (at + length (encTy (v .u)))) (sym (append-nil (encTy (v .u)))) (v .stands)
 
-    pub binders-after : (p : ℕ) → r ≡ T.Ends p → Binders s at end → Binders s p end × (at + 1 ≤ p)
-    binders-after p e h =
+  pub binders-first : Binders s at end → TypesStand s at 1
+  binders-first h =
+      let v = first-ty s at end (h .0) l (h .1) (h .2) in
+      (v .u ∷ [], at + length (encTy (v .u)), refl, alone (h .0) v)
+
+  module _ (p : ℕ) (a : SkipPost s at 1 p) where
+    ends-at : (us : List Ty) (v : FirstTy s at end us) → p ≡ at + length (encTy (v .u))
+    ends-at us v = a .ends (v .u ∷ []) (at + length (encTy (v .u))) refl (alone us v)
+
+    pub binders-after : Binders s at end → Binders s p end × (at + 1 ≤ p)
+    binders-after h =
         let v = first-ty s at end (h .0) l (h .1) (h .2) in
-        let z = ends-at p e (h .0) v in
+        let z = ends-at (h .0) v in
         ((v .rest, subst (λ (i : ℕ). Spans s i end (encTys (v .rest))) (sym z) (v .after), v .wf .2), omega (arith, v .past))
 
-    pub open-never {ℓ} : {X : Type ℓ} (c : ℕ) → r ≡ T.Refused c → Binders s at end → X
-    open-never c e h =
-        let v = first-ty s at end (h .0) l (h .1) (h .2) in
-        let z = ty-answer s at (v .u) (v .wf .0) (v .wf .1) (v .stands) r a in
-        let n : _≡_ {A = ℕ} 0 1 = cc in
-        absurd (omega arith)
-
-    pub open-more : (p : ℕ) → r ≡ T.Ends p → (b c : List ℕ) (depth m : ℕ) → depth < length b → OpenPost s p end (depth + 1) (set b depth at) c m → OpenPost s at end depth b c m
-    open-more p e b c depth m k o = record { size = o .size; kept = λ i j. o .kept i (omega arith) ∙ below-set b depth at i j; by = by }
+    pub open-more : (b c : List ℕ) (depth m : ℕ) → depth < length b → OpenPost s p end (depth + 1) (set b depth at) c m → OpenPost s at end depth b c m
+    open-more b c depth m k o = record { size = o .size; kept = λ i j. o .kept i (omega arith) ∙ below-set b depth at i j; by = by }
       where
         by : (us : List Ty) → Spans s at end (encTys us) → TysWf us → (m ≡ depth + length us) × ((Γ : Ctx) → Opened s Γ b depth → Opened s (push us Γ) c m)
         by us a w =
             let v = first-ty s at end us l a w in
-            let z = ends-at p e us v in
+            let z = ends-at us v in
             let f = o .by (v .rest) (subst (λ (i : ℕ). Spans s i end (encTys (v .rest))) (sym z) (v .after)) (v .wf .2) in
             let y : suc depth ≡ depth + 1 = omega arith in
             let n : m ≡ depth + length (v .u ∷ v .rest) = omega (arith, f .0) in (

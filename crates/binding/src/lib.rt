@@ -1,9 +1,7 @@
 // Number 8 (document 01: "A bound index has no binder, anywhere in the tree."). The tree is gone over as the reader goes over
 // it, with a list of where the types of the open binders stand; so the types of bound identifiers are found on the way, and
 // go into a table by place for typing to read.
-use frame::limits::TYPE_LIMIT;
 use heads::HeadAnswer;
-use heads::TypeAnswer;
 ghost use mathlib.Core.Path.{_≡_};
 ghost use mathlib.Core.List.{List};
 ghost use Prim.Native.Nat.{ℕ, _+_, _-_, _≤_, _<_};
@@ -40,11 +38,8 @@ fn open_binders(s: &[u8], at: usize, end: usize, binders: &mut [u16; 4096], dept
         return depth;
     }
     binders[depth] = at as u16;
-    let a = heads::read_type(s, at, at + TYPE_LIMIT);
-    match a {
-        TypeAnswer::Ends(p) => open_binders(s, p, end, binders, depth + 1),
-        TypeAnswer::Refused(_c) => depth,
-    }
+    let p = heads::skip_types(s, at, 1);
+    open_binders(s, p, end, binders, depth + 1)
 }
 
 // How many binders are open at the children of a node.

@@ -17,7 +17,7 @@ use frame::refusals::BAD_TYPE;
 use frame::refusals::ENDS_INSIDE;
 
 // What reading a type, or several in a row, finds: where they end, or the number of what is turned down.
-pub enum TypeAnswer {
+enum TypeAnswer {
     Ends(usize),
     Refused(u8),
 }
@@ -52,7 +52,7 @@ pub fn number(s: &[u8], at: usize, w: usize) -> usize
 }
 
 // The type at `at`, which has to end by lim. The byte past the limit is not looked at, so 6 comes before 3.
-pub fn read_type(s: &[u8], at: usize, lim: usize) -> TypeAnswer
+fn read_type(s: &[u8], at: usize, lim: usize) -> TypeAnswer
     requires { ⌜ (at ≤ length (now s)) × (at ≤ lim) × (lim ≤ length (now s) + 64) ⌝ }
     ensures { λ r. ⌜ ((f : ℕ) → lim < at + f → r ≡ typeAnswer (readTy f lim (now (s .entry)) at)) ⌝ }
 {

@@ -13,7 +13,7 @@ use Rattle.frame.specs.Encoding.{enc, encs}
 use Rattle.frame.specs.Places.{Ctx, under, found, find}
 use Rattle.frame.proofs.Splices.{find-some, find-lt}
 use Rattle.nav.specs.PlaceTables.{Table, Placed, PlacedIn, EndAtPost, TagPost}
-use Rattle.nav.proofs.Hops.{framed-few, place-sorted, child-next}
+use Rattle.nav.proofs.Hops.{place-sorted, child-next}
 use Rattle.nav.proofs.SamePlaces.{two-children}
 use Rattle.rules.specs.EqualsEmptySet.{minusOf, minuend, withSubtrahend, subtrahends}
 use Rattle.put.specs.Out.{Puts}
@@ -28,9 +28,6 @@ use Rattle.filling.proofs.Subtrees.{span-at}
 
 -- ---- a subtree
 module _ (s : List ℕ) (n : ℕ) (st nx : List ℕ) (k : ℕ) where
-  pub in-few : PlacedIn s n st nx k → k < 2048
-  in-few p = omega (arith, p .below, framed-few s (p .t) st n (p .table .framed))
-
   pub in-placed : PlacedIn s n st nx k → Placed s st k
   in-placed p = record { t = p .t; n = n; framed = p .table .framed; below = p .below }
 

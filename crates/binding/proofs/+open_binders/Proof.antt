@@ -1,15 +1,13 @@
-use Prim.Native.Nat.{_-_, _<_}
+use Prim.Native.Nat.{ℕ, _-_, _<_}
 use lib.ListN.{length, length-set}
-use borrow.Author.Needs.{needs}
 use native.Mathlib.Omega.{arith}
-use Rattle.binding.proofs.OpenBinders.{binders-room, binders-after, open-none, open-more, open-never}
-use Prim.Native.Nat.{ℕ}
+use Rattle.binding.proofs.OpenBinders.{binders-room, binders-first, binders-after, open-none, open-more}
 use borrow.Fn.Kinds.{In}
 use borrow.Fn.PlainCycle.{Measures, is, falls, and}
 use Rattle.binding.proofs.open_binders.Reads as open-binders
 use Rattle.binding.proofs.open_binders.Kinds as open-binders-kinds
 use Rattle.binding.proofs.+open_binders.Lts-open_binders as open-binders-lts
-use Rattle.heads.proofs.read_type.Reads as read-type-reads
+use Rattle.heads.proofs.skip_types.Reads as skip-types-reads
 use Rattle.binding.proofs.+open_binders.{statement}
 use Rattle.binding.proofs.+open_binders.Tie.{close}
 
@@ -30,7 +28,7 @@ open-binders-below t =
 
 -- what the calls ask and answer
 abbrev calls-open-binders : ℕ → open-binders-lts.Claims
-calls-open-binders t = (read-type-reads.Asked, read-type-reads.Learnt, open-binders-below t, open-binders.Post)
+calls-open-binders t = (skip-types-reads.Asked, skip-types-reads.Learnt, open-binders-below t, open-binders.Post)
 
 open-binders-returns : (t : ℕ) → open-binders-lts.Need-returns (calls-open-binders t) (open-binders-at t) open-binders.Post
 open-binders-returns t c = open-none _ _ _ _ _ (omega arith) (c .before .before .pre .1 .2)
@@ -44,29 +42,17 @@ open-binders-mul-binders t c = omega (arith, binders-room _ _ _ (omega arith) (c
 open-binders-element-write-binders : (t : ℕ) → open-binders-lts.Need-element-write-binders (calls-open-binders t) (open-binders-at t) open-binders.Post
 open-binders-element-write-binders t c = omega (arith, binders-room _ _ _ (omega arith) (c .before .before .pre .1 .3))
 
-open-binders-add-read-type : (t : ℕ) → open-binders-lts.Need-add-read-type (calls-open-binders t) (open-binders-at t) open-binders.Post
-open-binders-add-read-type t c = omega (arith, binders-room _ _ _ (omega arith) (c .before .before .pre .1 .3))
-
-open-binders-read-type-requires : (t : ℕ) → open-binders-lts.Need-read-type-requires (calls-open-binders t) (open-binders-at t) open-binders.Post
-open-binders-read-type-requires t c κs = let l = binders-room _ _ _ (omega arith) (c .before .before .pre .1 .3) in (omega arith, omega arith, omega arith)
-
-open-binders-enum-known-a : (t : ℕ) → open-binders-lts.Need-enum-known-a (calls-open-binders t) (open-binders-at t) open-binders.Post
-open-binders-enum-known-a t c = search needs
+open-binders-skip-types-requires : (t : ℕ) → open-binders-lts.Need-skip-types-requires (calls-open-binders t) (open-binders-at t) open-binders.Post
+open-binders-skip-types-requires t c κs = binders-first _ _ _ (omega arith) (c .before .before .pre .1 .3)
 
 open-binders-add-open-binders : (t : ℕ) → open-binders-lts.Need-add-open-binders (calls-open-binders t) (open-binders-at t) open-binders.Post
-open-binders-add-open-binders t c = omega (arith, binders-room _ _ _ (omega arith) (c .before .before .before .before .before .before .before .pre .1 .3))
+open-binders-add-open-binders t c = omega (arith, binders-room _ _ _ (omega arith) (c .before .before .before .before .pre .1 .3))
 
 open-binders-open-binders-requires : (t : ℕ) → open-binders-lts.Need-open-binders-requires (calls-open-binders t) (open-binders-at t) open-binders.Post
-open-binders-open-binders-requires t c κs = let l = binders-room _ _ _ (omega arith) (c .before .before .before .before .before .before .before .pre .1 .3) in let f = binders-after _ _ _ (omega arith) _ (c .before .before .before .before .read-type .ensures) _ (c .before .before .a .given .1) (c .before .before .before .before .before .before .before .pre .1 .3) in (omega arith, (c .before .before .before .before .before .before .before .pre .1 .0, omega arith, simp length-set (c .before .before .before .before .before .before .before .pre .1 .2), f .0))
-
-open-binders-enum-known-a-2 : (t : ℕ) → open-binders-lts.Need-enum-known-a-2 (calls-open-binders t) (open-binders-at t) open-binders.Post
-open-binders-enum-known-a-2 t c = search needs
+open-binders-open-binders-requires t c κs = let l = binders-room _ _ _ (omega arith) (c .before .before .before .before .pre .1 .3) in let f = binders-after _ _ _ (omega arith) _ (c .before .skip-types .ensures) (c .before .before .before .before .pre .1 .3) in (omega arith, (c .before .before .before .before .pre .1 .0, omega arith, simp length-set (c .before .before .before .before .pre .1 .2), f .0))
 
 open-binders-returns-2 : (t : ℕ) → open-binders-lts.Need-returns-2 (calls-open-binders t) (open-binders-at t) open-binders.Post
-open-binders-returns-2 t c = let l = binders-room _ _ _ (omega arith) (c .before .before .before .before .before .before .before .before .pre .1 .3) in open-more _ _ _ (omega arith) _ (c .before .before .before .before .before .read-type .ensures) _ (c .before .before .before .a .given .1) _ _ _ _ (omega arith) (c .open-binders .ensures)
-
-open-binders-returns-3 : (t : ℕ) → open-binders-lts.Need-returns-3 (calls-open-binders t) (open-binders-at t) open-binders.Post
-open-binders-returns-3 t c = open-never _ _ _ (omega arith) _ (c .before .before .before .read-type .ensures) _ (c .before .a2 .given .1) (c .before .before .before .before .before .before .pre .1 .3)
+open-binders-returns-2 t c = let l = binders-room _ _ _ (omega arith) (c .before .before .before .before .before .pre .1 .3) in open-more _ _ _ (omega arith) _ (c .before .before .skip-types .ensures) _ _ _ _ (omega arith) (c .open-binders .ensures)
 
 pub +open-binders-spec : {M : Type 1} → statement M
 +open-binders-spec = close μ-open-binders λ t. open-binders-lts.spec (calls-open-binders t)
@@ -76,11 +62,7 @@ pub +open-binders-spec : {M : Type 1} → statement M
     (open-binders-cast-binders t)
     (open-binders-mul-binders t)
     (open-binders-element-write-binders t)
-    (open-binders-add-read-type t)
-    (open-binders-read-type-requires t)
-    (open-binders-enum-known-a t)
+    (open-binders-skip-types-requires t)
     (open-binders-add-open-binders t)
     (open-binders-open-binders-requires t)
-    (open-binders-enum-known-a-2 t)
     (open-binders-returns-2 t)
-    (open-binders-returns-3 t)

@@ -1,4 +1,5 @@
-use Rattle.rows.proofs.RowTurns.{in-few, in-placed, row-first, row-rest, minus-none, minus-yes, minus-no}
+use Rattle.nav.proofs.PlaceTurns.{end-place}
+use Rattle.rows.proofs.RowTurns.{in-placed, row-first, row-rest, minus-none, minus-yes, minus-no}
 use native.Mathlib.Omega.{arith}
 use Prim.Native.Nat.{ℕ, _<_}
 use borrow.Fn.Kinds.{In}
@@ -30,7 +31,7 @@ count-minus-returns : (t : ℕ) → count-minus-lts.Need-returns (calls-count-mi
 count-minus-returns t c = minus-none _ _ _ _ _ _ (c .if1 .taken)
 
 count-minus-next-at-requires : (t : ℕ) → count-minus-lts.Need-next-at-requires (calls-count-minus t) (count-minus-at t) count-minus.Post
-count-minus-next-at-requires t c κs = in-few _ _ _ _ _ (row-first _ _ _ _ _ _ (c .if1 .left) (c .before .before .pre .1 .0))
+count-minus-next-at-requires t c κs = end-place _ _ _ _ _ (row-first _ _ _ _ _ _ (c .if1 .left) (c .before .before .pre .1 .0))
 
 count-minus-sub-count-minus : (t : ℕ) → count-minus-lts.Need-sub-count-minus (calls-count-minus t) (count-minus-at t) count-minus.Post
 count-minus-sub-count-minus t c = let z = c .before .if1 .left in omega arith

@@ -1,4 +1,5 @@
-use Rattle.rows.proofs.RowTurns.{in-few, row-none, row-first, row-rest, row-more}
+use Rattle.nav.proofs.PlaceTurns.{end-place}
+use Rattle.rows.proofs.RowTurns.{row-none, row-first, row-rest, row-more}
 use native.Mathlib.Omega.{arith}
 use Prim.Native.Nat.{ℕ, _<_}
 use borrow.Fn.Kinds.{In}
@@ -31,7 +32,7 @@ put-row-put-share-requires : (t : ℕ) → put-row-lts.Need-put-share-requires (
 put-row-put-share-requires t c κs = row-first _ _ _ _ _ _ (c .before .if1 .left) (c .before .before .before .pre .1)
 
 put-row-next-at-requires : (t : ℕ) → put-row-lts.Need-next-at-requires (calls-put-row t) (put-row-at t) put-row.Post
-put-row-next-at-requires t c κs = in-few _ _ _ _ _ (row-first _ _ _ _ _ _ (c .before .before .if1 .left) (c .before .before .before .before .pre .1))
+put-row-next-at-requires t c κs = end-place _ _ _ _ _ (row-first _ _ _ _ _ _ (c .before .before .if1 .left) (c .before .before .before .before .pre .1))
 
 put-row-sub-put-row : (t : ℕ) → put-row-lts.Need-sub-put-row (calls-put-row t) (put-row-at t) put-row.Post
 put-row-sub-put-row t c = let z = c .before .before .before .if1 .left in omega arith

@@ -1,10 +1,11 @@
-use Rattle.rows.proofs.RowTurns.{in-few, copy-range, copy-done}
+use Rattle.nav.proofs.PlaceTurns.{end-place}
+use Rattle.rows.proofs.RowTurns.{copy-range, copy-done}
 use borrow.Author.Needs.{needs}
 use Rattle.rows.proofs.copy_at.Statement.{statement}
 use Rattle.rows.proofs.copy_at.Tie as tie
 
 start-at-requires : tie.Need-start-at-requires
-start-at-requires c κs = in-few _ _ _ _ _ (c .before .pre)
+start-at-requires c κs = end-place _ _ _ _ _ (c .before .pre)
 
 end-at-requires : tie.Need-end-at-requires
 end-at-requires c κs = search needs

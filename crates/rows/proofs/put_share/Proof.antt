@@ -1,5 +1,6 @@
+use Rattle.nav.proofs.PlaceTurns.{end-place}
 use mathlib.Core.List.{[]}
-use Rattle.rows.proofs.RowTurns.{in-few, in-placed, besides-none, besides-some, left-in, right-in, minuend-left, minuend-whole, subtrahend-right, subtrahend-none}
+use Rattle.rows.proofs.RowTurns.{in-placed, besides-none, besides-some, left-in, right-in, minuend-left, minuend-whole, subtrahend-right, subtrahend-none}
 use borrow.Author.Needs.{needs}
 use Rattle.rows.proofs.put_share.Statement.{statement}
 use Rattle.rows.proofs.put_share.Tie as tie
@@ -38,7 +39,7 @@ tag-at-requires-2 : tie.Need-tag-at-requires-2
 tag-at-requires-2 c κs = in-placed _ _ _ _ _ (c .before .before .before .pre)
 
 second-of-requires : tie.Need-second-of-requires
-second-of-requires c κs = in-few _ _ _ _ _ (c .before .before .before .before .before .pre)
+second-of-requires c κs = end-place _ _ _ _ _ (c .before .before .before .before .before .pre)
 
 copy-at-requires-4 : tie.Need-copy-at-requires-4
 copy-at-requires-4 c κs = right-in _ _ _ _ _ [] 0 _ (c .before .before .before .tag-at2 .ensures) (c .before .before .if3 .taken) _ (c .before .second-of .ensures) (c .before .before .before .before .before .before .before .pre)
