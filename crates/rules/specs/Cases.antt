@@ -5,7 +5,7 @@ use mathlib.Core.List.{List, [], _∷_, map}
 use Rattle.frame.specs.Types.{bool, pow}
 use Rattle.frame.specs.Trees.{head, Tree, node, nil, leaf, one, two, many, typed, sole, pair, bodied}
 use Rattle.frame.specs.Tags.{lookup, classOf, formAt}
-use Rattle.frame.specs.Operators.{#FreeIdent, #BoundIdent, #SetExt, #Equal, #In, #Mapsto, #SetMinus, #BInter, #True, #False, #EmptySet, #LImp, #LEqv, #LAnd, #BTrue, #BFalse, #Not, #Finite, #CSet}
+use Rattle.frame.specs.Operators.{#FreeIdent, #BoundIdent, #SetExt, #Equal, #In, #SubsetEq, #Mapsto, #SetMinus, #BUnion, #BInter, #True, #False, #EmptySet, #LImp, #LEqv, #LAnd, #BTrue, #BFalse, #Not, #Finite, #CSet}
 use Rattle.frame.specs.Sameness.{sameTy, sameTys, sameTree}
 use Rattle.typing.specs.Typing.{typeOf}
 use Rattle.typing.specs.TypeExpression.{toExpression}
@@ -56,6 +56,11 @@ cases =
     -- {TRUE} ∩ (S ∖ T) = ∅: the singleton before ∖
     ∷ case (two #Equal (many #BInter (pair (many #SetExt (sole (leaf #True))) (two #SetMinus S T))) (typed #EmptySet (pow bool)))
     (to 37 (one #Not (two #In (leaf #True) (two #SetMinus S T))))
+    -- (S ∖ T) ∩ (T ∖ S) = ∅: both ∖ are moved
+    ∷ case (two #Equal (many #BInter (pair (two #SetMinus S T) (two #SetMinus T S))) (typed #EmptySet (pow bool)))
+    (to 38 (two #SubsetEq (many #BInter (pair S T)) (many #BUnion (pair T S))))
+    -- S = T ∧ S = T: the repeat goes
+    ∷ case (many #LAnd (pair (two #Equal S T) (two #Equal S T))) (to 64 (two #Equal S T))
     -- ⊤ ∧ ⊥: the absorbing child decides
     ∷ case (many #LAnd (pair ⊤ ⊥ᵖ)) (to 62 ⊥ᵖ)
     -- ¬⊤ ∧ ⊤: a neutral child goes before opposites are looked for
