@@ -39,7 +39,7 @@ use denote.Triple.Entry.{onEntry}
 use denote.Triple.Statement.{Triple}
 use denote.Triple.Call.{calls-at}
 use denote.Triple.Clauses.{ensured, lasts}
-use denote.Triple.Walked.{says, walkOf, ends-at, walked}
+use denote.Triple.Walked.{says, walkOf, ends-at}
 use Rattle.synthesis.specs.OpenNodes.{noNode}
 use Rattle.synthesis.specs.TypingPosts.{stepsLeft, StepPost, TurnsPre, TurnsPost}
 use Rattle.patterns.specs.declared.Typed.{Typed}
@@ -55,7 +55,7 @@ use Rattle.synthesis.proofs.Turned as TT
 use Rattle.synthesis.proofs.Turned.Laws as TT′
 use Rattle.patterns.proofs.Typed as TR
 use Rattle.patterns.proofs.Typed.Laws as TR′
-use Rattle.synthesis.proofs.MirPieces.{after, armOf}
+use Rattle.synthesis.proofs.MirPieces.{armOf}
 use Rattle.synthesis.proofs.StepTurns.{Going, going-start, going-step, going-room, going-done, up-less, up-room, going-up, down-less, going-down}
 use Rattle.synthesis.proofs.Again.{LentAgain, lends-at, back-at}
 use Rattle.synthesis.proofs.stack.push as push
