@@ -16,7 +16,7 @@ use Rattle.frame.specs.Encoding.{encNumber, encTy}
 use Rattle.frame.specs.Reading.{numberAt, frameLimit}
 use Rattle.frame.specs.Spans.{Bytes, Spans}
 use Rattle.frame.proofs.Spans.{span-cons, span-first}
-use Rattle.frame.proofs.Numbers.{number-span, number-back, number-two}
+use Rattle.frame.proofs.Numbers.{number-span, number-back}
 use Rattle.frame.proofs.Inversion.{true-not}
 use Rattle.typing.specs.Members.{In}
 use Rattle.typing.specs.Identifiers.{Named, named}
@@ -142,7 +142,7 @@ pub record PowerBytes (s : List ℕ) (p n : ℕ) : Type 0 where
   pub room : p + 4 ≤ length s
   pub pow-byte : getD s p 0 ≡ 3
   pub given-byte : getD s (p + 1) 0 ≡ 2
-  pub number : getD s (p + 2) 0 * 256 + getD s (p + 3) 0 ≡ n
+  pub number : numberAt 2 s (p + 2) ≡ n
 
 next-place : (p i : ℕ) → p + 1 + i ≡ p + suc i
 next-place p i = omega arith
@@ -155,19 +155,17 @@ power-bytes s p n q l a =
     let d : Spans s (p + 1 + 1) q (encNumber 2 n ++ []) = rw append-nil (c .rest) in
     let e = number-back 2 s (p + 1 + 1) q n [] l d in
     let z : p + 1 + 1 ≡ p + 2 = omega arith in
-    let y : p + 2 + 1 ≡ p + 3 = omega arith in
     record {
       room = omega (arith, e .within);
       pow-byte = b .byte;
       given-byte = c .byte;
-      number = ap (λ (i : ℕ). getD s (p + 2) 0 * 256 + getD s i 0) (sym y) ∙ sym (number-two s (p + 2)) ∙ ap (numberAt 2 s) (sym z) ∙ e .number;
+      number = ap (numberAt 2 s) (sym z) ∙ e .number;
     }
 
 pub bytes-power : (s : List ℕ) → Bytes s → (p n : ℕ) → n < 65536 → PowerBytes s p n → TypeAt s p (p + 4) (pow (given n))
 unfolding encTy
 bytes-power s bs p n l a =
-    let y : p + 2 + 1 ≡ p + 3 = omega arith in
-    let e : numberAt 2 s (p + 2) ≡ n = number-two s (p + 2) ∙ ap (λ (i : ℕ). getD s (p + 2) 0 * 256 + getD s i 0) y ∙ a .number in
+    let e = a .number in
     let z : p + 2 + 2 ≡ p + 4 = omega arith in
     let z₁ : p + 2 ≡ p + 1 + 1 = omega arith in
     let r = a .room in
@@ -181,7 +179,7 @@ module _ (s : List ℕ) (p n : ℕ) (l : n < 65536) where
   power-not d = record { yes = λ e. true-not e; not = λ e q a. d (power-bytes s p n q l a) }
 
   pub power-is : Bytes s → (r : Bool) → p + 4 ≤ length s → getD s p 0 ≡ 3 → getD s (p + 1) 0 ≡ 2
-      → r ≡ eqb (getD s (p + 2) 0 * 256 + getD s (p + 3) 0) n → PowerPost s p n r
+      → r ≡ eqb (numberAt 2 s (p + 2)) n → PowerPost s p n r
   power-is bs r a b c e = record {
     yes = λ y. bytes-power s bs p n l record { room = a; pow-byte = b; given-byte = c; number = eqb-true _ _ (sym e ∙ y) };
     not = λ y q t. eqb-false _ _ (sym e ∙ y) (power-bytes s p n q l t .number);

@@ -9,10 +9,11 @@ use Prim.Native.Nat.{ℕ, _+_, _-_, _*_, _≤_, _<_}
 use native.Mathlib.Omega.{arith}
 use lib.ListN.{length, getD}
 use Rattle.frame.specs.Types.{Ty, bool, int, given, pow, prod}
+use Rattle.frame.specs.Reading.{numberAt}
 use Rattle.frame.specs.Encoding.{encTy, encTys}
 use Rattle.frame.specs.Spans.{Spans}
 use Rattle.frame.proofs.Spans.{span-first}
-use Rattle.frame.proofs.Numbers.{number-back, number-two}
+use Rattle.frame.proofs.Numbers.{number-back}
 use Rattle.typing.specs.Identifiers.{givensTy, givensTys}
 use Rattle.identifiers.specs.Claims.{powers, Noted, Short, GivenPost, TypesAt, TypesAnswer, TypesPost}
 use Rattle.identifiers.specs.declared.Noting.{Noting}
@@ -27,7 +28,7 @@ types-room s at m us q a = let x = a .span .long in let y = a .span .within in l
 pub data Step (s : List ℕ) (at m : ℕ) (us : List Ty) (q : ℕ) : Type 0 where
   leaf-first : (u : Ty) (rest : List Ty) → us ≡ u ∷ rest → givensTy u ≡ [] → getD s at 0 < 2 → TypesAt s (at + 1) (m - 1) rest q → Step s at m us q
   given-first : (n : ℕ) (rest : List Ty) → us ≡ given n ∷ rest → getD s at 0 ≡ 2 → n < 65536
-      → getD s (at + 1) 0 * 256 + getD s (at + 2) 0 ≡ n → at + 3 ≤ length s → TypesAt s (at + 3) (m - 1) rest q → Step s at m us q
+      → numberAt 2 s (at + 1) ≡ n → at + 3 ≤ length s → TypesAt s (at + 3) (m - 1) rest q → Step s at m us q
   pow-first : (t : Ty) (rest : List Ty) → us ≡ pow t ∷ rest → getD s at 0 ≡ 3 → TypesAt s (at + 1) m (t ∷ rest) q → Step s at m us q
   prod-first : (t u : Ty) (rest : List Ty) → us ≡ prod t u ∷ rest → getD s at 0 ≡ 4 → TypesAt s (at + 1) (m + 1) (t ∷ u ∷ rest) q → Step s at m us q
 
@@ -37,9 +38,8 @@ given-step s at m n us q a =
     let k = a .many in
     let b = span-first (a .span) in
     let e = number-back 2 s (at + 1) q n (encTys us) (a .wf .0) (b .rest) in
-    let y : at + 1 + 1 ≡ at + 2 = omega arith in
     let z : at + 1 + 2 ≡ at + 3 = omega arith in
-    given-first n us refl (b .byte) (a .wf .0) (ap (λ (i : ℕ). getD s (at + 1) 0 * 256 + getD s i 0) (sym y) ∙ sym (number-two s (at + 1)) ∙ e .number)
+    given-first n us refl (b .byte) (a .wf .0) (e .number)
     (omega (arith, e .within))
     record { span = subst (λ (i : ℕ). Spans s i q (encTys us)) z (e .rest); wf = a .wf .1; many = omega arith }
 
@@ -74,12 +74,12 @@ pub some-room : (s : List ℕ) (at m : ℕ) → Some s at m → at + m ≤ lengt
 some-room s at m h = types-room s at m (h .0) (h .1) (h .2)
 
 module _ (s : List ℕ) (at m : ℕ) (z : m ≡ 0 → ⊥) where
-  pub some-given : getD s at 0 ≡ 2 → Some s at m → (at + 3 ≤ length s) × Some s (at + 3) (m - 1)
+  pub some-given : getD s at 0 ≡ 2 → Some s at m → (at + 3 ≤ length s) × (numberAt 2 s (at + 1) < 65536) × Some s (at + 3) (m - 1)
   some-given b h = go (types-step s at m (h .0) (h .1) (h .2) z)
     where
-      go : Step s at m (h .0) (h .1) → (at + 3 ≤ length s) × Some s (at + 3) (m - 1)
+      go : Step s at m (h .0) (h .1) → (at + 3 ≤ length s) × (numberAt 2 s (at + 1) < 65536) × Some s (at + 3) (m - 1)
       go (leaf-first u rest e f l a) = absurd (omega arith)
-      go (given-first n rest e l k x r a) = (r, (rest, h .1, a))
+      go (given-first n rest e l k x r a) = (r, omega arith, (rest, h .1, a))
       go (pow-first t rest e l a) = absurd (omega arith)
       go (prod-first t u rest e l a) = absurd (omega arith)
 
@@ -154,7 +154,7 @@ types-beyond s at m table l = record { by = λ us q a. l }
 
 module _ (s : List ℕ) (at m : ℕ) (z : m ≡ 0 → ⊥) (t₀ : List ℕ) where
   pub types-clash : getD s at 0 ≡ 2 → (n : ℕ) (t₁ : List ℕ) (fits : Bool) → GivenPost s n t₀ t₁ fits → fits ≡ false
-      → n ≡ getD s (at + 1) 0 * 256 + getD s (at + 2) 0 → TypesPost s at m t₀ t₁ Clashed
+      → n ≡ numberAt 2 s (at + 1) → TypesPost s at m t₀ t₁ Clashed
   types-clash b n t₁ fits g f en = record { by = λ us q a. go us q (types-step s at m us q a z) }
     where
       go : (us : List Ty) (q : ℕ) → Step s at m us q → TypesAnswer s t₀ t₁ us q Clashed
@@ -167,7 +167,7 @@ module _ (s : List ℕ) (at m : ℕ) (z : m ≡ 0 → ⊥) (t₀ : List ℕ) whe
 
   module _ (t₂ : List ℕ) (r : Noting) where
     pub types-given : getD s at 0 ≡ 2 → (n : ℕ) (t₁ : List ℕ) (fits : Bool) → GivenPost s n t₀ t₁ fits → fits ≡ true
-        → n ≡ getD s (at + 1) 0 * 256 + getD s (at + 2) 0 → TypesPost s (at + 3) (m - 1) t₁ t₂ r → TypesPost s at m t₀ t₂ r
+        → n ≡ numberAt 2 s (at + 1) → TypesPost s (at + 3) (m - 1) t₁ t₂ r → TypesPost s at m t₀ t₂ r
     types-given b n t₁ fits g f en p = record { by = λ us q a. go us q (types-step s at m us q a z) }
       where
         go : (us : List Ty) (q : ℕ) → Step s at m us q → TypesAnswer s t₀ t₂ us q r

@@ -2,6 +2,7 @@
 // its type isn't the power of that set."). Nodes stand in prefix order, and so do the parts of a type: the frame is gone
 // through once from left to right, and a table holds what has been claimed of each identifier number. A frame with a number
 // beyond the table is gone through again with a table of all numbers.
+use heads::number;
 use octets::same_bytes;
 use octets::wide16;
 ghost use mathlib.Core.Path.{_≡_};
@@ -63,7 +64,7 @@ pub fn is_power(s: &[u8], p: usize, n: usize) -> bool
     if s[p + 1] != 2 {
         return false;
     }
-    octets::wide(s[p + 2]) * 256 + octets::wide(s[p + 3]) == n
+    number(s, p + 2, 2) == n
 }
 
 // An identifier n whose type stands from p up to q.
@@ -109,7 +110,7 @@ fn note_types(s: &[u8], at: usize, m: usize, table: &mut [u16]) -> Noting
     let b = s[at];
     match b {
         2 => {
-            let n = octets::wide(s[at + 1]) * 256 + octets::wide(s[at + 2]);
+            let n = number(s, at + 1, 2);
             if table.len() <= n {
                 return Noting::Beyond;
             }
@@ -133,10 +134,10 @@ fn note_nodes(s: &[u8], at: usize, table: &mut [u16]) -> Names
     if s.len() <= at {
         return Names::Agree;
     }
-    let tag = heads::number(s, at, 2);
+    let tag = number(s, at, 2);
     let form = tags::form_of(tag);
     let w = tags::width_of(form);
-    let x = heads::number(s, at + 2, w);
+    let x = number(s, at + 2, w);
     let m = tags::types_of(form, x);
     let a = note_types(s, at + 2 + w, m, table);
     match a {

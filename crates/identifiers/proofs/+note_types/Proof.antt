@@ -2,9 +2,8 @@ use borrow.Author.Needs.{needs}
 use Rattle.identifiers.proofs.NotingTypes.{some-room, some-given, some-pow, some-prod, some-leaf, types-end, types-beyond, types-clash, types-given, types-pow, types-prod, types-leaf}
 use Rattle.identifiers.proofs.NotedClaims.{noted-true, held-then}
 use native.Mathlib.Omega.{arith}
-use mathlib.Core.Path.{ap₂}
 use lib.ListN.{length}
-use Prim.Native.Nat.{_+_, _-_, _*_, _<_}
+use Prim.Native.Nat.{_-_, _<_}
 use borrow.Author.Tests.{not-true, not-false}
 use Prim.Native.Nat.{ℕ}
 use borrow.Fn.Kinds.{In}
@@ -12,7 +11,7 @@ use borrow.Fn.PlainCycle.{Measures, is, falls, and}
 use Rattle.identifiers.proofs.note_types.Reads as note-types
 use Rattle.identifiers.proofs.note_types.Kinds as note-types-kinds
 use Rattle.identifiers.proofs.+note_types.Lts-note_types as note-types-lts
-use Rattle.octets.proofs.wide.Reads as wide-reads
+use Rattle.heads.proofs.number.Reads as number-reads
 use Rattle.identifiers.proofs.note_given.Reads as note-given-reads
 use Rattle.identifiers.proofs.+note_types.{statement}
 use Rattle.identifiers.proofs.+note_types.Tie.{close}
@@ -30,7 +29,7 @@ note-types-below t =
 
 -- what the calls ask and answer
 abbrev calls-note-types : ℕ → note-types-lts.Claims
-calls-note-types t = (wide-reads.Asked, wide-reads.Learnt, note-given-reads.Asked, note-given-reads.Learnt, note-types-below t, note-types.Post)
+calls-note-types t = (number-reads.Asked, number-reads.Learnt, note-given-reads.Asked, note-given-reads.Learnt, note-types-below t, note-types.Post)
 
 note-types-returns : (t : ℕ) → note-types-lts.Need-returns (calls-note-types t) (note-types-at t) note-types.Post
 note-types-returns t c = types-end _ _ _ _ (c .if1 .taken)
@@ -38,50 +37,32 @@ note-types-returns t c = types-end _ _ _ _ (c .if1 .taken)
 note-types-shared-slice-read-b : (t : ℕ) → note-types-lts.Need-shared-slice-read-b (calls-note-types t) (note-types-at t) note-types.Post
 note-types-shared-slice-read-b t c = omega (arith, some-room _ _ _ (c .before .before .before .before .pre .1 .1))
 
-note-types-add-wide : (t : ℕ) → note-types-lts.Need-add-wide (calls-note-types t) (note-types-at t) note-types.Post
-note-types-add-wide t c = omega (arith, some-room _ _ _ (c .before .before .before .before .before .pre .1 .1))
+note-types-add-number : (t : ℕ) → note-types-lts.Need-add-number (calls-note-types t) (note-types-at t) note-types.Post
+note-types-add-number t c = omega (arith, some-room _ _ _ (c .before .before .before .before .before .pre .1 .1))
 
-note-types-shared-slice-read-wide : (t : ℕ) → note-types-lts.Need-shared-slice-read-wide (calls-note-types t) (note-types-at t) note-types.Post
-note-types-shared-slice-read-wide t c = omega (arith, some-given _ _ _ (c .before .before .before .if1 .left) (c .before .match .keys1) (c .before .before .before .before .before .before .pre .1 .1) .0)
-
-note-types-wide-requires : (t : ℕ) → note-types-lts.Need-wide-requires (calls-note-types t) (note-types-at t) note-types.Post
-note-types-wide-requires t c κs = tt
-
-note-types-mul-n : (t : ℕ) → note-types-lts.Need-mul-n (calls-note-types t) (note-types-at t) note-types.Post
-note-types-mul-n t c = omega arith
-
-note-types-add-wide-2 : (t : ℕ) → note-types-lts.Need-add-wide-2 (calls-note-types t) (note-types-at t) note-types.Post
-note-types-add-wide-2 t c = omega (arith, some-room _ _ _ (c .before .before .before .before .before .before .before .pre .1 .1))
-
-note-types-shared-slice-read-wide-2 : (t : ℕ) → note-types-lts.Need-shared-slice-read-wide-2 (calls-note-types t) (note-types-at t) note-types.Post
-note-types-shared-slice-read-wide-2 t c = omega (arith, some-given _ _ _ (c .before .before .before .before .before .if1 .left) (c .before .before .before .match .keys1) (c .before .before .before .before .before .before .before .before .pre .1 .1) .0)
-
-note-types-wide-requires-2 : (t : ℕ) → note-types-lts.Need-wide-requires-2 (calls-note-types t) (note-types-at t) note-types.Post
-note-types-wide-requires-2 t c κs = tt
-
-note-types-add-n : (t : ℕ) → note-types-lts.Need-add-n (calls-note-types t) (note-types-at t) note-types.Post
-note-types-add-n t c = omega arith
+note-types-number-requires : (t : ℕ) → note-types-lts.Need-number-requires (calls-note-types t) (note-types-at t) note-types.Post
+note-types-number-requires t c κs = (omega (arith, some-given _ _ _ (c .before .before .if1 .left) (c .match .keys1) (c .before .before .before .before .before .pre .1 .1) .0), omega arith)
 
 note-types-returns-2 : (t : ℕ) → note-types-lts.Need-returns-2 (calls-note-types t) (note-types-at t) note-types.Post
-note-types-returns-2 t c = types-beyond _ _ _ _ (omega arith)
+note-types-returns-2 t c = types-beyond _ _ _ _ (omega (arith, some-given _ _ _ (c .before .before .before .before .if1 .left) (c .before .before .match .keys1) (c .before .before .before .before .before .before .before .pre .1 .1) .1))
 
 note-types-note-given-requires : (t : ℕ) → note-types-lts.Need-note-given-requires (calls-note-types t) (note-types-at t) note-types.Post
-note-types-note-given-requires t c κs = (omega arith, omega arith, c .before .before .before .before .before .before .before .before .before .before .before .pre .1 .0)
+note-types-note-given-requires t c κs = (omega (arith, some-given _ _ _ (c .before .before .before .before .before .if1 .left) (c .before .before .before .match .keys1) (c .before .before .before .before .before .before .before .before .pre .1 .1) .1), omega arith, c .before .before .before .before .before .before .before .before .pre .1 .0)
 
 note-types-same-length : (t : ℕ) → note-types-lts.Need-same-length (calls-note-types t) (note-types-at t) note-types.Post
 note-types-same-length t c = search needs
 
 note-types-returns-3 : (t : ℕ) → note-types-lts.Need-returns-3 (calls-note-types t) (note-types-at t) note-types.Post
-note-types-returns-3 t c = types-clash _ _ _ (c .before .before .before .before .before .before .before .before .before .before .before .before .if1 .left) _ (c .before .before .before .before .before .before .before .before .before .before .match .keys1) _ _ _ (c .before .before .before .note-given .ensures) (not-true _ (c .if3 .taken)) (ap₂ (λ (a b : ℕ). a * 256 + b) (c .before .before .before .before .before .before .before .before .wide .ensures .0) (c .before .before .before .before .before .before .wide2 .ensures .0))
+note-types-returns-3 t c = types-clash _ _ _ (c .before .before .before .before .before .before .before .before .before .if1 .left) _ (c .before .before .before .before .before .before .before .match .keys1) _ _ _ (c .before .before .before .note-given .ensures) (not-true _ (c .if3 .taken)) (c .before .before .before .before .before .before .number .ensures)
 
 note-types-add-note-types : (t : ℕ) → note-types-lts.Need-add-note-types (calls-note-types t) (note-types-at t) note-types.Post
-note-types-add-note-types t c = omega (arith, some-given _ _ _ (c .before .before .before .before .before .before .before .before .before .before .before .before .if1 .left) (c .before .before .before .before .before .before .before .before .before .before .match .keys1) (c .before .before .before .before .before .before .before .before .before .before .before .before .before .before .before .pre .1 .1) .0)
+note-types-add-note-types t c = omega (arith, some-given _ _ _ (c .before .before .before .before .before .before .before .before .before .if1 .left) (c .before .before .before .before .before .before .before .match .keys1) (c .before .before .before .before .before .before .before .before .before .before .before .before .pre .1 .1) .0)
 
 note-types-sub-note-types : (t : ℕ) → note-types-lts.Need-sub-note-types (calls-note-types t) (note-types-at t) note-types.Post
 note-types-sub-note-types t c = omega arith
 
 note-types-note-types-requires : (t : ℕ) → note-types-lts.Need-note-types-requires (calls-note-types t) (note-types-at t) note-types.Post
-note-types-note-types-requires t c κs = let h = c .before .before .before .before .before .before .before .before .before .before .before .before .before .before .before .before .pre .1 .0 in (omega (arith, some-room _ _ _ (c .before .before .before .before .before .before .before .before .before .before .before .before .before .before .before .before .pre .1 .1)), (held-then _ _ _ _ h (noted-true _ _ _ _ _ (c .before .before .before .before .note-given .ensures) (not-false _ (c .before .if3 .left))), some-given _ _ _ (c .before .before .before .before .before .before .before .before .before .before .before .before .before .if1 .left) (c .before .before .before .before .before .before .before .before .before .before .before .match .keys1) (c .before .before .before .before .before .before .before .before .before .before .before .before .before .before .before .before .pre .1 .1) .1))
+note-types-note-types-requires t c κs = let h = c .before .before .before .before .before .before .before .before .before .before .before .before .before .pre .1 .0 in (omega (arith, some-room _ _ _ (c .before .before .before .before .before .before .before .before .before .before .before .before .before .pre .1 .1)), (held-then _ _ _ _ h (noted-true _ _ _ _ _ (c .before .before .before .before .note-given .ensures) (not-false _ (c .before .if3 .left))), some-given _ _ _ (c .before .before .before .before .before .before .before .before .before .before .if1 .left) (c .before .before .before .before .before .before .before .before .match .keys1) (c .before .before .before .before .before .before .before .before .before .before .before .before .before .pre .1 .1) .2))
 
 note-types-add-note-types-2 : (t : ℕ) → note-types-lts.Need-add-note-types-2 (calls-note-types t) (note-types-at t) note-types.Post
 note-types-add-note-types-2 t c = omega (arith, some-room _ _ _ (c .before .before .before .before .before .pre .1 .1))
@@ -111,7 +92,7 @@ note-types-same-length-2 : (t : ℕ) → note-types-lts.Need-same-length-2 (call
 note-types-same-length-2 t c = search needs
 
 note-types-returns-4 : (t : ℕ) → note-types-lts.Need-returns-4 (calls-note-types t) (note-types-at t) note-types.Post
-note-types-returns-4 t c = types-given _ _ _ (c .before .before .before .before .before .before .before .before .before .before .before .before .before .before .before .before .if1 .left) _ _ _ (c .before .before .before .before .before .before .before .before .before .before .before .before .before .before .match .keys1) _ _ _ (c .before .before .before .before .before .before .before .note-given .ensures) (not-false _ (c .before .before .before .before .if3 .left)) (ap₂ (λ (a b : ℕ). a * 256 + b) (c .before .before .before .before .before .before .before .before .before .before .before .before .wide .ensures .0) (c .before .before .before .before .before .before .before .before .before .before .wide2 .ensures .0)) (c .before .before .note-types .ensures)
+note-types-returns-4 t c = types-given _ _ _ (c .before .before .before .before .before .before .before .before .before .before .before .before .before .if1 .left) _ _ _ (c .before .before .before .before .before .before .before .before .before .before .before .match .keys1) _ _ _ (c .before .before .before .before .before .before .before .note-given .ensures) (not-false _ (c .before .before .before .before .if3 .left)) (c .before .before .before .before .before .before .before .before .before .before .number .ensures) (c .before .before .note-types .ensures)
 
 note-types-same-length-3 : (t : ℕ) → note-types-lts.Need-same-length-3 (calls-note-types t) (note-types-at t) note-types.Post
 note-types-same-length-3 t c = search needs
@@ -137,14 +118,8 @@ pub +note-types-spec : {M : Type 1} → statement M
     note-types.Post
     (note-types-returns t)
     (note-types-shared-slice-read-b t)
-    (note-types-add-wide t)
-    (note-types-shared-slice-read-wide t)
-    (note-types-wide-requires t)
-    (note-types-mul-n t)
-    (note-types-add-wide-2 t)
-    (note-types-shared-slice-read-wide-2 t)
-    (note-types-wide-requires-2 t)
-    (note-types-add-n t)
+    (note-types-add-number t)
+    (note-types-number-requires t)
     (note-types-returns-2 t)
     (note-types-note-given-requires t)
     (note-types-same-length t)

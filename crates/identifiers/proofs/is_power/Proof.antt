@@ -1,5 +1,5 @@
-use mathlib.Core.Path.{ap₂}
-use Prim.Native.Nat.{ℕ, _+_, _*_}
+use mathlib.Core.Path.{ap}
+use Prim.Native.Nat.{ℕ}
 use lib.Dec.{eqb}
 use native.Mathlib.Omega.{arith}
 use Rattle.identifiers.proofs.NotedClaims.{power-not, power-is}
@@ -28,32 +28,14 @@ shared-slice-read-if3 c = search needs
 returns-3 : tie.Need-returns-3
 returns-3 c = power-not _ _ _ (c .before .before .before .before .before .before .pre .2) (λ b. c .if3 .taken (b .given-byte))
 
-add-wide : tie.Need-add-wide
-add-wide c = search needs
+add-number : tie.Need-add-number
+add-number c = search needs
 
-shared-slice-read-wide : tie.Need-shared-slice-read-wide
-shared-slice-read-wide c = search needs
-
-wide-requires : tie.Need-wide-requires
-wide-requires c κs = search needs
-
-mul-result : tie.Need-mul-result
-mul-result c = search needs
-
-add-wide-2 : tie.Need-add-wide-2
-add-wide-2 c = search needs
-
-shared-slice-read-wide-2 : tie.Need-shared-slice-read-wide-2
-shared-slice-read-wide-2 c = search needs
-
-wide-requires-2 : tie.Need-wide-requires-2
-wide-requires-2 c κs = search needs
-
-add-result : tie.Need-add-result
-add-result c = search needs
+number-requires : tie.Need-number-requires
+number-requires c κs = (omega arith, omega arith)
 
 returns-4 : tie.Need-returns-4
-returns-4 c = power-is _ _ _ (c .before .before .before .before .before .before .before .before .before .before .pre .2) (λ i. c .before .before .before .before .before .before .before .before .before .shared-slice-known .given i .fits) _ (omega arith) (c .before .before .before .before .before .before .if2 .left) (c .before .before .before .before .if3 .left) (ap₂ (λ (a b : ℕ). eqb (a * 256 + b) (c .before .before .before .before .before .before .before .before .before .before .args .n)) (c .before .before .wide .ensures .0) (c .wide2 .ensures .0))
+returns-4 c = power-is _ _ _ (c .before .before .before .before .before .before .before .pre .2) (λ i. c .before .before .before .before .before .before .shared-slice-known .given i .fits) _ (omega arith) (c .before .before .before .if2 .left) (c .before .if3 .left) (ap (λ (a : ℕ). eqb a (c .before .before .before .before .before .before .before .args .n)) (c .number .ensures))
 
 pub is-power-spec : {M : Type 1} → statement M
 is-power-spec =
@@ -66,12 +48,6 @@ is-power-spec =
     add-if3
     shared-slice-read-if3
     returns-3
-    add-wide
-    shared-slice-read-wide
-    wide-requires
-    mul-result
-    add-wide-2
-    shared-slice-read-wide-2
-    wide-requires-2
-    add-result
+    add-number
+    number-requires
     returns-4)
