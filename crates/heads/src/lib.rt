@@ -163,14 +163,14 @@ pub fn read_head(s: &[u8], at: usize, e: bool) -> HeadAnswer
 }
 
 // How many bytes of a type stand before its parts: a given set has its number behind the type byte.
-fn type_bytes(b: u8) -> usize
+pub fn type_bytes(b: u8) -> usize
     ensures { λ r. ⌜ r ≡ leadOf b ⌝ }
 {
     if b == 2 { 3 } else { 1 }
 }
 
 // How many parts a type has: a power one, a product two.
-fn type_parts(b: u8) -> usize
+pub fn type_parts(b: u8) -> usize
     ensures { λ r. ⌜ r ≡ partsOf b ⌝ }
 {
     if b < 3 { 0 } else { octets::wide(b) - 2 }

@@ -16,7 +16,7 @@ use Rattle.frame.specs.Tags.{pick}
 use Rattle.frame.proofs.ReadTypes.{ty-back}
 use Rattle.typing.specs.Members.{In, All}
 use Rattle.typing.specs.Identifiers.{Named, named, givensTys, identOf, idents, identsIn, givens, givensIn, namesAgree}
-use Rattle.identifiers.specs.Claims.{powers, claims, claimsIn, Clash, TypeAt, Says, by-mark, by-place, Told}
+use Rattle.identifiers.specs.Claims.{powers, claimsOf, claims, claimsIn, Clash, TypeAt, Says, by-mark, by-place, Told}
 use Rattle.typing.specs.Signature.{signed, signature}
 use Rattle.typing.proofs.Names.{NameOk, GivenOk, Signed, SignedAll, signed-agree, names-signed, later}
 use Rattle.typing.proofs.Members.{all-join, all-left, all-right, all-of, all-in}
@@ -42,8 +42,8 @@ module _ (σ : ℕ → Ty) where
         let b = all-right (GivenOk σ) (givensTys us) (givensIn ks) (s .1) in
         let c = all-left (NameOk σ) (identOf g n us) (identsIn ks) (s .0) in
         let d = all-right (NameOk σ) (identOf g n us) (identsIn ks) (s .0) in
-        all-join (NameOk σ) (powers (givensTys us)) (identOf g n us ++ claimsIn ks) (powers-ok (givensTys us) a)
-        (all-join (NameOk σ) (identOf g n us) (claimsIn ks) c (claims-of-signed-all ks (d, b)))
+        all-join (NameOk σ) (claimsOf (head g n us)) (claimsIn ks) (all-join (NameOk σ) (powers (givensTys us)) (identOf g n us) (powers-ok (givensTys us) a) c)
+        (claims-of-signed-all ks (d, b))
 
     claims-of-signed-all : (ks : Forest) → SignedAll σ ks → All (NameOk σ) (claimsIn ks)
     claims-of-signed-all nil s = tt
@@ -59,10 +59,10 @@ module _ (σ : ℕ → Ty) where
 
     signed-of-claims : (t : Tree) → All (NameOk σ) (claims t) → Signed σ t
     signed-of-claims (node (head g n us) ks) h =
-        let a = ok-powers (givensTys us) (all-left (NameOk σ) (powers (givensTys us)) (identOf g n us ++ claimsIn ks) h) in
-        let b = all-right (NameOk σ) (powers (givensTys us)) (identOf g n us ++ claimsIn ks) h in
-        let c = all-left (NameOk σ) (identOf g n us) (claimsIn ks) b in
-        let d = signed-of-claims-all ks (all-right (NameOk σ) (identOf g n us) (claimsIn ks) b) in
+        let b = all-left (NameOk σ) (claimsOf (head g n us)) (claimsIn ks) h in
+        let a = ok-powers (givensTys us) (all-left (NameOk σ) (powers (givensTys us)) (identOf g n us) b) in
+        let c = all-right (NameOk σ) (powers (givensTys us)) (identOf g n us) b in
+        let d = signed-of-claims-all ks (all-right (NameOk σ) (claimsOf (head g n us)) (claimsIn ks) h) in
         (all-join (NameOk σ) (identOf g n us) (identsIn ks) c (d .0), all-join (GivenOk σ) (givensTys us) (givensIn ks) a (d .1))
 
     signed-of-claims-all : (ks : Forest) → All (NameOk σ) (claimsIn ks) → SignedAll σ ks

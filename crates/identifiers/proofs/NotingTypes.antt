@@ -1,211 +1,198 @@
--- The given sets in types, noted from left to right: the ways out of note_types.
--- Main results: types-room, types-step (what the first byte says), types-end, types-beyond, types-clash, types-given,
--- types-pow, types-prod, types-leaf.
+-- The given sets in types, noted from left to right: the loop of note_types and its ways out.
+-- Main results: the laws of Going, the loop's invariant.
 use Rattle.frame.proofs.ReadTypes.{tys-long}
 use mathlib.Core.Path.{_≡_, refl, sym, ap, _∙_, subst}
 use mathlib.Core.Bool.{Bool, true, false}
 use mathlib.Core.List.{List, [], _∷_, _++_, append-assoc}
-use Prim.Native.Nat.{ℕ, _+_, _-_, _*_, _≤_, _<_}
+use Prim.Native.Nat.{ℕ, _+_, _-_, _≤_, _<_}
 use native.Mathlib.Omega.{arith}
 use lib.ListN.{length, getD}
+use lib.Dec.{eqb}
 use Rattle.frame.specs.Types.{Ty, bool, int, given, pow, prod}
+use Rattle.frame.specs.Tags.{pick}
 use Rattle.frame.specs.Reading.{numberAt}
 use Rattle.frame.specs.Encoding.{encTy, encTys}
 use Rattle.frame.specs.Spans.{Spans}
 use Rattle.frame.proofs.Spans.{span-first}
 use Rattle.frame.proofs.Numbers.{number-back}
-use Rattle.typing.specs.Identifiers.{givensTy, givensTys}
-use Rattle.identifiers.specs.Claims.{powers, Noted, Short, GivenPost, TypesAt, TypesAnswer, TypesPost}
+use Rattle.frame.specs.WellFormed.{TyWf}
+use Rattle.heads.specs.HeadPost.{leadOf, partsOf}
+use Rattle.typing.specs.Members.{All}
+use Rattle.typing.specs.Identifiers.{named, givensTy, givensTys}
+use Rattle.identifiers.specs.Claims.{powers, Noted, Held, Short, GivenPost, TypesAt, NotedTo, TypesPost}
 use Rattle.identifiers.specs.declared.Noting.{Noting}
 use Rattle.identifiers.specs.declared.Noting.the-variants.{Ends, Clashed, Beyond}
-use Rattle.identifiers.proofs.NotedClaims.{noted-nil, noted-then, noted-early}
+use Rattle.identifiers.proofs.NotedClaims.{noted-nil, noted-then, noted-early, noted-true, held-then}
 
 -- ---- types in a row
-pub types-room : (s : List ℕ) (at m : ℕ) (us : List Ty) (q : ℕ) → TypesAt s at m us q → at + m ≤ length s
-types-room s at m us q a = let x = a .span .long in let y = a .span .within in let z = a .many in omega (arith, tys-long us)
-
--- what the first byte of some types says of them
-pub data Step (s : List ℕ) (at m : ℕ) (us : List Ty) (q : ℕ) : Type 0 where
-  leaf-first : (u : Ty) (rest : List Ty) → us ≡ u ∷ rest → givensTy u ≡ [] → getD s at 0 < 2 → TypesAt s (at + 1) (m - 1) rest q → Step s at m us q
-  given-first : (n : ℕ) (rest : List Ty) → us ≡ given n ∷ rest → getD s at 0 ≡ 2 → n < 65536
-      → numberAt 2 s (at + 1) ≡ n → at + 3 ≤ length s → TypesAt s (at + 3) (m - 1) rest q → Step s at m us q
-  pow-first : (t : Ty) (rest : List Ty) → us ≡ pow t ∷ rest → getD s at 0 ≡ 3 → TypesAt s (at + 1) m (t ∷ rest) q → Step s at m us q
-  prod-first : (t u : Ty) (rest : List Ty) → us ≡ prod t u ∷ rest → getD s at 0 ≡ 4 → TypesAt s (at + 1) (m + 1) (t ∷ u ∷ rest) q → Step s at m us q
-
-given-step : (s : List ℕ) (at m n : ℕ) (us : List Ty) (q : ℕ) → TypesAt s at m (given n ∷ us) q → Step s at m (given n ∷ us) q
-unfolding encTys encTy
-given-step s at m n us q a =
-    let k = a .many in
-    let b = span-first (a .span) in
-    let e = number-back 2 s (at + 1) q n (encTys us) (a .wf .0) (b .rest) in
-    let z : at + 1 + 2 ≡ at + 3 = omega arith in
-    given-first n us refl (b .byte) (a .wf .0) (e .number)
-    (omega (arith, e .within))
-    record { span = subst (λ (i : ℕ). Spans s i q (encTys us)) z (e .rest); wf = a .wf .1; many = omega arith }
-
-pub types-step : (s : List ℕ) (at m : ℕ) (us : List Ty) (q : ℕ) → TypesAt s at m us q → (m ≡ 0 → ⊥) → Step s at m us q
-unfolding encTys encTy givensTy
-types-step s at m [] q a z = absurd (z (sym (a .many)))
-types-step s at m (bool ∷ us) q a z =
-    let k = a .many in
-    let b = span-first (a .span) in
-    let c = b .byte in
-    leaf-first bool us refl refl (omega arith) record { span = b .rest; wf = a .wf .1; many = omega arith }
-types-step s at m (int ∷ us) q a z =
-    let k = a .many in
-    let b = span-first (a .span) in
-    let c = b .byte in
-    leaf-first int us refl refl (omega arith) record { span = b .rest; wf = a .wf .1; many = omega arith }
-types-step s at m (given n ∷ us) q a z = given-step s at m n us q a
-types-step s at m (pow t ∷ us) q a z =
-    let b = span-first (a .span) in
-    pow-first t us refl (b .byte) record { span = b .rest; wf = (a .wf .0, a .wf .1); many = a .many }
-types-step s at m (prod t u ∷ us) q a z =
-    let k = a .many in
-    let b = span-first (a .span) in
-    let c : Spans s (at + 1) q (encTy t ++ (encTy u ++ encTys us)) = rw append-assoc at (b .rest) in
-    prod-first t u us refl (b .byte) record { span = c; wf = (a .wf .0 .0, (a .wf .0 .1, a .wf .1)); many = omega arith }
-
--- ---- what is handed on to the next call
 abbrev pub Some : List ℕ → ℕ → ℕ → Type 0
 Some s at m = (us : List Ty) × (q : ℕ) × TypesAt s at m us q
 
 pub some-room : (s : List ℕ) (at m : ℕ) → Some s at m → at + m ≤ length s
-some-room s at m h = types-room s at m (h .0) (h .1) (h .2)
+some-room s at m h = let a = h .2 in let x = a .span .long in let y = a .span .within in let z = a .many in omega (arith, tys-long (h .0))
 
-module _ (s : List ℕ) (at m : ℕ) (z : m ≡ 0 → ⊥) where
-  pub some-given : getD s at 0 ≡ 2 → Some s at m → (at + 3 ≤ length s) × (numberAt 2 s (at + 1) < 65536) × Some s (at + 3) (m - 1)
-  some-given b h = go (types-step s at m (h .0) (h .1) (h .2) z)
-    where
-      go : Step s at m (h .0) (h .1) → (at + 3 ≤ length s) × (numberAt 2 s (at + 1) < 65536) × Some s (at + 3) (m - 1)
-      go (leaf-first u rest e f l a) = absurd (omega arith)
-      go (given-first n rest e l k x r a) = (r, omega arith, (rest, h .1, a))
-      go (pow-first t rest e l a) = absurd (omega arith)
-      go (prod-first t u rest e l a) = absurd (omega arith)
+-- What the first byte of some types says of them: a given set with its number, or another type, whose parts have its given sets.
+-- The types that are left behind it are n, and stand from `to` on.
+data Step (s : List ℕ) (at m : ℕ) (us : List Ty) (q to n : ℕ) : Type 0 where
+  given-first : (k : ℕ) (rest : List Ty) → us ≡ given k ∷ rest → getD s at 0 ≡ 2 → numberAt 2 s (at + 1) ≡ k → k < 65536 → at + 3 ≤ length s → TypesAt s to n rest q → Step s at m us q to n
+  other-first : (rest : List Ty) → givensTys rest ≡ givensTys us → (getD s at 0 ≡ 2 → ⊥) → TypesAt s to n rest q → Step s at m us q to n
 
-  pub some-pow : getD s at 0 ≡ 3 → Some s at m → Some s (at + 1) m
-  some-pow b h = go (types-step s at m (h .0) (h .1) (h .2) z)
-    where
-      go : Step s at m (h .0) (h .1) → Some s (at + 1) m
-      go (leaf-first u rest e f l a) = absurd (omega arith)
-      go (given-first n rest e l k x r a) = absurd (omega arith)
-      go (pow-first t rest e l a) = (t ∷ rest, h .1, a)
-      go (prod-first t u rest e l a) = absurd (omega arith)
+module _ (s : List ℕ) (at m : ℕ) (z : m ≡ 0 → ⊥) (to n : ℕ) (et : to ≡ at + leadOf (getD s at 0)) (en : n ≡ m - 1 + partsOf (getD s at 0)) where
+  by-lead : (q b step parts : ℕ) → getD s at 0 ≡ b → leadOf b ≡ step → partsOf b ≡ parts → (rest : List Ty) → length rest ≡ m - 1 + parts → All TyWf rest → Spans s (at + step) q (encTys rest) → TypesAt s to n rest q
+  by-lead q b step parts eb es ep rest l w x =
+      let zt : at + step ≡ to = sym (et ∙ ap (λ (i : ℕ). at + leadOf i) eb ∙ ap (λ (i : ℕ). at + i) es) in
+      let zn : m - 1 + parts ≡ n = sym (en ∙ ap (λ (i : ℕ). m - 1 + partsOf i) eb ∙ ap (λ (i : ℕ). m - 1 + i) ep) in
+      record { span = subst (λ (i : ℕ). Spans s i q (encTys rest)) zt x; wf = w; many = l ∙ zn }
 
-  pub some-prod : getD s at 0 ≡ 4 → Some s at m → Some s (at + 1) (m + 1)
-  some-prod b h = go (types-step s at m (h .0) (h .1) (h .2) z)
-    where
-      go : Step s at m (h .0) (h .1) → Some s (at + 1) (m + 1)
-      go (leaf-first u rest e f l a) = absurd (omega arith)
-      go (given-first n rest e l k x r a) = absurd (omega arith)
-      go (pow-first t rest e l a) = absurd (omega arith)
-      go (prod-first t u rest e l a) = (t ∷ u ∷ rest, h .1, a)
+  step : (us : List Ty) (q : ℕ) → TypesAt s at m us q → Step s at m us q to n
+  unfolding encTys encTy givensTys givensTy
+  step [] q a = absurd (z (sym (a .many)))
+  step (bool ∷ us) q a =
+      let k = a .many in
+      let b = span-first (a .span) in
+      let c = b .byte in
+      other-first us refl (omega arith) (by-lead q 0 1 0 c refl refl us (omega arith) (a .wf .1) (b .rest))
+  step (int ∷ us) q a =
+      let k = a .many in
+      let b = span-first (a .span) in
+      let c = b .byte in
+      other-first us refl (omega arith) (by-lead q 1 1 0 c refl refl us (omega arith) (a .wf .1) (b .rest))
+  step (given k ∷ us) q a =
+      let o = a .many in
+      let b = span-first (a .span) in
+      let e = number-back 2 s (at + 1) q k (encTys us) (a .wf .0) (b .rest) in
+      let y : at + 1 + 2 ≡ at + 3 = omega arith in
+      given-first k us refl (b .byte) (e .number) (a .wf .0) (omega (arith, e .within))
+      (by-lead q 2 3 0 (b .byte) refl refl us (omega arith) (a .wf .1) (subst (λ (i : ℕ). Spans s i q (encTys us)) y (e .rest)))
+  step (pow t ∷ us) q a =
+      let k = a .many in
+      let b = span-first (a .span) in
+      let c = b .byte in
+      other-first (t ∷ us) refl (omega arith) (by-lead q 3 1 1 c refl refl (t ∷ us) (omega arith) (a .wf .0, a .wf .1) (b .rest))
+  step (prod t u ∷ us) q a =
+      let k = a .many in
+      let b = span-first (a .span) in
+      let c = b .byte in
+      let d : Spans s (at + 1) q (encTy t ++ (encTy u ++ encTys us)) = rw append-assoc at (b .rest) in
+      other-first (t ∷ u ∷ us) (sym (append-assoc (givensTy t) (givensTy u) (givensTys us))) (omega arith)
+      (by-lead q 4 1 2 c refl refl (t ∷ u ∷ us) (omega arith) (a .wf .0 .0, (a .wf .0 .1, a .wf .1)) d)
 
-  pub some-leaf : (getD s at 0 ≡ 2 → ⊥) → (getD s at 0 ≡ 3 → ⊥) → (getD s at 0 ≡ 4 → ⊥) → Some s at m → Some s (at + 1) (m - 1)
-  some-leaf b c d h = go (types-step s at m (h .0) (h .1) (h .2) z)
+  onward : Some s at m → Some s to n
+  onward h = go (step (h .0) (h .1) (h .2))
     where
-      go : Step s at m (h .0) (h .1) → Some s (at + 1) (m - 1)
-      go (leaf-first u rest e f l a) = (rest, h .1, a)
-      go (given-first n rest e l k x r a) = absurd (b l)
-      go (pow-first t rest e l a) = absurd (c l)
-      go (prod-first t u rest e l a) = absurd (d l)
+      go : Step s at m (h .0) (h .1) to n → Some s to n
+      go (given-first k rest e b x w r a) = (rest, h .1, a)
+      go (other-first rest e b a) = (rest, h .1, a)
 
 -- ---- the ways out
-answer-as : (s t₀ t₁ : List ℕ) (us vs : List Ty) (q : ℕ) → givensTys us ≡ givensTys vs → (r : Noting) → TypesAnswer s t₀ t₁ us q r → TypesAnswer s t₀ t₁ vs q r
-answer-as s t₀ t₁ us vs q e (Ends p) a = (a .0, subst (λ (l : List ℕ). Noted s t₀ t₁ (powers l) true) e (a .1))
-answer-as s t₀ t₁ us vs q e Clashed a = subst (λ (l : List ℕ). Noted s t₀ t₁ (powers l) false) e a
-answer-as s t₀ t₁ us vs q e Beyond a = a
-
-answer-for : (s t₀ t₁ : List ℕ) (us vs : List Ty) (q : ℕ) (r : Noting) → us ≡ vs → TypesAnswer s t₀ t₁ vs q r → TypesAnswer s t₀ t₁ us q r
-answer-for s t₀ t₁ us vs q r e a = answer-as s t₀ t₁ vs us q (ap givensTys (sym e)) r a
-
-answer-given : (s t₀ t₁ t₂ : List ℕ) (n : ℕ) (us : List Ty) (q : ℕ) → GivenPost s n t₀ t₁ true → (r : Noting) → TypesAnswer s t₁ t₂ us q r → TypesAnswer s t₀ t₂ (given n ∷ us) q r
+answer-given : (s t₀ t₁ t₂ : List ℕ) (n : ℕ) (us : List Ty) (q : ℕ) → GivenPost s n t₀ t₁ true → (r : Noting) → NotedTo s t₁ t₂ (powers (givensTys us)) q r → NotedTo s t₀ t₂ (powers (givensTys (given n ∷ us))) q r
 unfolding powers givensTys givensTy
 answer-given s t₀ t₁ t₂ n us q g (Ends p) a = (a .0, noted-then s t₀ t₁ t₂ (powers (n ∷ [])) (powers (givensTys us)) true g (a .1))
 answer-given s t₀ t₁ t₂ n us q g Clashed a = noted-then s t₀ t₁ t₂ (powers (n ∷ [])) (powers (givensTys us)) false g a
 answer-given s t₀ t₁ t₂ n us q g Beyond a = rw (← (g .size)) a
 
-clash-given : (s t₀ t₁ : List ℕ) (n : ℕ) (us : List Ty) (q : ℕ) → GivenPost s n t₀ t₁ false → TypesAnswer s t₀ t₁ (given n ∷ us) q Clashed
+clash-given : (s t₀ t₁ : List ℕ) (n : ℕ) (us : List Ty) (q : ℕ) → GivenPost s n t₀ t₁ false → NotedTo s t₀ t₁ (powers (givensTys (given n ∷ us))) q Clashed
 unfolding powers givensTys givensTy
 clash-given s t₀ t₁ n us q g = noted-early s t₀ t₁ (powers (n ∷ [])) (powers (givensTys us)) g
 
-pow-givens : (t : Ty) (us : List Ty) → givensTys (t ∷ us) ≡ givensTys (pow t ∷ us)
-unfolding givensTys givensTy
-pow-givens t us = refl
-
-prod-givens : (t u : Ty) (us : List Ty) → givensTys (t ∷ u ∷ us) ≡ givensTys (prod t u ∷ us)
-unfolding givensTys givensTy
-prod-givens t u us = sym (append-assoc (givensTy t) (givensTy u) (givensTys us))
-
-leaf-givens : (u : Ty) (us : List Ty) → givensTy u ≡ [] → givensTys us ≡ givensTys (u ∷ us)
-unfolding givensTys
-leaf-givens u us e = rw e
-
-pub types-end : (s : List ℕ) (at m : ℕ) (table : List ℕ) → m ≡ 0 → TypesPost s at m table table (Ends at)
-unfolding encTys givensTys powers
-types-end s at m table z = record { by = go }
-  where
-    go : (us : List Ty) (q : ℕ) → TypesAt s at m us q → TypesAnswer s table table us q (Ends at)
-    go [] q a = (omega (arith, a .span .long), noted-nil s table)
-    go (u ∷ us) q a = absurd (omega (arith, a .many))
-
-pub types-beyond : (s : List ℕ) (at m : ℕ) (table : List ℕ) → Short table → TypesPost s at m table table Beyond
-types-beyond s at m table l = record { by = λ us q a. l }
-
-module _ (s : List ℕ) (at m : ℕ) (z : m ≡ 0 → ⊥) (t₀ : List ℕ) where
-  pub types-clash : getD s at 0 ≡ 2 → (n : ℕ) (t₁ : List ℕ) (fits : Bool) → GivenPost s n t₀ t₁ fits → fits ≡ false
-      → n ≡ numberAt 2 s (at + 1) → TypesPost s at m t₀ t₁ Clashed
-  types-clash b n t₁ fits g f en = record { by = λ us q a. go us q (types-step s at m us q a z) }
+module _ (s : List ℕ) (at m : ℕ) (t₀ : List ℕ) where
+  types-end : m ≡ 0 → TypesPost s at m t₀ t₀ (Ends at)
+  unfolding encTys givensTys powers
+  types-end z = record { by = go }
     where
-      go : (us : List Ty) (q : ℕ) → Step s at m us q → TypesAnswer s t₀ t₁ us q Clashed
-      go us q (leaf-first u rest e f l a) = absurd (omega arith)
-      go us q (given-first k rest e l w x r a) =
-          let y : n ≡ k = en ∙ x in
-          answer-for s t₀ t₁ us (given k ∷ rest) q Clashed e (clash-given s t₀ t₁ k rest q (subst (λ (i : ℕ). GivenPost s i t₀ t₁ false) y (subst (λ (o : Bool). GivenPost s n t₀ t₁ o) f g)))
-      go us q (pow-first t rest e l a) = absurd (omega arith)
-      go us q (prod-first t u rest e l a) = absurd (omega arith)
+      go : (us : List Ty) (q : ℕ) → TypesAt s at m us q → NotedTo s t₀ t₀ (powers (givensTys us)) q (Ends at)
+      go [] q a = (omega (arith, a .span .long), noted-nil s t₀)
+      go (u ∷ us) q a = absurd (omega (arith, a .many))
 
-  module _ (t₂ : List ℕ) (r : Noting) where
-    pub types-given : getD s at 0 ≡ 2 → (n : ℕ) (t₁ : List ℕ) (fits : Bool) → GivenPost s n t₀ t₁ fits → fits ≡ true
-        → n ≡ numberAt 2 s (at + 1) → TypesPost s (at + 3) (m - 1) t₁ t₂ r → TypesPost s at m t₀ t₂ r
-    types-given b n t₁ fits g f en p = record { by = λ us q a. go us q (types-step s at m us q a z) }
+  module _ (z : m ≡ 0 → ⊥) (to n : ℕ) (et : to ≡ at + leadOf (getD s at 0)) (en : n ≡ m - 1 + partsOf (getD s at 0)) where
+    given-clash : getD s at 0 ≡ 2 → (k : ℕ) → k ≡ numberAt 2 s (at + 1) → (t₁ : List ℕ) → GivenPost s k t₀ t₁ false → TypesPost s at m t₀ t₁ Clashed
+    given-clash b k ek t₁ g = record { by = λ us q a. go us q (step s at m z to n et en us q a) }
       where
-        go : (us : List Ty) (q : ℕ) → Step s at m us q → TypesAnswer s t₀ t₂ us q r
-        go us q (leaf-first u rest e f l a) = absurd (omega arith)
-        go us q (given-first k rest e l w x o a) =
-            let y : n ≡ k = en ∙ x in
-            answer-for s t₀ t₂ us (given k ∷ rest) q r e
-            (answer-given s t₀ t₁ t₂ k rest q (subst (λ (i : ℕ). GivenPost s i t₀ t₁ true) y (subst (λ (o : Bool). GivenPost s n t₀ t₁ o) f g)) r (p .by rest q a))
-        go us q (pow-first t rest e l a) = absurd (omega arith)
-        go us q (prod-first t u rest e l a) = absurd (omega arith)
+        go : (us : List Ty) (q : ℕ) → Step s at m us q to n → NotedTo s t₀ t₁ (powers (givensTys us)) q Clashed
+        go us q (given-first i rest e c x w r a) =
+            subst (λ (l : List Ty). NotedTo s t₀ t₁ (powers (givensTys l)) q Clashed) (sym e) (clash-given s t₀ t₁ i rest q (subst (λ (j : ℕ). GivenPost s j t₀ t₁ false) (ek ∙ x) g))
+        go us q (other-first rest e c a) = absurd (c b)
 
-    pub types-pow : getD s at 0 ≡ 3 → TypesPost s (at + 1) m t₀ t₂ r → TypesPost s at m t₀ t₂ r
-    types-pow b p = record { by = λ us q a. go us q (types-step s at m us q a z) }
-      where
-        go : (us : List Ty) (q : ℕ) → Step s at m us q → TypesAnswer s t₀ t₂ us q r
-        go us q (leaf-first u rest e f l a) = absurd (omega arith)
-        go us q (given-first k rest e l w x o a) = absurd (omega arith)
-        go us q (pow-first t rest e l a) =
-            answer-for s t₀ t₂ us (pow t ∷ rest) q r e (answer-as s t₀ t₂ (t ∷ rest) (pow t ∷ rest) q (pow-givens t rest) r (p .by (t ∷ rest) q a))
-        go us q (prod-first t u rest e l a) = absurd (omega arith)
+    module _ (t₂ : List ℕ) (r : Noting) where
+      given-back : getD s at 0 ≡ 2 → (k : ℕ) → k ≡ numberAt 2 s (at + 1) → (t₁ : List ℕ) → GivenPost s k t₀ t₁ true → TypesPost s to n t₁ t₂ r → TypesPost s at m t₀ t₂ r
+      given-back b k ek t₁ g p = record { by = λ us q a. go us q (step s at m z to n et en us q a) }
+        where
+          go : (us : List Ty) (q : ℕ) → Step s at m us q to n → NotedTo s t₀ t₂ (powers (givensTys us)) q r
+          go us q (given-first i rest e c x w o a) =
+              subst (λ (l : List Ty). NotedTo s t₀ t₂ (powers (givensTys l)) q r) (sym e) (answer-given s t₀ t₁ t₂ i rest q (subst (λ (j : ℕ). GivenPost s j t₀ t₁ true) (ek ∙ x) g) r (p .by rest q a))
+          go us q (other-first rest e c a) = absurd (c b)
 
-    pub types-prod : getD s at 0 ≡ 4 → TypesPost s (at + 1) (m + 1) t₀ t₂ r → TypesPost s at m t₀ t₂ r
-    types-prod b p = record { by = λ us q a. go us q (types-step s at m us q a z) }
-      where
-        go : (us : List Ty) (q : ℕ) → Step s at m us q → TypesAnswer s t₀ t₂ us q r
-        go us q (leaf-first u rest e f l a) = absurd (omega arith)
-        go us q (given-first k rest e l w x o a) = absurd (omega arith)
-        go us q (pow-first t rest e l a) = absurd (omega arith)
-        go us q (prod-first t u rest e l a) =
-            answer-for s t₀ t₂ us (prod t u ∷ rest) q r e
-            (answer-as s t₀ t₂ (t ∷ u ∷ rest) (prod t u ∷ rest) q (prod-givens t u rest) r (p .by (t ∷ u ∷ rest) q a))
+      other-back : (getD s at 0 ≡ 2 → ⊥) → TypesPost s to n t₀ t₂ r → TypesPost s at m t₀ t₂ r
+      other-back b p = record { by = λ us q a. go us q (step s at m z to n et en us q a) }
+        where
+          go : (us : List Ty) (q : ℕ) → Step s at m us q to n → NotedTo s t₀ t₂ (powers (givensTys us)) q r
+          go us q (given-first i rest e c x w o a) = absurd (b c)
+          go us q (other-first rest e c a) = subst (λ (l : List ℕ). NotedTo s t₀ t₂ (powers l) q r) e (p .by rest q a)
 
-    pub types-leaf : (getD s at 0 ≡ 2 → ⊥) → (getD s at 0 ≡ 3 → ⊥) → (getD s at 0 ≡ 4 → ⊥) → TypesPost s (at + 1) (m - 1) t₀ t₂ r → TypesPost s at m t₀ t₂ r
-    types-leaf b c d p = record { by = λ us q a. go us q (types-step s at m us q a z) }
-      where
-        go : (us : List Ty) (q : ℕ) → Step s at m us q → TypesAnswer s t₀ t₂ us q r
-        go us q (leaf-first u rest e f l a) =
-            answer-for s t₀ t₂ us (u ∷ rest) q r e (answer-as s t₀ t₂ rest (u ∷ rest) q (leaf-givens u rest f) r (p .by rest q a))
-        go us q (given-first k rest e l w x o a) = absurd (b l)
-        go us q (pow-first t rest e l a) = absurd (c l)
-        go us q (prod-first t u rest e l a) = absurd (d l)
+-- ---- the loop: what is left, and what its end says of all
+pub record Going (s : List ℕ) (at m : ℕ) (t₀ : List ℕ) (p left : ℕ) (t₁ : List ℕ) : Type 0 where
+  pub held : Held s t₁
+  pub size : length t₁ ≡ length t₀
+  pub some : Some s p left
+  pub back : (t₂ : List ℕ) (r : Noting) → TypesPost s p left t₁ t₂ r → TypesPost s at m t₀ t₂ r
+
+module _ (s : List ℕ) (at m : ℕ) (t₀ : List ℕ) where
+  pub going-begins : Held s t₀ → Some s at m → Going s at m t₀ at m t₀
+  going-begins h a = record { held = h; size = refl; some = a; back = λ t₂ r x. x }
+
+  module _ (p left : ℕ) (t₁ : List ℕ) (g : Going s at m t₀ p left t₁) where
+    pub going-done : left ≡ 0 → TypesPost s at m t₀ t₁ (Ends p)
+    going-done z = g .back t₁ (Ends p) (types-end s p left t₁ z)
+
+    pub going-beyond : Short t₁ → TypesPost s at m t₀ t₁ Beyond
+    going-beyond l = g .back t₁ Beyond record { by = λ us q a. l }
+
+    pub going-room : p + left ≤ length s
+    going-room = some-room s p left (g .some)
+
+    module _ (z : left ≡ 0 → ⊥) where
+      pub going-number : getD s p 0 ≡ 2 → (p + 3 ≤ length s) × (numberAt 2 s (p + 1) < 65536)
+      going-number b = let h = g .some in go (h .0) (h .1) (step s p left z (p + leadOf (getD s p 0)) (left - 1 + partsOf (getD s p 0)) refl refl (h .0) (h .1) (h .2))
+        where
+          go : (us : List Ty) (q : ℕ) → Step s p left us q (p + leadOf (getD s p 0)) (left - 1 + partsOf (getD s p 0)) → (p + 3 ≤ length s) × (numberAt 2 s (p + 1) < 65536)
+          go us q (given-first k rest e c x w o a) = (o, omega arith)
+          go us q (other-first rest e c a) = absurd (c b)
+
+      pub going-clash : getD s p 0 ≡ 2 → (k : ℕ) → k ≡ numberAt 2 s (p + 1) → (t₂ : List ℕ) (fits : Bool) → GivenPost s k t₁ t₂ fits → fits ≡ false → TypesPost s at m t₀ t₂ Clashed
+      going-clash b k ek t₂ fits o e =
+          g .back t₂ Clashed (given-clash s p left t₁ z (p + leadOf (getD s p 0)) (left - 1 + partsOf (getD s p 0)) refl refl b k ek t₂ (subst (λ (f : Bool). GivenPost s k t₁ t₂ f) e o))
+
+      module _ (step parts : ℕ) (es : step ≡ leadOf (getD s p 0)) (ep : parts ≡ partsOf (getD s p 0)) where
+        to-is : p + step ≡ p + leadOf (getD s p 0)
+        to-is = ap (λ (i : ℕ). p + i) es
+
+        left-is : left - 1 + parts ≡ left - 1 + partsOf (getD s p 0)
+        left-is = ap (λ (i : ℕ). left - 1 + i) ep
+
+        pub going-forward : 0 < step
+        going-forward = some-lead (eqb (getD s p 0) 2) es
+          where
+            some-lead : (b : Bool) → step ≡ pick b 3 1 → 0 < step
+            some-lead true e = omega arith
+            some-lead false e = omega arith
+
+        pub going-further : p + step + (left - 1 + parts) ≤ length s
+        going-further = some-room s (p + step) (left - 1 + parts) (onward s p left z (p + step) (left - 1 + parts) to-is left-is (g .some))
+
+        pub going-other : (getD s p 0 ≡ 2 → ⊥) → (t₂ : List ℕ) → t₂ ≡ t₁ → Going s at m t₀ (p + step) (left - 1 + parts) t₂
+        going-other b t₂ et = subst (Going s at m t₀ (p + step) (left - 1 + parts)) (sym et) record {
+          held = g .held;
+          size = g .size;
+          some = onward s p left z (p + step) (left - 1 + parts) to-is left-is (g .some);
+          back = λ t₃ r x. g .back t₃ r (other-back s p left t₁ z (p + step) (left - 1 + parts) to-is left-is t₃ r b x);
+        }
+
+        pub going-given : getD s p 0 ≡ 2 → (k : ℕ) → k ≡ numberAt 2 s (p + 1) → (t₂ : List ℕ) (fits : Bool) → GivenPost s k t₁ t₂ fits → fits ≡ true → (t₃ : List ℕ) → t₃ ≡ t₂ → Going s at m t₀ (p + step) (left - 1 + parts) t₃
+        going-given b k ek t₂ fits o e t₃ et =
+            let n = noted-true s t₁ t₂ (named k (pow (given k)) ∷ []) fits o e in
+            subst (Going s at m t₀ (p + step) (left - 1 + parts)) (sym et) record {
+              held = held-then s t₁ t₂ (named k (pow (given k)) ∷ []) (g .held) n;
+              size = n .size ∙ g .size;
+              some = onward s p left z (p + step) (left - 1 + parts) to-is left-is (g .some);
+              back = λ t₃ r x. g .back t₃ r (given-back s p left t₁ z (p + step) (left - 1 + parts) to-is left-is t₃ r b k ek t₂ n x);
+            }

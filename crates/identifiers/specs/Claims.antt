@@ -6,9 +6,9 @@ use mathlib.Core.List.{List, [], _∷_, _++_}
 use Prim.Native.Nat.{ℕ, suc, _+_, _-_, _≤_, _<_}
 use lib.ListN.{length, getD}
 use Rattle.frame.specs.Types.{Ty, given, pow}
-use Rattle.frame.specs.Trees.{head, Tree, node, Forest, nil, cons}
+use Rattle.frame.specs.Trees.{Head, head, Tree, node, Forest, nil, cons, count}
 use Rattle.frame.specs.Tags.{pick, Sort}
-use Rattle.frame.specs.Encoding.{encTy, encTys}
+use Rattle.frame.specs.Encoding.{encTy, encTys, encHead}
 use Rattle.frame.specs.Reading.{frameLimit}
 use Rattle.frame.specs.WellFormed.{TyWf}
 use Rattle.frame.specs.At.{Rest}
@@ -25,10 +25,14 @@ unfoldable pub powers : List ℕ → List Named
 powers [] = []
 powers (n ∷ ns) = named n (pow (given n)) ∷ powers ns
 
--- the claims of a tree, in the order of its bytes, but an identifier's own after those of the given sets in its type
+-- the claims of a head: those of the given sets in its types, then an identifier's own
+abbrev pub claimsOf : Head → List Named
+claimsOf (head g n us) = powers (givensTys us) ++ identOf g n us
+
+-- the claims of a tree
 unfoldable mutual
   pub claims : Tree → List Named
-  claims (node (head g n us) ks) = powers (givensTys us) ++ (identOf g n us ++ claimsIn ks)
+  claims (node h ks) = claimsOf h ++ claimsIn ks
 
   pub claimsIn : Forest → List Named
   claimsIn nil = []
@@ -98,14 +102,18 @@ pub record NamePost (s : List ℕ) (n p q : ℕ) (before after : List ℕ) (r : 
 abbrev pub Short : List ℕ → Type 0
 Short table = length table < 65536
 
--- how the types' given sets were noted
-abbrev pub TypesAnswer : List ℕ → List ℕ → List ℕ → List Ty → ℕ → Noting → Type 0
-TypesAnswer s before after us q (Ends p) = (p ≡ q) × Noted s before after (powers (givensTys us)) true
-TypesAnswer s before after us q Clashed = Noted s before after (powers (givensTys us)) false
-TypesAnswer s before after us q Beyond = Short before
+-- how claims were noted that stand in the bytes up to q
+abbrev pub NotedTo : List ℕ → List ℕ → List ℕ → List Named → ℕ → Noting → Type 0
+NotedTo s before after new q (Ends p) = (p ≡ q) × Noted s before after new true
+NotedTo s before after new q Clashed = Noted s before after new false
+NotedTo s before after new q Beyond = Short before
 
 pub record TypesPost (s : List ℕ) (at m : ℕ) (before after : List ℕ) (r : Noting) : Type 0 where
-  pub by : (us : List Ty) (q : ℕ) → TypesAt s at m us q → TypesAnswer s before after us q r
+  pub by : (us : List Ty) (q : ℕ) → TypesAt s at m us q → NotedTo s before after (powers (givensTys us)) q r
+
+-- the node at `at`, of some that stand from there to the end
+pub record NodePost (s : List ℕ) (at : ℕ) (before after : List ℕ) (r : Noting) : Type 0 where
+  pub by : (h : Head) (ks later : Forest) (es : List Sort) → Rest s at (cons (node h ks) later) es → NotedTo s before after (claimsOf h) (at + length (encHead h (count ks))) r
 
 abbrev pub GivenPost : List ℕ → ℕ → List ℕ → List ℕ → Bool → Type 0
 GivenPost s n before after r = Noted s before after (named n (pow (given n)) ∷ []) r

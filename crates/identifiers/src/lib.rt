@@ -3,8 +3,13 @@
 // through once from left to right, and a table holds what has been claimed of each identifier number. A frame with a number
 // beyond the table is gone through again with a table of all numbers.
 use heads::number;
+use heads::type_bytes;
+use heads::type_parts;
 use octets::same_bytes;
 use octets::wide16;
+use tags::form_of;
+use tags::types_of;
+use tags::width_of;
 ghost use mathlib.Core.Path.{_≡_};
 ghost use Prim.Native.Nat.{ℕ, _+_, _-_, _≤_, _<_};
 ghost use mathlib.Core.List.{List};
@@ -15,9 +20,11 @@ ghost use Rattle.frame.specs.Tags.{Sort, predicate};
 ghost use Rattle.frame.specs.At.{IsAt, Rest};
 ghost use Rattle.frame.specs.Reading.{frameLimit};
 ghost use Rattle.typing.specs.Identifiers.{namesAgree};
-ghost use Rattle.identifiers.specs.Claims.{PowerPost, SameType, Held, TypeAt, TypesAt, NamePost, GivenPost, TypesPost, NamesPost};
+ghost use Rattle.identifiers.specs.Claims.{PowerPost, SameType, Held, TypeAt, TypesAt, NamePost, GivenPost, TypesPost, NodePost, NamesPost};
 
 const IDENTIFIER: usize = 1;
+
+const GIVEN_SET: u8 = 2;
 
 // The entry of a number that a given set has claimed. Other entries are one more than the position of an identifier's type,
 // and 0 where nothing has been claimed.
@@ -104,13 +111,12 @@ fn note_types(s: &[u8], at: usize, m: usize, table: &mut [u16]) -> Noting
     requires { ⌜ Held (now s) (now table) × ((us : List Ty) × (q : ℕ) × TypesAt (now s) at m us q) ⌝ }
     ensures { λ r. ⌜ TypesPost (now (s .entry)) at m (now (table .entry)) (now (table .exit)) r ⌝ }
 {
-    if m == 0 {
-        return Noting::Ends(at);
-    }
-    let b = s[at];
-    match b {
-        2 => {
-            let n = number(s, at + 1, 2);
+    let mut p = at;
+    let mut left = m;
+    while 0 < left {
+        let b = s[p];
+        if b == GIVEN_SET {
+            let n = number(s, p + 1, 2);
             if table.len() <= n {
                 return Noting::Beyond;
             }
@@ -118,45 +124,65 @@ fn note_types(s: &[u8], at: usize, m: usize, table: &mut [u16]) -> Noting
             if !fits {
                 return Noting::Clashed;
             }
-            note_types(s, at + 3, m - 1, table)
         }
-        3 => note_types(s, at + 1, m, table),
-        4 => note_types(s, at + 1, m + 1, table),
-        _ => note_types(s, at + 1, m - 1, table),
+        p += type_bytes(b);
+        left = left - 1 + type_parts(b);
+    }
+    Noting::Ends(p)
+}
+
+// The claims of the node at `at`: those of the given sets in its types, and its own if it is an identifier. A node's children are
+// the next nodes, and the next node stands where its types end.
+fn note_node(s: &[u8], at: usize, table: &mut [u16]) -> Noting
+    requires { ⌜ (at < length (now s)) × Held (now s) (now table) × ((ts : Forest) × (es : List Sort) × Rest (now s) at ts es) ⌝ }
+    ensures { λ r. ⌜ NodePost (now (s .entry)) at (now (table .entry)) (now (table .exit)) r ⌝ }
+{
+    let tag = number(s, at, 2);
+    let form = form_of(tag);
+    let w = width_of(form);
+    let x = number(s, at + 2, w);
+    let types = at + 2 + w;
+    let a = note_types(s, types, types_of(form, x), table);
+    match a {
+        Noting::Clashed => Noting::Clashed,
+        Noting::Beyond => Noting::Beyond,
+        Noting::Ends(p) => {
+            if tag != IDENTIFIER {
+                return Noting::Ends(p);
+            }
+            if table.len() <= x {
+                return Noting::Beyond;
+            }
+            let fits = note_identifier(s, x, types, p, table);
+            if !fits {
+                return Noting::Clashed;
+            }
+            Noting::Ends(p)
+        }
     }
 }
 
-// The nodes from `at` to the end of the frame. A node's children are the next nodes, so no list of open nodes is kept.
-fn note_nodes(s: &[u8], at: usize, table: &mut [u16]) -> Names
-    requires { ⌜ Held (now s) (now table) × ((ts : Forest) × (es : List Sort) × Rest (now s) at ts es) ⌝ }
-    ensures { λ r. ⌜ NamesPost (now (s .entry)) at (now (table .entry)) (now (table .exit)) r ⌝ }
+// All nodes of the frame.
+fn note_nodes(s: &[u8], table: &mut [u16]) -> Names
+    requires { ⌜ Held (now s) (now table) × ((ts : Forest) × (es : List Sort) × Rest (now s) 0 ts es) ⌝ }
+    ensures { λ r. ⌜ NamesPost (now (s .entry)) 0 (now (table .entry)) (now (table .exit)) r ⌝ }
 {
-    if s.len() <= at {
-        return Names::Agree;
-    }
-    let tag = number(s, at, 2);
-    let form = tags::form_of(tag);
-    let w = tags::width_of(form);
-    let x = number(s, at + 2, w);
-    let m = tags::types_of(form, x);
-    let a = note_types(s, at + 2 + w, m, table);
-    match a {
-        Noting::Clashed => Names::Differ,
-        Noting::Beyond => Names::Undecided,
-        Noting::Ends(p) => {
-            if tag != IDENTIFIER {
-                return note_nodes(s, p, table);
+    let mut at = 0;
+    while at < s.len() {
+        let a = note_node(s, at, table);
+        match a {
+            Noting::Ends(p) => {
+                at = p;
             }
-            if table.len() <= x {
-                return Names::Undecided;
-            }
-            let fits = note_identifier(s, x, at + 2 + w, p, table);
-            if !fits {
+            Noting::Clashed => {
                 return Names::Differ;
             }
-            note_nodes(s, p, table)
+            Noting::Beyond => {
+                return Names::Undecided;
+            }
         }
     }
+    Names::Agree
 }
 
 // Whether the names of a frame's tree agree. The table has an entry for each two-byte number: so the time grows with the
@@ -166,7 +192,7 @@ fn names_in_full(s: &[u8]) -> bool
     ensures { λ r. ⌜ ((t : Tree) → IsAt (now (s .entry)) predicate 0 t (length (now (s .entry))) → r ≡ namesAgree t) ⌝ }
 {
     let mut table = [0u16; 65536];
-    let a = note_nodes(s, 0, &mut table);
+    let a = note_nodes(s, &mut table);
     match a {
         Names::Agree => true,
         Names::Differ => false,
@@ -180,7 +206,7 @@ pub fn names_ok(s: &[u8]) -> bool
     ensures { λ r. ⌜ ((t : Tree) → IsAt (now (s .entry)) predicate 0 t (length (now (s .entry))) → r ≡ namesAgree t) ⌝ }
 {
     let mut table = [0u16; 256];
-    let a = note_nodes(s, 0, &mut table);
+    let a = note_nodes(s, &mut table);
     match a {
         Names::Agree => true,
         Names::Differ => false,
