@@ -1,5 +1,6 @@
 -- The ways out of `fill_pattern`.
--- Main results: fill-end, fill-full, fill-fixed, fill-unbound, fill-long, fill-bound, with what the calls ask for.
+-- Main results: fill-end, fill-full, fill-fixed, fill-unbound, fill-long, fill-bound, with what the calls ask for; the laws of Going, the loop's
+-- invariant.
 use mathlib.Core.Path.{_≡_, refl, sym, ap, _∙_, subst, subst₂}
 use mathlib.Core.Bool.{Bool, true, false, _&&_, and-false}
 use mathlib.Core.List.{List, [], _∷_, _++_, append-nil}
@@ -166,3 +167,20 @@ module _ (p : ℕ) (o : List ℕ) (m limit : ℕ) (s e : List ℕ) (k : ℕ) (ro
                   rw (le-ltb b 5 l, lt-ltb (b - 5) (length ρ) (omega arith)),
                 ))
                 kept-copy (omega arith) q r fp
+
+-- ---- the loop: what is left, and what its end says of all
+abbrev FillAll : ℕ → List ℕ → ℕ → ℕ → List ℕ → List ℕ → ℕ → List ℕ → Filled → Type 0
+FillAll p o m limit s e k q r = (ps : List ℕ) → Packed ps p → FillPost ps o m limit s e k q r
+
+pub record Going (p₀ : ℕ) (o₀ : List ℕ) (m₀ limit : ℕ) (s e : List ℕ) (k p : ℕ) (o : List ℕ) (m : ℕ) : Type 0 where
+  pub pre : FillPre o m limit s e k
+  pub size : length o ≡ length o₀
+  pub back : (q : List ℕ) (r : Filled) → FillAll p o m limit s e k q r → FillAll p₀ o₀ m₀ limit s e k q r
+
+module _ (p₀ : ℕ) (o₀ : List ℕ) (m₀ limit : ℕ) (s e : List ℕ) (k : ℕ) where
+  pub going-begins : FillPre o₀ m₀ limit s e k → Going p₀ o₀ m₀ limit s e k p₀ o₀ m₀
+  going-begins h = record { pre = h; size = refl; back = λ q r x. x }
+
+  pub going-next : (p : ℕ) (o : List ℕ) (m : ℕ) → Going p₀ o₀ m₀ limit s e k p o m → (o₁ : List ℕ) (m₁ : ℕ) → FillPre o₁ m₁ limit s e k → length o₁ ≡ length o
+      → ((q : List ℕ) (r : Filled) → FillAll (p / 16) o₁ m₁ limit s e k q r → FillAll p o m limit s e k q r) → Going p₀ o₀ m₀ limit s e k (p / 16) o₁ m₁
+  going-next p o m g o₁ m₁ h l f = record { pre = h; size = l ∙ g .size; back = λ q r x. g .back q r (f q r x) }

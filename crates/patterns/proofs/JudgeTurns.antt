@@ -1,7 +1,6 @@
--- The ways out of `judge_types`: the rule of a class at the types of the operands, step by step.
--- Main results: pairs-pre; paired-by, fitted-by, lasted-by,
--- done-by (what is known after each call), with what the calls ask for; judge-unpaired, judge-first-off, judge-last-off,
--- judge-over, judge-typed (the answers).
+-- The ways out of `match_operands` and `judge_types`: the rule of a class at the types of the operands, step by step.
+-- Main results: pairs-pre; paired-by, fitted-by, done-by (what is known after each call), with what the calls ask for; unpaired, first-off,
+-- last-says; turned-down, judge-over, judge-typed (the answers).
 use mathlib.Core.Path.{_≡_, refl, sym, ap, _∙_, subst}
 use mathlib.Core.Bool.{Bool, true, false, _&&_}
 use mathlib.Core.List.{List, []}
@@ -16,7 +15,7 @@ use Rattle.frame.specs.Spans.{Spans}
 use Rattle.type_rules.specs.Patterns.{Matched, fits, differs, matches, Rule, Judged, typed, wrong, completed, allBound, filled, pairsFit, lastOnes, thenMatched, ends, judge}
 use Rattle.type_rules.specs.RuleNumbers.{Packed}
 use Rattle.type_bytes.specs.Buffers.{Copied, Apart}
-use Rattle.patterns.specs.PatternPosts.{RowAt, Slots, EnvAt, Kept, MatchPre, Matching, MatchPost, PairsPre, Pairing, PairsPost, FillPre, Filling, FillPost, JudgePre, Judging, JudgePost}
+use Rattle.patterns.specs.PatternPosts.{RowAt, Slots, EnvAt, Kept, MatchPre, Matching, MatchPost, PairsPre, Pairing, PairsPost, Operands, OperandsPost, FillPre, Filling, FillPost, JudgePre, Judging, JudgePost}
 use Rattle.patterns.specs.declared.Typed.the-variants as T
 use Rattle.patterns.specs.declared.Fit.{Fit}
 use Rattle.patterns.specs.declared.Fit.the-variants as F
@@ -75,9 +74,6 @@ pub record Paired (R : Rule) (o : List ℕ) (from n : ℕ) (s e : List ℕ) (las
 pub record Fitted (R : Rule) (o : List ℕ) (from n : ℕ) (s e : List ℕ) (last k : ℕ) : Type 0 where
   pub answer : (ts : List Ty) → RowAt o from n ts → (ρ : List Ty) × (judge R ts ≡ thenMatched (matches (R .last) (lastOnes ts) ρ) (λ σ. completed (R .result) σ)) × RowAt o last n (lastOnes ts) × EnvAt o n s e ρ × (length ρ ≡ k)
 
-pub record Lasted (R : Rule) (o : List ℕ) (from n : ℕ) (s e : List ℕ) (j : ℕ) : Type 0 where
-  pub answer : (ts : List Ty) → RowAt o from n ts → (σ : List Ty) × (judge R ts ≡ completed (R .result) σ) × EnvAt o n s e σ × (length σ ≡ j)
-
 pub record Done (R : Rule) (o : List ℕ) (from n : ℕ) (o₁ : List ℕ) (m : ℕ) : Type 0 where
   pub answer : (ts : List Ty) → RowAt o from n ts → (xs : List ℕ) × (judge R ts ≡ typed xs) × (m ≡ n + length xs) × Spans o₁ n m xs × Kept o o₁ n
 
@@ -85,15 +81,14 @@ pairing : (ps : List ℕ) {o : List ℕ} {from n : ℕ} {s₀ e₀ s₁ e₁ : L
 pairing ps {o} {n = n} {s₁ = s₁} {e₁ = e₁} sl post ts y row ex = subst (λ (w : Pairs). Pairing (pairsFit ps ts) o n ts s₁ e₁ w) ex (post .answer ts row sl)
 
 -- ---- the ways out
-module _ {R : Rule} {o : List ℕ} {from n : ℕ} where
-  turned-down : ((ts : List Ty) → RowAt o from n ts → judge R ts ≡ wrong) → (p : List ℕ) → JudgePost R o from n p T.Bad
+module _ (R : Rule) {o : List ℕ} {from n : ℕ} where
+  pub turned-down : ((ts : List Ty) → RowAt o from n ts → judge R ts ≡ wrong) → (p : List ℕ) → JudgePost R o from n p T.Bad
   turned-down f p = record { answer = λ ts row. subst (λ (j : Judged). Judging j o from p T.Bad) (sym (f ts row)) refl }
 
   module _ {s₀ e₀ s₁ e₁ : List ℕ} (sl : Slots s₀ e₀) {x : Pairs} (post : PairsPost (R .pair) o from n s₀ e₀ s₁ e₁ x) where
-    pub judge-unpaired : x ≡ P.Differ → (p : List ℕ) → JudgePost R o from n p T.Bad
+    pub unpaired : x ≡ P.Differ → (ts : List Ty) → RowAt o from n ts → judge R ts ≡ wrong
     unfolding judge
-    judge-unpaired ex =
-        turned-down (λ ts row. ap (λ (b : Bool). pick b (ends R ts) wrong) (unpaired-of (pairsFit (R .pair) ts) o n ts s₁ e₁ (pairing (R .pair) sl post ts P.Differ row ex)))
+    unpaired ex ts row = ap (λ (b : Bool). pick b (ends R ts) wrong) (unpaired-of (pairsFit (R .pair) ts) o n ts s₁ e₁ (pairing (R .pair) sl post ts P.Differ row ex))
 
     pub paired-by : {last : ℕ} → x ≡ P.Last last → Paired R o from n s₁ e₁ last
     unfolding judge
@@ -116,8 +111,8 @@ module _ {R : Rule} {o : List ℕ} {from n : ℕ} where
       first-are : (ts : List Ty) (w : Matched) → RowAt o from n ts → matches (R .first) ts [] ≡ w → judge R ts ≡ thenMatched w (λ ρ. thenMatched (matches (R .last) (lastOnes ts) ρ) (λ σ. completed (R .result) σ))
       first-are ts w row e = known .answer ts row .0 ∙ ap (λ (m : Matched). thenMatched m (λ ρ. thenMatched (matches (R .last) (lastOnes ts) ρ) (λ σ. completed (R .result) σ))) e
 
-      pub judge-first-off : x ≡ F.Differs → (p : List ℕ) → JudgePost R o from n p T.Bad
-      judge-first-off ex = turned-down (λ ts row. first-are ts differs row (unfitted-of (matches (R .first) ts []) o n s₂ e₂ (firstly ts F.Differs row ex)))
+      pub first-off : x ≡ F.Differs → (ts : List Ty) → RowAt o from n ts → judge R ts ≡ wrong
+      first-off ex ts row = first-are ts differs row (unfitted-of (matches (R .first) ts []) o n s₂ e₂ (firstly ts F.Differs row ex))
 
       pub fitted-by : {k : ℕ} → x ≡ F.Fits k → Fitted R o from n s₂ e₂ last k
       fitted-by {k} ex =
@@ -140,17 +135,27 @@ module _ {R : Rule} {o : List ℕ} {from n : ℕ} where
       last-are : (ts : List Ty) (w : Matched) (row : RowAt o from n ts) → matches (R .last) (lastOnes ts) (known .answer ts row .0) ≡ w → judge R ts ≡ thenMatched w (λ σ. completed (R .result) σ)
       last-are ts w row e = known .answer ts row .1 ∙ ap (λ (m : Matched). thenMatched m (λ σ. completed (R .result) σ)) e
 
-      pub judge-last-off : x ≡ F.Differs → (p : List ℕ) → JudgePost R o from n p T.Bad
-      judge-last-off ex = turned-down (λ ts row. last-are ts differs row (unfitted-of (matches (R .last) (lastOnes ts) (known .answer ts row .0)) o n s₃ e₃ (lastly ts F.Differs row ex)))
+      -- what the last operand answers is the answer
+      pub last-says : OperandsPost R o from n s₃ e₃ x
+      last-says = go x refl
+        where
+          go : (y : Fit) → x ≡ y → OperandsPost R o from n s₃ e₃ y
+          go (F.Fits k) ex =
+              record {
+                answer = λ ts row. (let f = fitted-of (matches (R .last) (lastOnes ts) (known .answer ts row .0)) o n s₃ e₃ k (lastly ts (F.Fits k) row ex) in
+                    (f .1, last-are ts (fits (f .0) (f .1)) row (f .2), f .3, f .4));
+              }
+          go F.Differs ex = λ ts row. last-are ts differs row (unfitted-of (matches (R .last) (lastOnes ts) (known .answer ts row .0)) o n s₃ e₃ (lastly ts F.Differs row ex))
 
-      pub lasted-by : {j : ℕ} → x ≡ F.Fits j → Lasted R o from n s₃ e₃ j
-      lasted-by {j} ex =
-          record {
-            answer = λ ts row. (let f = fitted-of (matches (R .last) (lastOnes ts) (known .answer ts row .0)) o n s₃ e₃ j (lastly ts (F.Fits j) row ex) in
-                (f .1, last-are ts (fits (f .0) (f .1)) row (f .2), f .3, f .4));
-          }
+  -- what `match_operands` has answered
+  module _ (s₃ e₃ : List ℕ) (x : Fit) (said : OperandsPost R o from n s₃ e₃ x) where
+    pub operands-off : x ≡ F.Differs → (ts : List Ty) → RowAt o from n ts → judge R ts ≡ wrong
+    operands-off ex = subst (OperandsPost R o from n s₃ e₃) ex said
 
-  module _ {s₃ e₃ : List ℕ} {j : ℕ} (known : Lasted R o from n s₃ e₃ j) where
+    pub operands-fit : {j : ℕ} → x ≡ F.Fits j → Operands R o from n s₃ e₃ j
+    operands-fit ex = subst (OperandsPost R o from n s₃ e₃) ex said
+
+  module _ {s₃ e₃ : List ℕ} {j : ℕ} (known : Operands R o from n s₃ e₃ j) where
     pub fill-pre : JudgePre o from n → FillPre o n (n + 64) s₃ e₃ j
     fill-pre p = let f = known .answer (p .ts) (p .row) in record { ρ = f .0; env = f .2; count = f .3; room = (omega arith, p .room) }
 

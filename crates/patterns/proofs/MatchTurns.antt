@@ -1,6 +1,6 @@
 -- The ways out of `match_pattern`: at each, what the code found is what `matches` says.
 -- Main results: packed-end, by-symbol (the pattern of a word); row-none .. row-type (types in a row); the laws fit-end .. next-same
--- (one for each way out).
+-- (one for each way out); the laws of Going, the loop's invariant.
 use Rattle.frame.proofs.ReadTypes.{ty-long}
 use mathlib.Core.Path.{_≡_, refl, sym, ap, _∙_, subst, subst₃}
 use mathlib.Core.Bool.{Bool, true, false}
@@ -210,9 +210,6 @@ pub record Next (ps : List ℕ) (us ρ : List Ty) (qs types : List ℕ) (at n : 
   pub env : EnvAt types n s e bound
   pub count : length bound ≡ k
 
-pub next-pre : {ps : List ℕ} {us ρ : List Ty} {qs types : List ℕ} {at n : ℕ} {s e : List ℕ} {k : ℕ} → Next ps us ρ qs types at n s e k → MatchPre types at n s e k
-next-pre x = record { us = x .types-left; ρ = x .bound; row = x .row; env = x .env; count = x .count }
-
 module _ (p : ℕ) (types : List ℕ) (at n : ℕ) (s e : List ℕ) (k : ℕ) where
   abbrev Post : List ℕ → List ℕ → Fit → Type 0
   Post s₁ e₁ r = (ps : List ℕ) → Packed ps p → MatchPost ps types at n s e k s₁ e₁ r
@@ -342,3 +339,26 @@ slot-span env c v h = let a = env .spans v (omega (arith, c)) in omega (arith, a
 -- and are some
 pub slot-some : {types : List ℕ} {n : ℕ} {s e : List ℕ} {ρ : List Ty} {k : ℕ} → EnvAt types n s e ρ → length ρ ≡ k → (v : ℕ) → v < k → getD s v 0 < getD e v 0
 slot-some {ρ = ρ} env c v h = let a = env .spans v (omega (arith, c)) in omega (arith, a .long, ty-long (ty v ρ))
+
+-- ---- the loop of `match_pattern`: what is left, and what its end says of all
+abbrev MatchAll : ℕ → List ℕ → ℕ → ℕ → List ℕ → List ℕ → ℕ → List ℕ → List ℕ → Fit → Type 0
+MatchAll p types at n s e k s₁ e₁ r = (ps : List ℕ) → Packed ps p → MatchPost ps types at n s e k s₁ e₁ r
+
+pub record Going (p₀ : ℕ) (types : List ℕ) (at₀ n : ℕ) (s₀ e₀ : List ℕ) (k₀ p at : ℕ) (s e : List ℕ) (k : ℕ) : Type 0 where
+  pub pre : MatchPre types at n s e k
+  pub back : (s₁ e₁ : List ℕ) (r : Fit) → MatchAll p types at n s e k s₁ e₁ r → MatchAll p₀ types at₀ n s₀ e₀ k₀ s₁ e₁ r
+
+module _ (p₀ : ℕ) (types : List ℕ) (at₀ n : ℕ) (s₀ e₀ : List ℕ) (k₀ : ℕ) where
+  pub going-begins : MatchPre types at₀ n s₀ e₀ k₀ → Going p₀ types at₀ n s₀ e₀ k₀ p₀ at₀ s₀ e₀ k₀
+  going-begins h = record { pre = h; back = λ s₁ e₁ r x. x }
+
+  pub going-next : (p at : ℕ) (s e : List ℕ) (k : ℕ) → Going p₀ types at₀ n s₀ e₀ k₀ p at s e k → (p % 16 ≡ 2 → ⊥) → at < n → (at₁ : ℕ) (s₁ e₁ : List ℕ) (k₁ : ℕ)
+      → ((rest : List ℕ) (us ρ : List Ty) → RowAt types at n us → EnvAt types n s e ρ → length ρ ≡ k → Next (p % 16 ∷ rest) us ρ rest types at₁ n s₁ e₁ k₁)
+      → Going p₀ types at₀ n s₀ e₀ k₀ (p / 16) at₁ s₁ e₁ k₁
+  going-next p at s e k g z l at₁ s₁ e₁ k₁ f =
+      let h = g .pre in
+      let x = f [] (h .us) (h .ρ) (h .row) (h .env) (h .count) in
+      record {
+        pre = record { us = x .types-left; ρ = x .bound; row = x .row; env = x .env; count = x .count };
+        back = λ s₂ e₂ r y. g .back s₂ e₂ r (goes-on p types at n s e k (p % 16) refl z l at₁ s₁ e₁ k₁ f s₂ e₂ r y);
+      }

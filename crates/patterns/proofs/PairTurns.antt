@@ -1,5 +1,5 @@
 -- The ways out of `match_pairs`.
--- Main results: env-empty, pairs-none, pairs-last, pairs-differ, pairs-more.
+-- Main results: env-empty, pairs-none, pairs-last, pairs-differ, pairs-more; the laws of Going, the loop's invariant.
 use Rattle.frame.proofs.ReadTypes.{ty-long}
 use mathlib.Core.Path.{_≡_, refl, sym, subst}
 use mathlib.Core.Bool.{Bool, true, false, _&&_}
@@ -10,6 +10,7 @@ use lib.ListN.{length}
 use Rattle.frame.specs.Types.{Ty}
 use Rattle.frame.specs.Encoding.{encTy}
 use Rattle.type_rules.specs.Patterns.{Matched, fits, differs, matches, isFit, pairsFit}
+use Rattle.type_rules.specs.RuleNumbers.{Packed}
 use Rattle.type_bytes.specs.Buffers.{TypeAt, EndOf}
 use Rattle.patterns.specs.PatternPosts.{RowAt, Slots, EnvAt, MatchPre, Matching, MatchPost, PairsPre, Pairing, PairsPost}
 use Rattle.patterns.specs.declared.Fit.{Fit}
@@ -88,12 +89,12 @@ module _ (ps types : List ℕ) (at n : ℕ) (s e : List ℕ) where
             fitted : (us : List Ty) → RowAt types at n us → Slots s e → (isFit (matches ps us []) ≡ true) × Slots s₁ e₁
             fitted us row sl = fit-of (matches ps us []) types n s₁ e₁ k (subst (λ (x : Fit). Matching (matches ps us []) types n s₁ e₁ x) ef (matched us row sl))
 
-            pub pairs-further : {w : ℕ} → PairsPre w types at n s e → PairsPre w types q n s₁ e₁
+            pairs-further : {w : ℕ} → PairsPre w types at n s e → PairsPre w types q n s₁ e₁
             pairs-further {w} p =
                 let sl = fitted (p .us) (p .row) (p .slots) .1 in
                 by-first types at n l (λ vs. PairsPre w types q n s₁ e₁) (λ t vs r. record { ps = p .ps; packed = p .packed; us = vs; row = after t vs r; slots = sl }) (p .us) (p .row)
 
-            pub pairs-more : (s₂ e₂ : List ℕ) (r : Pairs) → PairsPost ps types q n s₁ e₁ s₂ e₂ r → PairsPost ps types at n s e s₂ e₂ r
+            pairs-more : (s₂ e₂ : List ℕ) (r : Pairs) → PairsPost ps types q n s₁ e₁ s₂ e₂ r → PairsPost ps types at n s e s₂ e₂ r
             unfolding pairsFit
             pairs-more s₂ e₂ r pp =
                 record {
@@ -106,3 +107,21 @@ module _ (ps types : List ℕ) (at n : ℕ) (s e : List ℕ) where
                 again : (b : Bool) (t u : Ty) (vs : List Ty) → Pairing b types n (u ∷ vs) s₂ e₂ r → Pairing b types n (t ∷ u ∷ vs) s₂ e₂ r
                 again true t u vs a = a
                 again false t u vs a = a
+
+-- ---- the loop: what is left, and what its end says of all
+pub record Going (p : ℕ) (types : List ℕ) (at₀ n : ℕ) (s₀ e₀ : List ℕ) (at : ℕ) (s e : List ℕ) : Type 0 where
+  pub pre : PairsPre p types at n s e
+  pub back : (s₁ e₁ : List ℕ) (r : Pairs) → ((ps : List ℕ) → Packed ps p → PairsPost ps types at n s e s₁ e₁ r) → (ps : List ℕ) → Packed ps p → PairsPost ps types at₀ n s₀ e₀ s₁ e₁ r
+
+module _ (p : ℕ) (types : List ℕ) (at₀ n : ℕ) (s₀ e₀ : List ℕ) where
+  pub going-begins : PairsPre p types at₀ n s₀ e₀ → Going p types at₀ n s₀ e₀ at₀ s₀ e₀
+  going-begins h = record { pre = h; back = λ s₁ e₁ r x. x }
+
+  pub going-next : (at : ℕ) (s e : List ℕ) → Going p types at₀ n s₀ e₀ at s e → at < n → (q : ℕ) → EndOf types at q → q < n
+      → (s₁ e₁ : List ℕ) (f : Fit) → ((ps : List ℕ) → Packed ps p → MatchPost ps types at n s e 0 s₁ e₁ f) → (k : ℕ) → f ≡ F.Fits k → Going p types at₀ n s₀ e₀ q s₁ e₁
+  going-next at s e g l q en h s₁ e₁ f mp k ef =
+      let pre = g .pre in
+      record {
+        pre = pairs-further (pre .ps) types at n s e l q en h s₁ e₁ f (mp (pre .ps) (pre .packed)) k ef pre;
+        back = λ s₂ e₂ r x. g .back s₂ e₂ r (λ ps pk. pairs-more ps types at n s e l q en h s₁ e₁ f (mp ps pk) k ef s₂ e₂ r (x ps pk));
+      }

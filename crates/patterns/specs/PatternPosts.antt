@@ -12,7 +12,7 @@ use Rattle.frame.specs.WellFormed.{TyWf}
 use Rattle.frame.specs.Spans.{Spans}
 use Rattle.frame.specs.Reading.{typeLimit}
 use Rattle.typing.specs.Typing.{ty}
-use Rattle.type_rules.specs.Patterns.{Matched, fits, differs, matches, allBound, filled, pairsFit, lastOnes, Rule, Judged, typed, wrong, judge}
+use Rattle.type_rules.specs.Patterns.{Matched, fits, differs, matches, allBound, filled, pairsFit, lastOnes, Rule, Judged, typed, wrong, completed, judge}
 use Rattle.type_rules.specs.RuleNumbers.{Packed}
 use Rattle.patterns.specs.declared.Typed.{Typed}
 use Rattle.patterns.specs.declared.Typed.the-variants as T
@@ -80,6 +80,15 @@ Pairing false types n us starts ends r = r ≡ P.Differ
 
 pub record PairsPost (ps types : List ℕ) (at n : ℕ) (s₀ e₀ s₁ e₁ : List ℕ) (r : Pairs) : Type 0 where
   pub answer : (us : List Ty) → RowAt types at n us → Slots s₀ e₀ → Pairing (pairsFit ps us) types n us s₁ e₁ r
+
+-- ---- the operands of a rule
+-- the rule's patterns fit: k variables are bound, and the rest of the rule is its result
+pub record Operands (R : Rule) (types : List ℕ) (from n : ℕ) (starts ends : List ℕ) (k : ℕ) : Type 0 where
+  pub answer : (ts : List Ty) → RowAt types from n ts → (ρ : List Ty) × (judge R ts ≡ completed (R .result) ρ) × EnvAt types n starts ends ρ × (length ρ ≡ k)
+
+abbrev pub OperandsPost : Rule → List ℕ → ℕ → ℕ → List ℕ → List ℕ → Fit → Type 0
+OperandsPost R types from n starts ends (F.Fits k) = Operands R types from n starts ends k
+OperandsPost R types from n starts ends F.Differs = (ts : List Ty) → RowAt types from n ts → judge R ts ≡ wrong
 
 -- ---- filling
 pub record FillPre (types : List ℕ) (m limit : ℕ) (starts ends : List ℕ) (k : ℕ) : Type 0 where

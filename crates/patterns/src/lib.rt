@@ -7,12 +7,11 @@ use type_bytes::type_end;
 ghost use mathlib.Core.List.{List};
 ghost use Prim.Native.Nat.{ℕ, _<_};
 ghost use Rattle.frame.specs.Tags.{classOf};
-ghost use Rattle.type_rules.specs.Patterns.{ruleAt};
-ghost use Rattle.type_rules.specs.RuleNumbers.{Packed};
-ghost use Rattle.patterns.specs.PatternPosts.{MatchPre, MatchPost, PairsPre, PairsPost, FillPre, FillPost, JudgePre, JudgePost};
+ghost use Rattle.type_rules.specs.Patterns.{Rule, ruleAt};
+ghost use Rattle.type_rules.specs.RuleNumbers.{Packed, RowOf};
+ghost use Rattle.patterns.specs.PatternPosts.{Slots, MatchPre, MatchPost, PairsPre, PairsPost, OperandsPost, FillPre, FillPost, JudgePre, JudgePost};
 use type_rules::pattern;
-use type_rules::row_word;
-use type_rules::rule_of;
+use type_rules::rule_row;
 
 // In a pattern 2 is its end, and the numbers from 5 to 8 are variables.
 const PATTERN_END: usize = 2;
@@ -45,119 +44,159 @@ pub enum Filled {
     Over,
 }
 
-// The pattern of the word p, at the types that stand from `at` up to n. The variables below k are bound: their types stand in the
+// The pattern of a word, at the types that stand from `start` up to n. The variables below `bound` are bound: their types stand in the
 // buffer from `starts` up to `ends`.
 fn match_pattern(
-    p: usize,
+    pattern: usize,
     types: &[u8],
-    at: usize,
+    start: usize,
     n: usize,
     starts: &mut [usize; 4],
     ends: &mut [usize; 4],
-    k: usize,
+    bound: usize,
 ) -> Fit
-    requires { ⌜ MatchPre (now types) at n (now starts) (now ends) k ⌝ }
-    ensures { λ r. ⌜ ((ps : List ℕ) → Packed ps p → MatchPost ps (now (types .entry)) at n (now (starts .entry)) (now (ends .entry)) k (now (starts .exit)) (now (ends .exit)) r) ⌝ }
+    requires { ⌜ MatchPre (now types) start n (now starts) (now ends) bound ⌝ }
+    ensures { λ r. ⌜ ((ps : List ℕ) → Packed ps pattern → MatchPost ps (now (types .entry)) start n (now (starts .entry)) (now (ends .entry)) bound (now (starts .exit)) (now (ends .exit)) r) ⌝ }
 {
-    let b = p % 16;
-    if b == PATTERN_END {
-        return Fit::Fits(k);
-    }
-    if n <= at {
-        return Fit::Differs;
-    }
-    if b < VARIABLES {
-        if wide(types[at]) != b {
+    let mut p = pattern;
+    let mut at = start;
+    let mut k = bound;
+    loop {
+        let b = p % 16;
+        if b == PATTERN_END {
+            return Fit::Fits(k);
+        }
+        if n <= at {
             return Fit::Differs;
         }
-        return match_pattern(p / 16, types, at + 1, n, starts, ends, k);
-    }
-    if SYMBOLS <= b {
-        return Fit::Differs;
-    }
-    let v = b - VARIABLES;
-    if v < k {
-        let from = starts[v];
-        let len = ends[v] - from;
-        if n - at < len {
+        p /= 16;
+        if b < VARIABLES {
+            if wide(types[at]) != b {
+                return Fit::Differs;
+            }
+            at += 1;
+            continue;
+        }
+        if SYMBOLS <= b {
             return Fit::Differs;
         }
-        if !same_bytes(types, from, at, len) {
+        let v = b - VARIABLES;
+        if v < k {
+            let from = starts[v];
+            let len = ends[v] - from;
+            if n - at < len {
+                return Fit::Differs;
+            }
+            if !same_bytes(types, from, at, len) {
+                return Fit::Differs;
+            }
+            at += len;
+            continue;
+        }
+        if k < v {
             return Fit::Differs;
         }
-        return match_pattern(p / 16, types, at + len, n, starts, ends, k);
+        let e = type_end(types, at);
+        starts[v] = at;
+        ends[v] = e;
+        at = e;
+        k += 1;
     }
-    if k < v {
-        return Fit::Differs;
-    }
-    let e = type_end(types, at);
-    starts[v] = at;
-    ends[v] = e;
-    match_pattern(p / 16, types, e, n, starts, ends, k + 1)
 }
 
-// Each two of the types that stand in a row from `at` up to n match the pattern of the word p.
+// Each two of the types that stand in a row from `start` up to n match the pattern of the word p.
 fn match_pairs(
     p: usize,
     types: &[u8],
-    at: usize,
+    start: usize,
     n: usize,
     starts: &mut [usize; 4],
     ends: &mut [usize; 4],
 ) -> Pairs
-    requires { ⌜ PairsPre p (now types) at n (now starts) (now ends) ⌝ }
-    ensures { λ r. ⌜ ((ps : List ℕ) → Packed ps p → PairsPost ps (now (types .entry)) at n (now (starts .entry)) (now (ends .entry)) (now (starts .exit)) (now (ends .exit)) r) ⌝ }
+    requires { ⌜ PairsPre p (now types) start n (now starts) (now ends) ⌝ }
+    ensures { λ r. ⌜ ((ps : List ℕ) → Packed ps p → PairsPost ps (now (types .entry)) start n (now (starts .entry)) (now (ends .entry)) (now (starts .exit)) (now (ends .exit)) r) ⌝ }
 {
-    if n <= at {
-        return Pairs::Last(at);
+    let mut at = start;
+    while at < n {
+        let e = type_end(types, at);
+        if n <= e {
+            return Pairs::Last(at);
+        }
+        let f = match_pattern(p, types, at, n, starts, ends, 0);
+        let Fit::Fits(_k) = f else {
+            return Pairs::Differ;
+        };
+        at = e;
     }
-    let e = type_end(types, at);
-    if n <= e {
-        return Pairs::Last(at);
-    }
-    let f = match_pattern(p, types, at, n, starts, ends, 0);
-    match f {
-        Fit::Fits(_k) => match_pairs(p, types, e, n, starts, ends),
-        Fit::Differs => Pairs::Differ,
-    }
+    Pairs::Last(at)
 }
 
-// The pattern of the word p with the types of its variables, written from m on and no further than to `limit`.
+// The rule of a row of patterns (specs/RuleNumbers.antt of type_rules) at the types of the operands, which stand from `from` up to n: how
+// many variables are bound.
+fn match_operands(
+    row: usize,
+    types: &[u8],
+    from: usize,
+    n: usize,
+    starts: &mut [usize; 4],
+    ends: &mut [usize; 4],
+) -> Fit
+    requires { ⌜ JudgePre (now types) from n × Slots (now starts) (now ends) × ((R : Rule) × RowOf R row) ⌝ }
+    ensures { λ r. ⌜ ((R : Rule) → RowOf R row → OperandsPost R (now (types .entry)) from n (now (starts .exit)) (now (ends .exit)) r) ⌝ }
+{
+    let pairs = match_pairs(pattern(row % 256), types, from, n, starts, ends);
+    let Pairs::Last(last) = pairs else {
+        return Fit::Differs;
+    };
+    let first = match_pattern(pattern(row / 256 % 256), types, from, n, starts, ends, 0);
+    let Fit::Fits(k) = first else {
+        return Fit::Differs;
+    };
+    match_pattern(pattern(row / 65536 % 256), types, last, n, starts, ends, k)
+}
+
+// The pattern of a word with the types of its variables, written from `start` on and no further than to `limit`.
 fn fill_pattern(
-    p: usize,
+    pattern: usize,
     types: &mut [u8],
-    m: usize,
+    start: usize,
     limit: usize,
     starts: &[usize; 4],
     ends: &[usize; 4],
     k: usize,
 ) -> Filled
-    requires { ⌜ FillPre (now types) m limit (now starts) (now ends) k ⌝ }
-    ensures { λ r. ⌜ ((ps : List ℕ) → Packed ps p → FillPost ps (now (types .entry)) m limit (now (starts .entry)) (now (ends .entry)) k (now (types .exit)) r) ⌝ }
+    requires { ⌜ FillPre (now types) start limit (now starts) (now ends) k ⌝ }
+    ensures { λ r. ⌜ ((ps : List ℕ) → Packed ps pattern → FillPost ps (now (types .entry)) start limit (now (starts .entry)) (now (ends .entry)) k (now (types .exit)) r) ⌝ }
 {
-    let b = p % 16;
-    if b == PATTERN_END {
-        return Filled::To(m);
-    }
-    if b < VARIABLES {
-        if limit <= m {
+    let mut p = pattern;
+    let mut m = start;
+    loop {
+        let b = p % 16;
+        if b == PATTERN_END {
+            return Filled::To(m);
+        }
+        p /= 16;
+        if b < VARIABLES {
+            if limit <= m {
+                return Filled::Over;
+            }
+            types[m] = b as u8;
+            m += 1;
+            continue;
+        }
+        let v = b - VARIABLES;
+        if k <= v {
             return Filled::Over;
         }
-        types[m] = b as u8;
-        return fill_pattern(p / 16, types, m + 1, limit, starts, ends, k);
+        let from = starts[v];
+        let to = ends[v];
+        let len = to - from;
+        if limit - m < len {
+            return Filled::Over;
+        }
+        copy_within(types, from, to, m);
+        m += len;
     }
-    let v = b - VARIABLES;
-    if k <= v {
-        return Filled::Over;
-    }
-    let from = starts[v];
-    let to = ends[v];
-    let len = to - from;
-    if limit - m < len {
-        return Filled::Over;
-    }
-    copy_within(types, from, to, m);
-    fill_pattern(p / 16, types, m + len, limit, starts, ends, k)
 }
 
 // The rule of a tag at the types of the operands, which stand from `from` up to n. The type of the node is left from `from` on.
@@ -165,27 +204,22 @@ pub fn judge_types(tag: usize, types: &mut [u8], from: usize, n: usize) -> Typed
     requires { ⌜ JudgePre (now types) from n ⌝ }
     ensures { λ r. ⌜ JudgePost (ruleAt (classOf tag)) (now (types .entry)) from n (now (types .exit)) r ⌝ }
 {
-    let rule = rule_of(tag);
-    let row = (row_word(rule / 2) >> (32 * (rule % 2))) % 4294967296;
-    let mut lo = [0usize; 4];
-    let mut hi = [0usize; 4];
-    let for_pair = pattern(row % 256);
-    let pairs = match_pairs(for_pair, types, from, n, &mut lo, &mut hi);
-    let Pairs::Last(last) = pairs else {
+    let row = rule_row(tag);
+    let mut starts = [0usize; 4];
+    let mut ends = [0usize; 4];
+    let fit = match_operands(row, types, from, n, &mut starts, &mut ends);
+    let Fit::Fits(k) = fit else {
         return Typed::Bad;
     };
-    let for_first = pattern(row / 256 % 256);
-    let first = match_pattern(for_first, types, from, n, &mut lo, &mut hi, 0);
-    let Fit::Fits(k) = first else {
-        return Typed::Bad;
-    };
-    let for_last = pattern(row / 65536 % 256);
-    let second = match_pattern(for_last, types, last, n, &mut lo, &mut hi, k);
-    let Fit::Fits(j) = second else {
-        return Typed::Bad;
-    };
-    let for_result = pattern(row / 16777216);
-    let filled = fill_pattern(for_result, types, n, n + TYPE_LIMIT, &lo, &hi, j);
+    let filled = fill_pattern(
+        pattern(row / 16777216),
+        types,
+        n,
+        n + TYPE_LIMIT,
+        &starts,
+        &ends,
+        k,
+    );
     let Filled::To(m) = filled else {
         return Typed::Bad;
     };

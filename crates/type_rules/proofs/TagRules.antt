@@ -15,7 +15,7 @@ use Rattle.tags.proofs.TagTables.{row-far}
 use Rattle.frame.proofs.EveryTag.{alongRows, every-tag, unlisted-past}
 use Rattle.frame.proofs.Booleans.{both-true}
 use Rattle.type_rules.specs.Patterns.{Rule, ruleAt}
-use Rattle.type_rules.specs.RuleNumbers.{ruleNumber, ruleWords, rowWords, patternWords, lastPattern, packs, Packed}
+use Rattle.type_rules.specs.RuleNumbers.{ruleNumber, ruleWords, rowWords, patternWords, lastPattern, packs, Packed, patternAt, RowOf}
 
 -- ---- the rule of a tag
 -- the rule that the code finds in its words
@@ -51,9 +51,6 @@ pub row-rule : (t r w : ℕ) → r ≡ rowOf t → w ≡ getD ruleWords (r / 10)
 row-rule t r w e ew = rw ew (rw e (right t (leb 20 (t / 50)) refl))
 
 -- ---- the patterns of a rule
-abbrev pub patternAt : ℕ → ℕ
-patternAt i = getD patternWords i lastPattern
-
 pub pattern-last : (i : ℕ) → NoneBelow i 26 → lastPattern ≡ patternAt i
 pattern-last i r = sym (List·getD-eq-default patternWords lastPattern {n = i} (past-all i 26 r))
 
@@ -120,13 +117,6 @@ row-packs unaryMinus = refl
 row-packs quantifiedSet = refl
 row-packs comprehension = refl
 row-packs unlisted = refl
-
--- the row x has the patterns of R
-pub record RowOf (R : Rule) (x : ℕ) : Type 0 where
-  pub pair : Packed (R .pair) (patternAt (x % 256))
-  pub first : Packed (R .first) (patternAt (x / 256 % 256))
-  pub last : Packed (R .last) (patternAt (x / 65536 % 256))
-  pub result : Packed (R .result) (patternAt (x / 16777216))
 
 row-of : (R : Rule) (x : ℕ) → rowPacks R x ≡ true → RowOf R x
 row-of R x e =

@@ -4,8 +4,10 @@ use mathlib.Core.Path.{_≡_}
 use mathlib.Core.Bool.{Bool, true, false, _&&_}
 use mathlib.Core.List.{List, [], _∷_}
 use Prim.Native.Nat.{ℕ, _/_, _%_}
+use lib.ListN.{getD}
 use lib.Dec.{eqb}
 use Rattle.frame.specs.Tags.{pick, Class, literalPred, equality, order, membership, inclusion, binaryPred, associativePred, negation, quantifiedPred, finite, partition, identifier, bound, literal, setExtension, maplet, relationSet, setMinus, cartesian, directProduct, parallelProduct, domainRestriction, rangeRestriction, upTo, arithmetic, functionImage, relationalImage, setOperation, backwardComposition, forwardComposition, override, sum, integerSet, boolSet, truthValue, integerRelation, emptySet, projection1, projection2, identity, boolExpr, cardinal, powerset, generalised, domain, range, extremum, converse, unaryMinus, quantifiedSet, comprehension, unlisted}
+use Rattle.type_rules.specs.Patterns.{Rule}
 
 unfoldable pub ruleNumber : Class → ℕ
 ruleNumber literalPred = 7
@@ -87,3 +89,14 @@ packs (b ∷ ps) p = eqb (p % 16) b && pick (eqb b 2) false (packs ps (p / 16))
 
 abbrev pub Packed : List ℕ → ℕ → Type 0
 Packed ps p = packs ps p ≡ true
+
+-- the pattern of a number
+abbrev pub patternAt : ℕ → ℕ
+patternAt i = getD patternWords i lastPattern
+
+-- the row x has the patterns of R
+pub record RowOf (R : Rule) (x : ℕ) : Type 0 where
+  pub pair : Packed (R .pair) (patternAt (x % 256))
+  pub first : Packed (R .first) (patternAt (x / 256 % 256))
+  pub last : Packed (R .last) (patternAt (x / 65536 % 256))
+  pub result : Packed (R .result) (patternAt (x / 16777216))

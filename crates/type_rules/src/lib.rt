@@ -6,7 +6,8 @@ ghost use mathlib.Core.Path.{_≡_};
 ghost use Prim.Native.Nat.{_<_};
 ghost use lib.ListN.{getD};
 ghost use Rattle.frame.specs.Tags.{classOf};
-ghost use Rattle.type_rules.specs.RuleNumbers.{ruleNumber, ruleWords, rowWords, patternWords, lastPattern};
+ghost use Rattle.type_rules.specs.Patterns.{ruleAt};
+ghost use Rattle.type_rules.specs.RuleNumbers.{ruleNumber, ruleWords, rowWords, patternWords, lastPattern, RowOf};
 
 // The rules of the rows of tags, ten to a word, six bits each.
 fn rule_word(i: usize) -> usize
@@ -39,7 +40,7 @@ pub fn rule_of(tag: usize) -> usize
 }
 
 // Two rules to a word, 32 bits each: the numbers of a rule's four patterns (two operands in a row, the first, the last, the result).
-pub fn row_word(i: usize) -> usize
+fn row_word(i: usize) -> usize
     requires { ⌜ i < 25 ⌝ }
     ensures { λ r. ⌜ r ≡ getD rowWords i 0 ⌝ }
 {
@@ -70,6 +71,14 @@ pub fn row_word(i: usize) -> usize
         23 => 0x707010002000200,
         _ => 0x7030100,
     }
+}
+
+// The patterns of the rule of a tag: their four numbers, a byte each.
+pub fn rule_row(tag: usize) -> usize
+    ensures { λ r. ⌜ RowOf (ruleAt (classOf tag)) r ⌝ }
+{
+    let rule = rule_of(tag);
+    (row_word(rule / 2) >> (32 * (rule % 2))) % 4294967296
 }
 
 // The patterns by number: the symbols from the lowest bits on, and the end.
