@@ -15,7 +15,7 @@ use Rattle.frame.specs.Spans.{Spans}
 use Rattle.type_rules.specs.Patterns.{Matched, fits, differs, matches, Rule, Judged, typed, wrong, completed, allBound, filled, pairsFit, lastOnes, thenMatched, ends, judge}
 use Rattle.type_rules.specs.RuleNumbers.{Packed}
 use Rattle.type_bytes.specs.Buffers.{Copied, Apart}
-use Rattle.patterns.specs.PatternPosts.{RowAt, Slots, EnvAt, Kept, MatchPre, Matching, MatchPost, PairsPre, Pairing, PairsPost, Operands, OperandsPost, FillPre, Filling, FillPost, JudgePre, Judging, JudgePost}
+use Rattle.patterns.specs.PatternPosts.{RowAt, Slots, EnvAt, Kept, MatchPre, Matching, MatchPost, PairsPre, Pairing, PairsPost, OperandsFit, OperandsPost, FillPre, Filling, FillPost, JudgePre, Judging, JudgePost}
 use Rattle.patterns.specs.declared.Typed.the-variants as T
 use Rattle.patterns.specs.declared.Fit.{Fit}
 use Rattle.patterns.specs.declared.Fit.the-variants as F
@@ -152,10 +152,10 @@ module _ (R : Rule) {o : List ℕ} {from n : ℕ} where
     pub operands-off : x ≡ F.Differs → (ts : List Ty) → RowAt o from n ts → judge R ts ≡ wrong
     operands-off ex = subst (OperandsPost R o from n s₃ e₃) ex said
 
-    pub operands-fit : {j : ℕ} → x ≡ F.Fits j → Operands R o from n s₃ e₃ j
+    pub operands-fit : {j : ℕ} → x ≡ F.Fits j → OperandsFit R o from n s₃ e₃ j
     operands-fit ex = subst (OperandsPost R o from n s₃ e₃) ex said
 
-  module _ {s₃ e₃ : List ℕ} {j : ℕ} (known : Operands R o from n s₃ e₃ j) where
+  module _ {s₃ e₃ : List ℕ} {j : ℕ} (known : OperandsFit R o from n s₃ e₃ j) where
     pub fill-pre : JudgePre o from n → FillPre o n (n + 64) s₃ e₃ j
     fill-pre p = let f = known .answer (p .ts) (p .row) in record { ρ = f .0; env = f .2; count = f .3; room = (omega arith, p .room) }
 

@@ -83,11 +83,11 @@ pub record PairsPost (ps types : List ℕ) (at n : ℕ) (s₀ e₀ s₁ e₁ : L
 
 -- ---- the operands of a rule
 -- the rule's patterns fit: k variables are bound, and the rest of the rule is its result
-pub record Operands (R : Rule) (types : List ℕ) (from n : ℕ) (starts ends : List ℕ) (k : ℕ) : Type 0 where
+pub record OperandsFit (R : Rule) (types : List ℕ) (from n : ℕ) (starts ends : List ℕ) (k : ℕ) : Type 0 where
   pub answer : (ts : List Ty) → RowAt types from n ts → (ρ : List Ty) × (judge R ts ≡ completed (R .result) ρ) × EnvAt types n starts ends ρ × (length ρ ≡ k)
 
 abbrev pub OperandsPost : Rule → List ℕ → ℕ → ℕ → List ℕ → List ℕ → Fit → Type 0
-OperandsPost R types from n starts ends (F.Fits k) = Operands R types from n starts ends k
+OperandsPost R types from n starts ends (F.Fits k) = OperandsFit R types from n starts ends k
 OperandsPost R types from n starts ends F.Differs = (ts : List Ty) → RowAt types from n ts → judge R ts ≡ wrong
 
 -- ---- filling
