@@ -16,6 +16,12 @@ pub fn wide16(x: u16) -> usize
     x as usize
 }
 
+pub fn wide32(x: u32) -> usize
+    ensures { λ r. ⌜ (r ≡ x) × (r < 4294967296) ⌝ }
+{
+    x as usize
+}
+
 // Whether the n bytes at a are those at b.
 pub fn same_bytes(s: &[u8], a: usize, b: usize, n: usize) -> bool
     requires { ⌜ (a + n ≤ length (now s)) × (b + n ≤ length (now s)) ⌝ }

@@ -9,7 +9,7 @@ use lib.ListN.{length, set}
 use lib.Dec.{ltb, leb, eqb}
 use borrow.Author.Tests.{eq-eqb, eqb-true, eqb-false, lt-leb}
 use Rattle.frame.specs.Types.{Ty}
-use Rattle.frame.specs.Trees.{Head, head, Tree, node, Forest, count}
+use Rattle.frame.specs.Trees.{Head, head, Tree, node, Forest, count, nil, cons, nodes, nodesIn}
 use Rattle.frame.specs.Tags.{pick, Sort, formOf, sortsOf, classOf, range}
 use Rattle.frame.specs.Encoding.{encTy, encTys}
 use Rattle.frame.specs.Reading.{okH, readHead, ok, okF, readMany, readNode, typeLimit}
@@ -91,6 +91,11 @@ module _ (s : List ℕ) (at : ℕ) (e : Sort) (t : Tree) (q : ℕ) where
       refused-of (v .top) (v .from) (v .sorts) c (sym hr ∙ eh ∙ ap (headAnswer (typesAt s at)) (v .headed))
 
 -- ---- what a view says
+count-few : (ks : Forest) → count ks ≤ nodesIn ks
+unfolding nodes
+count-few nil = omega arith
+count-few (cons (node h js) ks) = omega (arith, count-few ks)
+
 one-type : (us : List Ty) → length us ≡ 1 → (v : Ty) × (us ≡ v ∷ [])
 one-type [] h = absurd (omega arith)
 one-type (v ∷ []) h = (v, refl)
@@ -181,6 +186,13 @@ module _ (s : List ℕ) (bs : Bytes s) (at leaf : ℕ) (t₀ l₀ f₀ : List �
     open-own x =
         let v = seen (x .sort) (x .tree) (x .to) (x .stands) in
         record { n = n; us = v .us; Γ = x .Γ; own = own-at s bs at (x .sort) (x .tree) (x .to) tag n tp p k v (x .Γ) leaf (x .leafs); room = x .room }
+
+    -- the numbers of the node's record are small
+    pub open-small : OpenPre s at leaf o end → (tag < 65536) × (k < 65536) × (end < 4294967296)
+    unfolding nodes
+    open-small x =
+        let v = seen (x .sort) (x .tree) (x .to) (x .stands) in
+        (formed s bs at (x .sort) (x .tree) (x .to) tag n tp p k v .small, omega (arith, v .many, count-few (v .ks), ap nodes (v .is), x .few), omega (arith, x .low))
 
     module _ (types : List ℕ) (r : Typed) (op : OwnPost (classOf tag) s (ownPlace (classOf tag) tp leaf) o end types r) where
       owning : (e : Sort) (t : Tree) (q : ℕ) (Γ : Ctx) (w : IsAt s e at t q) → LeafAt t Γ s leaf → Owning r (classOf tag) n (seen e t q w .us) Γ o end types

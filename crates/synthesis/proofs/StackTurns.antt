@@ -261,6 +261,7 @@ module _ (t l f s leaves types : List ℕ) (bs : Bytes s) (st : State) (left : g
       let r = x .running in
       let n = next-kid (x .base) (x .stop) (x .o) (x .ps) r in
       let a = kid-at (x .base) (x .stop) (x .o) (x .ps) r in
+      let p = place-stop t l f s leaves types (x .base) (x .stop) 0 (x .o) (x .ps) (st .end) (st .at) (st .place) (r .stack) in
       record {
         sort = a .1 .sort;
         tree = n .0;
@@ -269,6 +270,8 @@ module _ (t l f s leaves types : List ℕ) (bs : Bytes s) (st : State) (left : g
         stands = a .1 .tree;
         leafs = subst (LeafAt (n .0) (inner (x .o)) s) (sym el) (leaf-of s leaves (n .0) (inner (x .o)) (st .place) (a .2));
         room = turn-room t l f s leaves types st (x .base) (x .stop) (x .o) (x .ps) r .1;
+        few = omega (arith, p, ap nodesIn (n .2), row-count (n .0) (n .1), r .places);
+        low = omega (arith, p, r .low, r .places);
       }
 
   module _ (leaf : ℕ) (ef : leaf ≡ getD leaves (st .place) 0) (t₁ l₁ f₁ types₁ : List ℕ) (r : Opened)

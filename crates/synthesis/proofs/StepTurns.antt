@@ -30,8 +30,8 @@ use Rattle.synthesis.proofs.StackTurns.{top-held, turn-room, close-pre,
 
 -- ---- a turn
 module _ (nd : OpenNode) (s leaves types : List ℕ) (st : State) where
-  pub step-judge : StepPre nd s leaves types st → JudgePre types (nd .from) (st .end)
-  step-judge x = judge-as (sym (x .at-top .of-from)) (close-pre (x .tags) (x .lefts) (x .froms) s leaves types st (x .turn))
+  pub step-judge : StepPre nd s leaves types st → (from : ℕ) → from ≡ nd .from → JudgePre types from (st .end)
+  step-judge x from ef = judge-as (ef ∙ sym (x .at-top .of-from)) (close-pre (x .tags) (x .lefts) (x .froms) s leaves types st (x .turn))
 
   -- a turn that closes the node writes no table
   record Closes (r : Turned) : Type 0 where
@@ -48,8 +48,10 @@ module _ (nd : OpenNode) (s leaves types : List ℕ) (st : State) where
   closes-by (typed xs) from p r a = subst Closes (sym (a .0)) (closes-to (eqb (st .top) 0) (from + length xs) refl)
   closes-by wrong from p r a = subst Closes (sym a) (record { moves = tt; same-tags = λ t. refl; same-lefts = λ l. refl; same-froms = λ f. refl })
 
-  pub step-close : StepPre nd s leaves types st → nd .left ≡ 0 → (types₁ : List ℕ) → Bytes types₁ → (r : Turned) → ClosePost (nd .tag) st types (nd .from) types₁ r → StepPost nd s leaves types st types₁ r
-  step-close x z types₁ bs r cp =
+  pub step-close : StepPre nd s leaves types st → nd .left ≡ 0 → (types₁ : List ℕ) → Bytes types₁ → (r : Turned) → (tag from : ℕ) → tag ≡ nd .tag → from ≡ nd .from → ClosePost tag st types from types₁ r
+      → StepPost nd s leaves types st types₁ r
+  step-close x z types₁ bs r tag from eg ef closed =
+      let cp : ClosePost (nd .tag) st types (nd .from) types₁ r = close-as eg ef closed in
       let y = x .turn in
       let h = top-held (x .tags) (x .lefts) (x .froms) s leaves types st (y .base) (y .stop) (y .o) (y .ps) (y .running) .1 in
       let row = h .row in
@@ -234,17 +236,18 @@ module _ (nd₀ : OpenNode) (s leaves types₀ : List ℕ) (st₀ : State) where
 
 -- ---- a root without operands
 module _ (nd : OpenNode) (s leaves types : List ℕ) (st : State) (pre : TurnsPre nd s leaves types st) (z : nd .left ≡ 0) where
-  pub leaf-judge : JudgePre types (nd .from) (st .end)
+  pub leaf-judge : (from : ℕ) → from ≡ nd .from → JudgePre types from (st .end)
   leaf-judge = step-judge nd s leaves types st (pre .step)
 
-  closing : (types₁ : List ℕ) (r : Typed) (j : Judged) → Judging j types (nd .from) types₁ r → Closing j st types (nd .from) types₁ (U.Done r)
-  closing types₁ r (typed xs) a =
+  closing : (from : ℕ) (types₁ : List ℕ) (r : Typed) (j : Judged) → Judging j types from types₁ r → Closing j st types from types₁ (U.Done r)
+  closing from types₁ r (typed xs) a =
       let e : eqb (st .top) 0 ≡ true = eq-eqb (st .top) 0 (pre .root) in
-      (ap U.Done (a .0) ∙ sym (ap (λ (b : Bool). closedTo b st (nd .from + length xs)) e), a .1, a .2)
-  closing types₁ r wrong a = ap U.Done a
+      (ap U.Done (a .0) ∙ sym (ap (λ (b : Bool). closedTo b st (from + length xs)) e), a .1, a .2)
+  closing from types₁ r wrong a = ap U.Done a
 
-  pub leaf-turns : (types₁ : List ℕ) → Bytes types₁ → (r : Typed) → JudgePost (ruleAt (classOf (nd .tag))) types (nd .from) (st .end) types₁ r → TurnsPost nd s leaves types st types₁ r
-  leaf-turns types₁ bs r jp =
-      let cp : ClosePost (nd .tag) st types (nd .from) types₁ (U.Done r) = record { answer = λ ts row. closing types₁ r (judge (ruleAt (classOf (nd .tag))) ts) (jp .answer ts row) } in
+  pub leaf-turns : (types₁ : List ℕ) → Bytes types₁ → (r : Typed) → (tag from : ℕ) → tag ≡ nd .tag → from ≡ nd .from → JudgePost (ruleAt (classOf tag)) types from (st .end) types₁ r
+      → TurnsPost nd s leaves types st types₁ r
+  leaf-turns types₁ bs r tag from eg ef jp =
+      let cp : ClosePost tag st types from types₁ (U.Done r) = record { answer = λ ts row. closing from types₁ r (judge (ruleAt (classOf tag)) ts) (jp .answer ts row) } in
       going-done nd s leaves types st pre [] types nd st (going-start nd s leaves types st (pre .root) []) types₁ (U.Done r)
-      (step-close nd s leaves types st (pre .step) z types₁ bs (U.Done r) cp) r refl
+      (step-close nd s leaves types st (pre .step) z types₁ bs (U.Done r) tag from eg ef cp) r refl

@@ -52,6 +52,8 @@ module _ (s : List ℕ) (at place : ℕ) (leaves : List ℕ) where
     stands = x .stands;
     leafs = subst (LeafAt (x .tree) (x .Γ) s) (sym el) (leaf-of s leaves (x .tree) (x .Γ) place (x .leafs));
     room = omega (arith, x .buffer);
+    few = omega (arith, x .places);
+    low = omega arith;
   }
 
   ended : (types₁ : List ℕ) (v : Typed) (tr : Tree) (Γ : Ctx) (b : Bool) → typedTree tr Γ ≡ b → Ending v (pick b (is (typeOf tr Γ)) bad) types₁ → Typing v tr Γ types₁

@@ -82,6 +82,8 @@ pub record OpenPre (s : List ℕ) (at leaf : ℕ) (types : List ℕ) (end : ℕ)
   pub stands : IsAt s sort at tree to
   pub leafs : LeafAt tree Γ s leaf
   pub room : end + typeLimit ≤ length types
+  pub few : nodes tree ≤ 2048
+  pub low : end ≤ typeLimit * 2048
 
 -- the node is put on the stack with no operand, and its first operand stands at p
 pub record NodeOpen (s : List ℕ) (at : ℕ) (tree : Tree) (to : ℕ) (Γ : Ctx) (t₀ l₀ f₀ : List ℕ) (top : ℕ) (o : List ℕ) (end : ℕ) (t₁ l₁ f₁ types : List ℕ) (p m : ℕ) : Type 0 where

@@ -10,6 +10,7 @@ use frame::limits::TYPE_LIMIT;
 use heads::HeadAnswer;
 use heads::known_head;
 use octets::wide16;
+use octets::wide32;
 use patterns::Typed;
 use patterns::judge_types;
 use type_bytes::copy_in;
@@ -109,9 +110,9 @@ fn open_node(s: &[u8], at: usize, leaf: usize, types: &mut [u8], end: usize) -> 
                     children,
                     m,
                     OpenNode {
-                        tag: tag,
-                        left: count,
-                        from: end,
+                        tag: tag as u16,
+                        left: count as u16,
+                        from: end as u32,
                     },
                 ),
             }
@@ -154,7 +155,7 @@ fn one_turn(
     ensures { λ r. ⌜ StepPost node (now (s .entry)) (now (leaves .entry)) (now (types .entry)) state (now (types .exit)) r ⌝ }
 {
     if node.left == 0 {
-        return close_top(node.tag, node.from, types, state);
+        return close_top(wide16(node.tag), wide32(node.from), types, state);
     }
     let at = state.at;
     let place = state.place;
@@ -243,7 +244,7 @@ fn all_turns(
     ensures { λ r. ⌜ TurnsPost first (now (s .entry)) (now (leaves .entry)) (now (types .entry)) start (now (types .exit)) r ⌝ }
 {
     if first.left == 0 {
-        return judge_types(first.tag, types, first.from, start.end);
+        return judge_types(wide16(first.tag), types, wide32(first.from), start.end);
     }
     lent_turns(s, leaves, types, first, start)
 }

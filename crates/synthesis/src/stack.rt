@@ -5,11 +5,12 @@ ghost use Prim.Native.Nat.{_<_};
 ghost use lib.ListN.{length, getD, set};
 ghost use Rattle.synthesis.specs.OpenNodes.{noNode};
 
-// An open node: its tag, how many operands are to come, where the types of those that have come start.
+// An open node: its tag, how many operands are to come, where the types of those that have come start. The slice is cleared for each tree
+// that is typed, so a record is no wider than these numbers need.
 pub struct OpenNode {
-    pub tag: usize,
-    pub left: usize,
-    pub from: usize,
+    pub tag: u16,
+    pub left: u16,
+    pub from: u32,
 }
 
 // An open node is put on the stack, with this many below it.

@@ -1,4 +1,5 @@
-use Rattle.synthesis.proofs.OpenTurns.{open-refused, open-own, open-bad, open-to}
+use native.Mathlib.Omega.{arith}
+use Rattle.synthesis.proofs.OpenTurns.{open-refused, open-own, open-small, open-bad, open-to}
 use mathlib.Core.List.{[]}
 use mathlib.Core.Path.{refl}
 use borrow.Author.Needs.{needs}
@@ -22,6 +23,15 @@ enum-told c = search needs
 
 enum-known-own : tie.Need-enum-known-own
 enum-known-own c = search needs
+
+cast-t18 : tie.Need-cast-t18
+cast-t18 c = let z = open-small (c .before .before .before .before .before .before .before .before .before .before .before .before .before .args .s .now) (λ i. c .before .before .before .before .before .before .before .before .before .before .before .before .shared-slice-known .given i .fits) (c .before .before .before .before .before .before .before .before .before .before .before .before .before .args .at) (c .before .before .before .before .before .before .before .before .before .before .before .before .before .args .leaf) [] [] [] 0 (c .before .before .before .before .before .before .before .before .before .before .before .before .before .args .types .now) (c .before .before .before .before .before .before .before .before .before .before .before .before .before .args .end) (c .before .before .before .before .before .before .before .before .before .before .known-head .result) (c .before .before .before .before .before .before .before .before .before .before .known-head .ensures) (c .before .before .before .before .before .before .before .before .h2 .given .0 .0) _ _ _ _ _ _ (c .before .before .before .before .before .before .before .before .h2 .given .1) (c .before .before .before .before .before .before .before .before .before .before .before .before .before .pre) in omega (arith, z .0)
+
+cast-t19 : tie.Need-cast-t19
+cast-t19 c = let z = open-small (c .before .before .before .before .before .before .before .before .before .before .before .before .before .args .s .now) (λ i. c .before .before .before .before .before .before .before .before .before .before .before .before .shared-slice-known .given i .fits) (c .before .before .before .before .before .before .before .before .before .before .before .before .before .args .at) (c .before .before .before .before .before .before .before .before .before .before .before .before .before .args .leaf) [] [] [] 0 (c .before .before .before .before .before .before .before .before .before .before .before .before .before .args .types .now) (c .before .before .before .before .before .before .before .before .before .before .before .before .before .args .end) (c .before .before .before .before .before .before .before .before .before .before .known-head .result) (c .before .before .before .before .before .before .before .before .before .before .known-head .ensures) (c .before .before .before .before .before .before .before .before .h2 .given .0 .0) _ _ _ _ _ _ (c .before .before .before .before .before .before .before .before .h2 .given .1) (c .before .before .before .before .before .before .before .before .before .before .before .before .before .pre) in omega (arith, z .1)
+
+cast-t20 : tie.Need-cast-t20
+cast-t20 c = let z = open-small (c .before .before .before .before .before .before .before .before .before .before .before .before .before .args .s .now) (λ i. c .before .before .before .before .before .before .before .before .before .before .before .before .shared-slice-known .given i .fits) (c .before .before .before .before .before .before .before .before .before .before .before .before .before .args .at) (c .before .before .before .before .before .before .before .before .before .before .before .before .before .args .leaf) [] [] [] 0 (c .before .before .before .before .before .before .before .before .before .before .before .before .before .args .types .now) (c .before .before .before .before .before .before .before .before .before .before .before .before .before .args .end) (c .before .before .before .before .before .before .before .before .before .before .known-head .result) (c .before .before .before .before .before .before .before .before .before .before .known-head .ensures) (c .before .before .before .before .before .before .before .before .h2 .given .0 .0) _ _ _ _ _ _ (c .before .before .before .before .before .before .before .before .h2 .given .1) (c .before .before .before .before .before .before .before .before .before .before .before .before .before .pre) in omega (arith, z .2)
 
 returns : tie.Need-returns
 returns c = record { opens = λ t l f top. open-refused (c .before .before .before .before .before .before .args .s .now) (λ i. c .before .before .before .before .before .shared-slice-known .given i .fits) (c .before .before .before .before .before .before .args .at) (c .before .before .before .before .before .before .args .leaf) t l f top (c .before .before .before .before .before .before .args .types .now) (c .before .before .before .before .before .before .args .end) (c .before .before .before .known-head .result) (c .before .before .before .known-head .ensures) _ (c .before .h .given .1) _ _ _ _ }
@@ -48,6 +58,9 @@ open-node-spec =
     own-type-requires
     enum-told
     enum-known-own
+    cast-t18
+    cast-t19
+    cast-t20
     returns
     same-length
     returns-2
