@@ -19,7 +19,7 @@ use Rattle.frame.specs.WellFormed.{TyWf}
 use Rattle.heads.specs.HeadPost.{leadOf, partsOf}
 use Rattle.typing.specs.Members.{All}
 use Rattle.typing.specs.Identifiers.{named, givensTy, givensTys}
-use Rattle.identifiers.specs.Claims.{powers, Noted, Held, Short, GivenPost, TypesAt, NotedTo, TypesPost}
+use Rattle.identifiers.specs.Claims.{powers, Held, Short, GivenPost, TypesAt, NotedTo, TypesPost}
 use Rattle.identifiers.specs.declared.Noting.{Noting}
 use Rattle.identifiers.specs.declared.Noting.the-variants.{Ends, Clashed, Beyond}
 use Rattle.identifiers.proofs.NotedClaims.{noted-nil, noted-then, noted-early, noted-true, held-then}

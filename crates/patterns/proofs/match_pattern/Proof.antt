@@ -1,7 +1,6 @@
 use mathlib.Core.Path.{refl, sym, _∙_}
 use Prim.Native.Nat.{_-_, _%_}
 use native.Mathlib.Omega.{arith}
-use borrow.Author.Needs.{needs}
 use borrow.Author.Tests.{not-true, not-false}
 use Rattle.patterns.proofs.MatchTurns.{Going, going-begins, going-next, fit-end, fit-none, fit-other, fit-large, next-fixed, fit-gap, next-new, fit-long, fit-differ, next-same, first-type, first-past, slot-span, slot-some}
 use Rattle.patterns.proofs.match_pattern.Statement.{statement}
