@@ -1,4 +1,4 @@
--- The ways out of `match_pattern`: at each, what the code found is what `matches` says.
+-- The ways out of `match_variable` and `match_pattern`: at each, what the code found is what `matches` says.
 -- Main results: packed-end, by-symbol (the pattern of a word); row-none .. row-type (types in a row); the laws fit-end .. next-same
 -- (one for each way out); the laws of Going, the loop's invariant.
 use Rattle.frame.proofs.ReadTypes.{ty-long}
@@ -28,7 +28,9 @@ use Rattle.type_rules.specs.Patterns.{symbolOf, partsOf, Matched, differs, matc
 use Rattle.type_rules.specs.RuleNumbers.{packs, Packed}
 use Rattle.type_bytes.specs.Buffers.{TypeAt, EndOf}
 use Rattle.octets.specs.Bytes.{SameBytes}
-use Rattle.patterns.specs.PatternPosts.{TysFit, RowAt, EnvAt, MatchPre, Matching, MatchPost}
+use Rattle.patterns.specs.PatternPosts.{TysFit, RowAt, EnvAt, MatchPre, Matching, Next, Standing, VariablePost, MatchPost}
+use Rattle.patterns.specs.declared.Part.{Part}
+use Rattle.patterns.specs.declared.Part.the-variants as W
 use Rattle.patterns.specs.declared.Fit.{Fit}
 use Rattle.patterns.specs.declared.Fit.the-variants as F
 use Rattle.type_bytes.proofs.BufferLaws.{span-get, span-by}
@@ -201,14 +203,83 @@ env-new types n s e ρ m v ev h t w at p a l =
     }
 
 -- ---- the ways out
--- the rest of the pattern, at the rest of the types
-pub record Next (ps : List ℕ) (us ρ : List Ty) (qs types : List ℕ) (at n : ℕ) (s e : List ℕ) (k : ℕ) : Type 0 where
-  pub types-left : List Ty
-  pub bound : List Ty
-  pub same : matches ps us ρ ≡ matches qs types-left bound
-  pub row : RowAt types at n types-left
-  pub env : EnvAt types n s e bound
-  pub count : length bound ≡ k
+-- a variable, whose symbol is v + 5
+module _ (v : ℕ) (h : v < 4) (types : List ℕ) (at n : ℕ) (l : at < n) (s e : List ℕ) (k : ℕ) where
+  abbrev symbol : ℕ
+  symbol = v + 5
+
+  back-to : symbol - 5 ≡ v
+  back-to = omega arith
+
+  standing : (s₁ e₁ : List ℕ) (r : Part) → ((rest : List ℕ) (t : Ty) (vs ρ : List Ty) → RowAt types at n (t ∷ vs) → EnvAt types n s e ρ → length ρ ≡ k → Standing r v rest (t ∷ vs) ρ types at n s₁ e₁)
+      → VariablePost v types at n s e k s₁ e₁ r
+  standing s₁ e₁ r f = record { answer = λ rest us ρ row env c. by-first types at n l (λ vs. Standing r v rest vs ρ types at n s₁ e₁) (λ t vs w. f rest t vs ρ w env c) us row }
+
+  pub first-type : MatchPre types at n s e k → TypeAt types at
+  first-type p = by-first types at n l (λ vs. TypeAt types at) (λ t vs r. row-type types at n t vs r) (p .us) (p .row)
+
+  pub fit-gap : k < v → VariablePost v types at n s e k s e W.Differs
+  fit-gap m = standing s e W.Differs (λ rest t vs ρ row env c. off-new symbol rest t vs ρ (omega arith) (omega arith) (omega arith))
+
+  pub next-new : v ≡ k → (q : ℕ) → EndOf types at q → VariablePost v types at n s e k (set s v at) (set e v q) (W.To q (k + 1))
+  next-new m q en =
+      standing (set s v at) (set e v q) (W.To q (k + 1)) (λ rest t vs ρ row env c. (
+      let eq = en .is t (at + length (encTy t)) (row-first types at n t vs row) in
+      let w = row-within types at n t vs row in (
+        record {
+          types-left = vs;
+          bound = ρ ++ (t ∷ []);
+          same = on-new symbol rest t vs ρ (omega arith) (omega arith) (omega arith);
+          row = subst (λ (x : ℕ). RowAt types x n vs) (sym eq) (row-rest types at n t vs row);
+          env = env-new types n s e ρ env v (omega arith) (omega arith) t (row .fit .0) at q (subst (λ (x : ℕ). Spans types at x (encTy t)) (sym eq) (row-first types at n t vs row)) (omega arith);
+          count = omega (arith, length-append ρ (t ∷ []), c);
+        },
+        omega (arith, eq, ty-long t),
+      )))
+
+  -- a variable that is bound
+  module _ (m : v < k) (from to : ℕ) (ef : from ≡ getD s v 0) (et : to ≡ getD e v 0) where
+    bound-span : (ρ : List Ty) → EnvAt types n s e ρ → length ρ ≡ k → Spans types from to (encTy (ty (symbol - 5) ρ))
+    bound-span ρ env c = subst₃ (λ (x y i : ℕ). Spans types x y (encTy (ty i ρ))) (sym ef) (sym et) (sym back-to) (env .spans v (omega (arith, c)))
+
+    pub fit-long : n - at < to - from → VariablePost v types at n s e k s e W.Differs
+    fit-long q =
+        standing s e W.Differs (λ rest t vs ρ row env c. off-bound symbol rest t vs ρ (omega arith) (omega arith) (omega arith)
+        (λ eq. (let a = bound-span ρ env c in
+        let w = row-within types at n t vs row in
+        let y = ap (λ (x : Ty). length (encTy x)) eq in
+        omega (arith, a .long))))
+
+    pub fit-differ : (x : Bool) → SameBytes types from at (to - from) x → x ≡ false → VariablePost v types at n s e k s e W.Differs
+    fit-differ x sb ex =
+        standing s e W.Differs (λ rest t vs ρ row env c. off-bound symbol rest t vs ρ (omega arith) (omega arith) (omega arith)
+        (λ eq. (let a = bound-span ρ env c in
+        let f = row-first types at n t vs row in
+        sb .differ ex (λ j h₁. (let y : j < length (encTy (ty (symbol - 5) ρ)) = omega (arith, a .long) in
+        let y₂ : j < length (encTy t) = subst (λ (u : Ty). j < length (encTy u)) (sym eq) y in
+        span-get a j y ∙ ap (λ (u : Ty). getD (encTy u) j 0) (sym eq) ∙ sym (span-get f j y₂))))))
+
+    pub next-same : to - from ≤ n - at → (x : Bool) → SameBytes types from at (to - from) x → x ≡ true → VariablePost v types at n s e k s e (W.To (at + (to - from)) k)
+    next-same q x sb ex =
+        standing s e (W.To (at + (to - from)) k) (λ rest t vs ρ row env c. (
+        let a = bound-span ρ env c in
+        let u = ty (symbol - 5) ρ in
+        let w = row-within types at n t vs row in
+        let g : Spans types at (at + (to - from)) (encTy u) =
+        span-by types at (at + (to - from)) (encTy u) (omega (arith, a .long)) (omega arith)
+        (λ j h₁. sym (sb .same ex j (omega (arith, a .long))) ∙ span-get a j h₁) in
+        let eq : t ≡ u = same-row types at n t vs row u (fit-at (symbol - 5) ρ (env .fit)) (at + (to - from)) g (omega arith) in
+        let y = ap (λ (x : Ty). length (encTy x)) eq in (
+          record {
+            types-left = vs;
+            bound = ρ;
+            same = on-bound symbol rest t vs ρ (omega arith) (omega arith) (omega arith) eq;
+            row = subst (λ (x : ℕ). RowAt types x n vs) (omega (arith, a .long)) (row-rest types at n t vs row);
+            env = env;
+            count = c;
+          },
+          omega (arith, a .long, ty-long u),
+        )))
 
 module _ (p : ℕ) (types : List ℕ) (at n : ℕ) (s e : List ℕ) (k : ℕ) where
   abbrev Post : List ℕ → List ℕ → Fit → Type 0
@@ -220,25 +291,18 @@ module _ (p : ℕ) (types : List ℕ) (at n : ℕ) (s e : List ℕ) (k : ℕ) wh
       record { answer = λ us ρ row env c. subst (λ (qs : List ℕ). Matching (matches qs us ρ) types n s e (F.Fits k)) (sym (packed-end ps p pk z)) (ap F.Fits (sym c), env) }
 
   module _ (b : ℕ) (eb : b ≡ p % 16) (z : b ≡ 2 → ⊥) where
-    off : ((rest : List ℕ) (us ρ : List Ty) → RowAt types at n us → EnvAt types n s e ρ → length ρ ≡ k → matches (b ∷ rest) us ρ ≡ differs) → Post s e F.Differs
-    off f =
-        by-symbol p b eb z (λ ps. MatchPost ps types at n s e k s e F.Differs)
-        (λ rest pk. record { answer = λ us ρ row env c. subst (λ (m : Matched). Matching m types n s e F.Differs) (sym (f rest us ρ row env c)) refl })
+    pub off : (s₁ e₁ : List ℕ) → ((rest : List ℕ) (us ρ : List Ty) → RowAt types at n us → EnvAt types n s e ρ → length ρ ≡ k → matches (b ∷ rest) us ρ ≡ differs) → Post s₁ e₁ F.Differs
+    off s₁ e₁ f =
+        by-symbol p b eb z (λ ps. MatchPost ps types at n s e k s₁ e₁ F.Differs)
+        (λ rest pk. record { answer = λ us ρ row env c. subst (λ (m : Matched). Matching m types n s₁ e₁ F.Differs) (sym (f rest us ρ row env c)) refl })
 
     pub fit-none : n ≤ at → Post s e F.Differs
     unfolding matches
-    fit-none l = off (λ rest us ρ row env c. ap (λ (vs : List Ty). matches (b ∷ rest) vs ρ) (row-none types at n us row l))
+    fit-none l = off s e (λ rest us ρ row env c. ap (λ (vs : List Ty). matches (b ∷ rest) vs ρ) (row-none types at n us row l))
 
     module _ (l : at < n) where
-      pub first-type : (us ρ : List Ty) → RowAt types at n us → EnvAt types n s e ρ → length ρ ≡ k → TypeAt types at
-      first-type us ρ row env c = by-first types at n l (λ vs. TypeAt types at) (λ t vs r. row-type types at n t vs r) us row
-
-      pub first-past : (q : ℕ) → EndOf types at q → (us : List Ty) → RowAt types at n us → at < q
-      first-past q en us row =
-          by-first types at n l (λ vs. at < q) (λ t vs r. omega (arith, en .is t (at + length (encTy t)) (row-first types at n t vs r), ty-long t)) us row
-
       off-first : ((rest : List ℕ) (t : Ty) (vs ρ : List Ty) → RowAt types at n (t ∷ vs) → EnvAt types n s e ρ → length ρ ≡ k → matches (b ∷ rest) (t ∷ vs) ρ ≡ differs) → Post s e F.Differs
-      off-first f = off (λ rest us ρ row env c. by-first types at n l (λ vs. matches (b ∷ rest) vs ρ ≡ differs) (λ t vs r. f rest t vs ρ r env c) us row)
+      off-first f = off s e (λ rest us ρ row env c. by-first types at n l (λ vs. matches (b ∷ rest) vs ρ ≡ differs) (λ t vs r. f rest t vs ρ r env c) us row)
 
       pub fit-other : b < 5 → (getD types at 0 ≡ b → ⊥) → Post s e F.Differs
       fit-other m ne = off-first (λ rest t vs ρ row env c. off-fixed b rest t vs ρ m (fixed-off types at n t vs row b m ne))
@@ -266,71 +330,6 @@ module _ (p : ℕ) (types : List ℕ) (at n : ℕ) (s e : List ℕ) (k : ℕ) wh
       next-fixed m eq =
           on-first (at + 1) s e k (λ rest t vs ρ row env c. (let f = fixed-row types at n t vs row b m z eq in
           record { types-left = partsOf t ++ vs; bound = ρ; same = on-fixed b rest t vs ρ m (f .0); row = f .1; env = env; count = c }))
-
-      module _ (lo : 5 ≤ b) (hi : b < 9) where
-        pub fit-gap : k < b - 5 → Post s e F.Differs
-        fit-gap m = off-first (λ rest t vs ρ row env c. off-new b rest t vs ρ lo hi (omega arith))
-
-        module _ (v : ℕ) (ev : v ≡ b - 5) where
-          pub next-new : v ≡ k → (q : ℕ) → EndOf types at q → (rest : List ℕ) (us ρ : List Ty) → RowAt types at n us → EnvAt types n s e ρ → length ρ ≡ k
-              → Next (b ∷ rest) us ρ rest types q n (set s v at) (set e v q) (k + 1)
-          next-new m q en =
-              on-first q (set s v at) (set e v q) (k + 1) (λ rest t vs ρ row env c. (
-              let eq = en .is t (at + length (encTy t)) (row-first types at n t vs row) in
-              let w = row-within types at n t vs row in
-              record {
-                types-left = vs;
-                bound = ρ ++ (t ∷ []);
-                same = on-new b rest t vs ρ lo hi (omega arith);
-                row = subst (λ (x : ℕ). RowAt types x n vs) (sym eq) (row-rest types at n t vs row);
-                env = env-new types n s e ρ env v (omega arith) (omega arith) t (row .fit .0) at q (subst (λ (x : ℕ). Spans types at x (encTy t)) (sym eq) (row-first types at n t vs row)) (omega arith);
-                count = omega (arith, length-append ρ (t ∷ []), c);
-              }))
-
-          -- a variable that is bound
-          module _ (m : v < k) (from to : ℕ) (ef : from ≡ getD s v 0) (et : to ≡ getD e v 0) where
-            bound-span : (ρ : List Ty) → EnvAt types n s e ρ → length ρ ≡ k → Spans types from to (encTy (ty (b - 5) ρ)) × (to ≤ n)
-            bound-span ρ env c =
-                let a = env .spans v (omega (arith, c)) in
-                (subst₃ (λ (x y i : ℕ). Spans types x y (encTy (ty i ρ))) (sym ef) (sym et) ev a, omega (arith, et, env .low v (omega (arith, c))))
-
-            pub fit-long : n - at < to - from → Post s e F.Differs
-            fit-long q =
-                off-first (λ rest t vs ρ row env c. off-bound b rest t vs ρ lo hi (omega arith)
-                (λ eq. (let a = bound-span ρ env c .0 in
-                let w = row-within types at n t vs row in
-                let y = ap (λ (x : Ty). length (encTy x)) eq in
-                omega (arith, a .long))))
-
-            pub fit-differ : (x : Bool) → SameBytes types from at (to - from) x → x ≡ false → Post s e F.Differs
-            fit-differ x sb ex =
-                off-first (λ rest t vs ρ row env c. off-bound b rest t vs ρ lo hi (omega arith)
-                (λ eq. (let a = bound-span ρ env c .0 in
-                let f = row-first types at n t vs row in
-                sb .differ ex (λ j h₁. (let y : j < length (encTy (ty (b - 5) ρ)) = omega (arith, a .long) in
-                let y₂ : j < length (encTy t) = subst (λ (u : Ty). j < length (encTy u)) (sym eq) y in
-                span-get a j y ∙ ap (λ (u : Ty). getD (encTy u) j 0) (sym eq) ∙ sym (span-get f j y₂))))))
-
-            pub next-same : to - from ≤ n - at → (x : Bool) → SameBytes types from at (to - from) x → x ≡ true
-                → (rest : List ℕ) (us ρ : List Ty) → RowAt types at n us → EnvAt types n s e ρ → length ρ ≡ k → Next (b ∷ rest) us ρ rest types (at + (to - from)) n s e k
-            next-same q x sb ex =
-                on-first (at + (to - from)) s e k (λ rest t vs ρ row env c. (
-                let a = bound-span ρ env c .0 in
-                let u = ty (b - 5) ρ in
-                let w = row-within types at n t vs row in
-                let g : Spans types at (at + (to - from)) (encTy u) =
-                span-by types at (at + (to - from)) (encTy u) (omega (arith, a .long)) (omega arith)
-                (λ j h₁. sym (sb .same ex j (omega (arith, a .long))) ∙ span-get a j h₁) in
-                let eq : t ≡ u = same-row types at n t vs row u (fit-at (b - 5) ρ (env .fit)) (at + (to - from)) g (omega arith) in
-                let y = ap (λ (x : Ty). length (encTy x)) eq in
-                record {
-                  types-left = vs;
-                  bound = ρ;
-                  same = on-bound b rest t vs ρ lo hi (omega arith) eq;
-                  row = subst (λ (x : ℕ). RowAt types x n vs) (omega (arith, a .long)) (row-rest types at n t vs row);
-                  env = env;
-                  count = c;
-                }))
 
 -- a variable's bytes are in the buffer, below n
 pub slot-span : {types : List ℕ} {n : ℕ} {s e : List ℕ} {ρ : List Ty} {k : ℕ} → EnvAt types n s e ρ → length ρ ≡ k → (v : ℕ) → v < k → (getD s v 0 ≤ getD e v 0) × (getD e v 0 ≤ n) × (getD e v 0 ≤ length types)
@@ -362,3 +361,23 @@ module _ (p₀ : ℕ) (types : List ℕ) (at₀ n : ℕ) (s₀ e₀ : List ℕ) 
         pre = record { us = x .types-left; ρ = x .bound; row = x .row; env = x .env; count = x .count };
         back = λ s₂ e₂ r y. g .back s₂ e₂ r (goes-on p types at n s e k (p % 16) refl z l at₁ s₁ e₁ k₁ f s₂ e₂ r y);
       }
+
+  -- what `match_variable` answers
+  module _ (p at : ℕ) (s e : List ℕ) (k : ℕ) (g : Going p₀ types at₀ n s₀ e₀ k₀ p at s e k) (z : p % 16 ≡ 2 → ⊥) (l : at < n) (v : ℕ) (ev : v + 5 ≡ p % 16)
+      (s₁ e₁ : List ℕ) (r : Part) (vp : VariablePost v types at n s e k s₁ e₁ r) where
+    pub going-off : r ≡ W.Differs → MatchAll p₀ types at₀ n s₀ e₀ k₀ s₁ e₁ F.Differs
+    going-off er =
+        g .back s₁ e₁ F.Differs (off p types at n s e k (v + 5) ev (λ e₅. z (sym ev ∙ e₅)) s₁ e₁
+        (λ rest us ρ row env c. subst (λ (o : Part). Standing o v rest us ρ types at n s₁ e₁) er (vp .answer rest us ρ row env c)))
+
+    module _ (q j : ℕ) (er : r ≡ W.To q j) where
+      stands : (rest : List ℕ) (us ρ : List Ty) → RowAt types at n us → EnvAt types n s e ρ → length ρ ≡ k → Next ((v + 5) ∷ rest) us ρ rest types q n s₁ e₁ j × (at < q)
+      stands rest us ρ row env c = subst (λ (o : Part). Standing o v rest us ρ types at n s₁ e₁) er (vp .answer rest us ρ row env c)
+
+      pub going-past : at < q
+      going-past = let h = g .pre in stands [] (h .us) (h .ρ) (h .row) (h .env) (h .count) .1
+
+      pub going-variable : Going p₀ types at₀ n s₀ e₀ k₀ (p / 16) q s₁ e₁ j
+      going-variable =
+          going-next p at s e k g z l q s₁ e₁ j
+          (λ rest us ρ row env c. subst (λ (b : ℕ). Next (b ∷ rest) us ρ rest types q n s₁ e₁ j) ev (stands rest us ρ row env c .0))

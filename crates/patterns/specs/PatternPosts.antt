@@ -16,6 +16,8 @@ use Rattle.type_rules.specs.Patterns.{Matched, fits, differs, matches, allBound
 use Rattle.type_rules.specs.RuleNumbers.{Packed}
 use Rattle.patterns.specs.declared.Typed.{Typed}
 use Rattle.patterns.specs.declared.Typed.the-variants as T
+use Rattle.patterns.specs.declared.Part.{Part}
+use Rattle.patterns.specs.declared.Part.the-variants as W
 use Rattle.patterns.specs.declared.Fit.{Fit}
 use Rattle.patterns.specs.declared.Fit.the-variants as F
 use Rattle.patterns.specs.declared.Pairs.{Pairs}
@@ -62,6 +64,23 @@ pub record MatchPre (types : List ℕ) (at n : ℕ) (starts ends : List ℕ) (k 
 abbrev pub Matching : Matched → List ℕ → ℕ → List ℕ → List ℕ → Fit → Type 0
 Matching (fits us ρ) types n starts ends r = (r ≡ F.Fits (length ρ)) × EnvAt types n starts ends ρ
 Matching differs types n starts ends r = r ≡ F.Differs
+
+-- the rest of a pattern at the rest of the types, with k variables bound: what is said of these is said of the whole
+pub record Next (ps : List ℕ) (us ρ : List Ty) (qs types : List ℕ) (at n : ℕ) (s e : List ℕ) (k : ℕ) : Type 0 where
+  pub types-left : List Ty
+  pub bound : List Ty
+  pub same : matches ps us ρ ≡ matches qs types-left bound
+  pub row : RowAt types at n types-left
+  pub env : EnvAt types n s e bound
+  pub count : length bound ≡ k
+
+-- the variable v, whose symbol is v + 5, before the rest of a pattern
+abbrev pub Standing : Part → ℕ → List ℕ → List Ty → List Ty → List ℕ → ℕ → ℕ → List ℕ → List ℕ → Type 0
+Standing (W.To q j) v rest us ρ types at n starts ends = Next ((v + 5) ∷ rest) us ρ rest types q n starts ends j × (at < q)
+Standing W.Differs v rest us ρ types at n starts ends = matches ((v + 5) ∷ rest) us ρ ≡ differs
+
+pub record VariablePost (v : ℕ) (types : List ℕ) (at n : ℕ) (s₀ e₀ : List ℕ) (k : ℕ) (s₁ e₁ : List ℕ) (r : Part) : Type 0 where
+  pub answer : (rest : List ℕ) (us ρ : List Ty) → RowAt types at n us → EnvAt types n s₀ e₀ ρ → length ρ ≡ k → Standing r v rest us ρ types at n s₁ e₁
 
 pub record MatchPost (ps types : List ℕ) (at n : ℕ) (s₀ e₀ : List ℕ) (k : ℕ) (s₁ e₁ : List ℕ) (r : Fit) : Type 0 where
   pub answer : (us ρ : List Ty) → RowAt types at n us → EnvAt types n s₀ e₀ ρ → length ρ ≡ k → Matching (matches ps us ρ) types n s₁ e₁ r

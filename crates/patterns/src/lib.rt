@@ -9,7 +9,7 @@ ghost use Prim.Native.Nat.{ℕ, _<_};
 ghost use Rattle.frame.specs.Tags.{classOf};
 ghost use Rattle.type_rules.specs.Patterns.{Rule, ruleAt};
 ghost use Rattle.type_rules.specs.RuleNumbers.{Packed, RowOf};
-ghost use Rattle.patterns.specs.PatternPosts.{Slots, MatchPre, MatchPost, PairsPre, PairsPost, OperandsPost, FillPre, FillPost, JudgePre, JudgePost};
+ghost use Rattle.patterns.specs.PatternPosts.{Slots, VariablePost, MatchPre, MatchPost, PairsPre, PairsPost, OperandsPost, FillPre, FillPost, JudgePre, JudgePost};
 use type_rules::pattern;
 use type_rules::rule_row;
 
@@ -24,6 +24,12 @@ const SYMBOLS: usize = 9;
 pub enum Typed {
     Is(usize),
     Bad,
+}
+
+// Where the type ends that a variable stands for and how many variables are bound then, or that another type stands there.
+enum Part {
+    To(usize, usize),
+    Differs,
 }
 
 // How many variables are bound, or that a type is not what the pattern asks for.
@@ -42,6 +48,40 @@ pub enum Pairs {
 pub enum Filled {
     To(usize),
     Over,
+}
+
+// A variable at the first of the types that stand from `at` up to n, with k variables bound: one that is bound stands for the type that
+// it has, and the next to be bound for the type that is there.
+fn match_variable(
+    v: usize,
+    types: &[u8],
+    at: usize,
+    n: usize,
+    starts: &mut [usize; 4],
+    ends: &mut [usize; 4],
+    k: usize,
+) -> Part
+    requires { ⌜ MatchPre (now types) at n (now starts) (now ends) k × (at < n) × (v < 4) ⌝ }
+    ensures { λ r. ⌜ VariablePost v (now (types .entry)) at n (now (starts .entry)) (now (ends .entry)) k (now (starts .exit)) (now (ends .exit)) r ⌝ }
+{
+    if v < k {
+        let from = starts[v];
+        let len = ends[v] - from;
+        if n - at < len {
+            return Part::Differs;
+        }
+        if !same_bytes(types, from, at, len) {
+            return Part::Differs;
+        }
+        return Part::To(at + len, k);
+    }
+    if k < v {
+        return Part::Differs;
+    }
+    let e = type_end(types, at);
+    starts[v] = at;
+    ends[v] = e;
+    Part::To(e, k + 1)
 }
 
 // The pattern of a word, at the types that stand from `start` up to n. The variables below `bound` are bound: their types stand in the
@@ -80,27 +120,12 @@ fn match_pattern(
         if SYMBOLS <= b {
             return Fit::Differs;
         }
-        let v = b - VARIABLES;
-        if v < k {
-            let from = starts[v];
-            let len = ends[v] - from;
-            if n - at < len {
-                return Fit::Differs;
-            }
-            if !same_bytes(types, from, at, len) {
-                return Fit::Differs;
-            }
-            at += len;
-            continue;
-        }
-        if k < v {
+        let part = match_variable(b - VARIABLES, types, at, n, starts, ends, k);
+        let Part::To(end, more) = part else {
             return Fit::Differs;
-        }
-        let e = type_end(types, at);
-        starts[v] = at;
-        ends[v] = e;
-        at = e;
-        k += 1;
+        };
+        at = end;
+        k = more;
     }
 }
 

@@ -1,0 +1,87 @@
+use mathlib.Core.Path.{refl}
+use native.Mathlib.Omega.{arith}
+use borrow.Author.Tests.{not-true, not-false}
+use Rattle.patterns.proofs.MatchTurns.{first-type, fit-gap, next-new, fit-long, fit-differ, next-same, slot-span}
+use Rattle.patterns.proofs.match_variable.Statement.{statement}
+use Rattle.patterns.proofs.match_variable.Tie as tie
+
+mul-from : tie.Need-mul-from
+mul-from c = omega (arith, c .before .before .pre .0 .env .few, c .before .before .pre .0 .count)
+
+element-copy-out-from : tie.Need-element-copy-out-from
+element-copy-out-from c = omega (arith, c .before .before .pre .0 .env .few, c .before .before .pre .0 .count)
+
+mul-len : tie.Need-mul-len
+mul-len c = omega (arith, c .before .before .before .pre .0 .env .few, c .before .before .before .pre .0 .count)
+
+element-copy-out-len : tie.Need-element-copy-out-len
+element-copy-out-len c = omega (arith, c .before .before .before .pre .0 .env .few, c .before .before .before .pre .0 .count)
+
+sub-len : tie.Need-sub-len
+sub-len c = slot-span (c .before .before .before .before .pre .0 .env) (c .before .before .before .before .pre .0 .count) (c .before .before .before .before .args .v) (c .before .before .if1 .taken) .0
+
+sub-if2 : tie.Need-sub-if2
+sub-if2 c = omega (arith, c .before .before .before .before .pre .1)
+
+returns : tie.Need-returns
+returns c = fit-long (c .before .before .before .before .before .args .v) (c .before .before .before .before .before .pre .2) (c .before .before .before .before .before .args .types .now) (c .before .before .before .before .before .args .at) (c .before .before .before .before .before .args .n) (c .before .before .before .before .before .pre .1) (c .before .before .before .before .before .args .starts .now) (c .before .before .before .before .before .args .ends .now) (c .before .before .before .before .before .args .k) (c .before .before .before .if1 .taken) _ _ refl refl (c .if2 .taken)
+
+same-bytes-requires : tie.Need-same-bytes-requires
+same-bytes-requires c κs = let w = slot-span (c .before .before .before .before .before .pre .0 .env) (c .before .before .before .before .before .pre .0 .count) (c .before .before .before .before .before .args .v) (c .before .before .before .if1 .taken) in omega (arith, c .before .before .before .before .before .pre .0 .row .span .within, c .before .before .before .before .before .pre .1, w .0, w .1, w .2)
+
+returns-2 : tie.Need-returns-2
+returns-2 c = fit-differ (c .before .before .before .before .before .before .before .args .v) (c .before .before .before .before .before .before .before .pre .2) (c .before .before .before .before .before .before .before .args .types .now) (c .before .before .before .before .before .before .before .args .at) (c .before .before .before .before .before .before .before .args .n) (c .before .before .before .before .before .before .before .pre .1) (c .before .before .before .before .before .before .before .args .starts .now) (c .before .before .before .before .before .before .before .args .ends .now) (c .before .before .before .before .before .before .before .args .k) (c .before .before .before .before .before .if1 .taken) _ _ refl refl _ (c .before .same-bytes .ensures) (not-true _ (c .if3 .taken))
+
+add-t15 : tie.Need-add-t15
+add-t15 c = omega (arith, c .before .before .before .before .before .before .before .pre .0 .row .span .within)
+
+returns-3 : tie.Need-returns-3
+returns-3 c = next-same (c .before .before .before .before .before .before .before .args .v) (c .before .before .before .before .before .before .before .pre .2) (c .before .before .before .before .before .before .before .args .types .now) (c .before .before .before .before .before .before .before .args .at) (c .before .before .before .before .before .before .before .args .n) (c .before .before .before .before .before .before .before .pre .1) (c .before .before .before .before .before .before .before .args .starts .now) (c .before .before .before .before .before .before .before .args .ends .now) (c .before .before .before .before .before .before .before .args .k) (c .before .before .before .before .before .if1 .taken) _ _ refl refl (omega arith) _ (c .before .same-bytes .ensures) (not-false _ (c .if3 .left))
+
+returns-4 : tie.Need-returns-4
+returns-4 c = fit-gap (c .before .before .before .args .v) (c .before .before .before .pre .2) (c .before .before .before .args .types .now) (c .before .before .before .args .at) (c .before .before .before .args .n) (c .before .before .before .pre .1) (c .before .before .before .args .starts .now) (c .before .before .before .args .ends .now) (c .before .before .before .args .k) (c .if4 .taken)
+
+type-end-requires : tie.Need-type-end-requires
+type-end-requires c κs = first-type (c .before .before .before .args .v) (c .before .before .before .pre .2) (c .before .before .before .args .types .now) (c .before .before .before .args .at) (c .before .before .before .args .n) (c .before .before .before .pre .1) (c .before .before .before .args .starts .now) (c .before .before .before .args .ends .now) (c .before .before .before .args .k) (c .before .before .before .pre .0)
+
+mul-starts : tie.Need-mul-starts
+mul-starts c = omega (arith, c .before .before .before .before .pre .2)
+
+element-write-starts : tie.Need-element-write-starts
+element-write-starts c = omega (arith, c .before .before .before .before .pre .2)
+
+mul-ends : tie.Need-mul-ends
+mul-ends c = omega (arith, c .before .before .before .before .pre .2)
+
+element-write-ends : tie.Need-element-write-ends
+element-write-ends c = omega (arith, c .before .before .before .before .pre .2)
+
+add-t20 : tie.Need-add-t20
+add-t20 c = omega (arith, c .before .before .before .before .pre .0 .env .few, c .before .before .before .before .pre .0 .count)
+
+returns-5 : tie.Need-returns-5
+returns-5 c = next-new (c .before .before .before .before .args .v) (c .before .before .before .before .pre .2) (c .before .before .before .before .args .types .now) (c .before .before .before .before .args .at) (c .before .before .before .before .args .n) (c .before .before .before .before .pre .1) (c .before .before .before .before .args .starts .now) (c .before .before .before .before .args .ends .now) (c .before .before .before .before .args .k) (omega arith) _ (c .type-end .ensures)
+
+pub match-variable-spec : {M : Type 1} → statement M
+match-variable-spec =
+    tie.close
+    (tie.spec
+    mul-from
+    element-copy-out-from
+    mul-len
+    element-copy-out-len
+    sub-len
+    sub-if2
+    returns
+    same-bytes-requires
+    returns-2
+    add-t15
+    returns-3
+    returns-4
+    type-end-requires
+    mul-starts
+    element-write-starts
+    mul-ends
+    element-write-ends
+    add-t20
+    returns-5)
