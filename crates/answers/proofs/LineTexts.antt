@@ -26,7 +26,7 @@ use Rattle.run.specs.Run.{Word, REST, SPENT, FULL, RunOutcome, ended, turnedDow
 use Rattle.run.specs.declared.RunAnswer.{RunAnswer}
 use Rattle.run.specs.declared.RunAnswer.the-variants.{Refused}
 use Rattle.run.proofs.Sizes.{run-small}
-use Rattle.printing.specs.Text.{budget, lent, wordText, endedText, refusedText, answerText, lineOutcome, lineText}
+use Rattle.program.specs.Text.{budget, lent, wordText, endedText, refusedText, answerText, lineOutcome, lineText}
 use Rattle.printing.specs.PrintPosts.{Appends}
 use Rattle.answers.specs.Posts.{longest, Small, Answers, AnswerPre, AnswerPost, FramePost, HeldPost, LinePost}
 use Rattle.printing.proofs.Writes.{appends-as, ended-length, refused-length, digits-3, digits-5}
@@ -59,7 +59,8 @@ said : (a : RunAnswer) (w : Word) (k l : ℕ) (last : List ℕ) → a ≡ wordAn
 said a w k l last e (ended v m ys) h =
     let s = same-word w v k l m (length ys) (sym e ∙ h .answer) in
     let t : take l last ≡ ys = ap₂ (λ (i : ℕ) (z : List ℕ). take i z) (s .2) (h .output) ∙ take-at ys (drop (length ys) (h .old)) (length ys) refl in
-    let n : length last ≡ length ys + length (drop (length ys) (h .old)) = ap (λ (z : List ℕ). length z) (h .output) ∙ length-append ys (drop (length ys) (h .old)) in
+    let n : length last ≡ length ys + length (drop (length ys) (h .old)) = ap (λ (z : List ℕ). length z) (h .output) ∙ length-append ys
+        (drop (length ys) (h .old)) in
     record {
       is = subst (λ (u : Word). ended v m ys ≡ ended u k (take l last)) (sym (s .0)) (ap₂ (λ (i : ℕ) (z : List ℕ). ended v i z) (sym (s .1)) (sym t));
       few = omega (arith, s .1, h .small .0);
@@ -81,7 +82,8 @@ module _ (a : RunAnswer) (last : List ℕ) (w : Word) (k l : ℕ) (e : a ≡ wor
     where
       rest : (word : List ℕ) → length word ≤ 5 → length (endedText word k (take l last)) ≤ longest
       rest word h =
-          omega (arith, ended-length word k (take l last), write-length (take l last), length-take-le l last (of-pre .fits), of-pre .short, digits-5 k (omega (arith, of-pre .few)))
+          omega (arith, ended-length word k (take l last), write-length (take l last), length-take-le l last
+                (of-pre .fits), of-pre .short, digits-5 k (omega (arith, of-pre .few)))
 
       go : (w : Word) → length (endedText (wordText w) k (take l last)) ≤ longest
       go REST = rest (wordText REST) (omega arith)
@@ -108,8 +110,8 @@ of-refused : (a : RunAnswer) (last : List ℕ) (c : ℕ) → a ≡ Refused c →
 of-refused a last c e (ended v m ys) h = word-not v m (length ys) c (sym (h .answer) ∙ e)
 of-refused a last c e (turnedDown d) h = let y : Refused d ≡ Refused c = sym (h .answer) ∙ e in cc
 
-pub refused-post : (a : RunAnswer) (last : List ℕ) (c : ℕ) → c < 256 → a ≡ Refused c → (o : List ℕ) (n : ℕ) (p : List ℕ) (m : ℕ) → Appends o n (refusedText c) p m
-    → AnswerPost a last o n p m
+pub refused-post : (a : RunAnswer) (last : List ℕ) (c : ℕ) → c < 256 → a ≡ Refused c → (o : List ℕ) (n : ℕ) (p : List ℕ) (m : ℕ)
+    → Appends o n (refusedText c) p m → AnswerPost a last o n p m
 unfolding answerText
 refused-post a last c l e o n p m h = record {
   puts = λ x ans. subst (λ (y : RunOutcome). Appends o n (answerText y) p m) (sym (of-refused a last c e x ans)) h;
@@ -131,7 +133,8 @@ run-answers s b old l a last h = record {
   small = small-of s b (run s budget lent) refl;
 }
 
-pub run-post : (s : List ℕ) (a : RunAnswer) (last o : List ℕ) (n : ℕ) (p : List ℕ) (m : ℕ) → Answers a last (run s budget lent) → AnswerPost a last o n p m → FramePost s o n p m
+pub run-post : (s : List ℕ) (a : RunAnswer) (last o : List ℕ) (n : ℕ) (p : List ℕ) (m : ℕ) → Answers a last (run s budget lent)
+    → AnswerPost a last o n p m → FramePost s o n p m
 run-post s a last o n p m h q = record { puts = q .puts (run s budget lent) h; room = q .room }
 
 -- ---- `put_held`
@@ -151,7 +154,8 @@ refused-text : (cs : List ℕ) (c : ℕ) → L.Refused c ≡ lineAnswer (readLin
 unfolding lineText answerText
 refused-text cs c e = go (readLine cs) e
   where
-    on-long : (s : List ℕ) (b : Bool) → ltb frameLimit (length s) ≡ b → L.Refused c ≡ pick b (L.Refused 2) (L.Frame (length s)) → refusedText c ≡ answerText (run s budget lent)
+    on-long : (s : List ℕ) (b : Bool) → ltb frameLimit (length s) ≡ b → L.Refused c ≡ pick b (L.Refused 2) (L.Frame (length s))
+        → refusedText c ≡ answerText (run s budget lent)
     on-long s true h e = let z : c ≡ 2 = cc in ap refusedText z ∙ sym (ap answerText (long-refused s (ltb-true frameLimit (length s) h)))
     on-long s false h e = let z : _≡_ {A = ℕ} 0 1 = cc in absurd (omega arith)
 
@@ -169,7 +173,8 @@ record Framed (cs : List ℕ) (k : ℕ) : Type 0 where
 framed : (cs : List ℕ) (k : ℕ) → L.Frame k ≡ lineAnswer (readLine cs) → Framed cs k
 framed cs k e = go (readLine cs) refl e
   where
-    on-long : (s : List ℕ) → readLine cs ≡ frame s → (b : Bool) → ltb frameLimit (length s) ≡ b → L.Frame k ≡ pick b (L.Refused 2) (L.Frame (length s)) → Framed cs k
+    on-long : (s : List ℕ) → readLine cs ≡ frame s → (b : Bool) → ltb frameLimit (length s) ≡ b
+        → L.Frame k ≡ pick b (L.Refused 2) (L.Frame (length s)) → Framed cs k
     on-long s r true h e = let z : _≡_ {A = ℕ} 0 1 = cc in absurd (omega arith)
     on-long s r false h e = record { s = s; is = r; long = cc; fits = ltb-false frameLimit (length s) h }
 
@@ -177,7 +182,8 @@ framed cs k e = go (readLine cs) refl e
     go (frame s) r e = on-long s r (ltb frameLimit (length s)) refl e
     go badLine r e = let z : _≡_ {A = ℕ} 0 1 = cc in absurd (omega arith)
 
-module _ (st : LineState) (b o : List ℕ) (n : ℕ) (p : List ℕ) (m : ℕ) (r : LineAnswer) (end : (cs : List ℕ) → st ≡ lineState cs → r ≡ lineAnswer (readLine cs)) where
+module _ (st : LineState) (b o : List ℕ) (n : ℕ) (p : List ℕ) (m : ℕ) (r : LineAnswer)
+    (end : (cs : List ℕ) → st ≡ lineState cs → r ≡ lineAnswer (readLine cs)) where
   pub line-refused : (c : ℕ) → c < 256 → r ≡ L.Refused c → Appends o n (refusedText c) p m → LinePost st b o n p m
   line-refused c l e h = record {
     puts = λ held hs. appends-as o n (refusedText c) (lineText held) p m (refused-text held c (sym e ∙ end held (hs .state))) h;
@@ -189,7 +195,8 @@ module _ (st : LineState) (b o : List ℕ) (n : ℕ) (p : List ℕ) (m : ℕ) (r
   line-frame k e h = record {
     puts = λ held hs. (
         let f = framed held k (sym e ∙ end held (hs .state)) in
-        let w : b ≡ f .s ++ drop (length (f .s)) (hs .old) = hs .buffer ∙ line-buffer held (f .s) (hs .old) (f .is) (f .fits) (omega (arith, hs .long, f .fits)) in
+        let w : b ≡ f .s ++ drop (length (f .s)) (hs .old) = hs .buffer ∙ line-buffer held (f .s) (hs .old) (f .is) (f .fits)
+            (omega (arith, hs .long, f .fits)) in
         let t : take k b ≡ f .s = ap (λ (x : List ℕ). take k x) w ∙ take-at (f .s) (drop (length (f .s)) (hs .old)) k (sym (f .long)) in
         let l : k ≤ length b = omega (arith, f .long, ap (λ (x : List ℕ). length x) w, length-append (f .s) (drop (length (f .s)) (hs .old))) in
         let x : lineOutcome (readLine held) ≡ run (take k b) budget lent = ap lineOutcome (f .is) ∙ ap (λ (y : List ℕ). run y budget lent) (sym t) in

@@ -1,4 +1,4 @@
--- What the code that writes answers asks and answers, by the definitions of printing/specs/Text.antt.
+-- What the code that writes answers asks and answers, by the definitions of program/specs/Text.antt.
 use mathlib.Core.Path.{_≡_}
 use mathlib.Core.List.{List}
 use Prim.Native.Nat.{ℕ, _+_, _≤_}
@@ -8,7 +8,7 @@ use Rattle.lines.specs.LineState.{lineState, lineBuffer}
 use Rattle.lines.specs.declared.LineState.{LineState}
 use Rattle.run.specs.Run.{RunOutcome, ended, turnedDown, run, runAnswer, runOutput}
 use Rattle.run.specs.declared.RunAnswer.{RunAnswer}
-use Rattle.printing.specs.Text.{budget, lent, answerText, lineText}
+use Rattle.program.specs.Text.{budget, lent, answerText, lineText}
 use Rattle.printing.specs.PrintPosts.{Appends}
 
 -- ---- an answer

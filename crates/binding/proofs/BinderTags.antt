@@ -24,7 +24,8 @@ use Rattle.binding.specs.Bound.{Below}
 use Rattle.binding.proofs.OpenBinders.{TyAt}
 
 -- ---- the table's entries at other places play no part
-pub leaf-same : (s : List ℕ) (b : Bool) (x y : ℕ) (t : Ty) → x ≡ y → pick {X = Type 0} b (TyAt s x t) (Unit {0}) → pick {X = Type 0} b (TyAt s y t) (Unit {0})
+pub leaf-same : (s : List ℕ) (b : Bool) (x y : ℕ) (t : Ty) → x ≡ y → pick {X = Type 0} b (TyAt s x t) (Unit {0})
+    → pick {X = Type 0} b (TyAt s y t) (Unit {0})
 leaf-same s b x y t e a = subst (λ (i : ℕ). pick {X = Type 0} b (TyAt s i t) (Unit {0})) e a
 
 mutual
@@ -32,9 +33,11 @@ mutual
 
   pub leaves-same : (t : Tree) (Γ : Ctx) (k : ℕ) (s l m : List ℕ) (j : ℕ) → k + nodes t ≤ j → Below j l m → LeavesAt t Γ k s l → LeavesAt t Γ k s m
   leaves-same (node (head g n us) ks) Γ k s l m j le h a =
-      (leaf-same s (eqb g boundTag) (getD l k 0) (getD m k 0) (typeAt Γ n) (sym (h k (omega arith))) (a .0), leaves-same-in ks (under g us Γ) (suc k) s l m j (omega arith) h (a .1))
+      (leaf-same s (eqb g boundTag) (getD l k 0) (getD m k 0) (typeAt Γ n) (sym (h k (omega arith))) (a .0), leaves-same-in ks
+            (under g us Γ) (suc k) s l m j (omega arith) h (a .1))
 
-  pub leaves-same-in : (ts : Forest) (Γ : Ctx) (k : ℕ) (s l m : List ℕ) (j : ℕ) → k + nodesIn ts ≤ j → Below j l m → LeavesIn ts Γ k s l → LeavesIn ts Γ k s m
+  pub leaves-same-in : (ts : Forest) (Γ : Ctx) (k : ℕ) (s l m : List ℕ) (j : ℕ) → k + nodesIn ts ≤ j → Below j l m
+      → LeavesIn ts Γ k s l → LeavesIn ts Γ k s m
   leaves-same-in nil Γ k s l m j le h a = tt
   leaves-same-in (cons t ts) Γ k s l m j le h a =
       (leaves-same t Γ k s l m j (omega arith) h (a .0), leaves-same-in ts Γ (k + nodes t) s l m j (omega arith) h (a .1))
@@ -86,9 +89,11 @@ pub high-form : (g : ℕ) → 801 ≤ g → (layoutKind (formOf g .layout) ≡ 3
 high-form g h = go (ltb g 902) refl
   where
     go : (b : Bool) → ltb g 902 ≡ b → (layoutKind (formOf g .layout) ≡ 3) ⊎ (formOf g .carried ≡ 0)
-    go true e = on (or-either (eqb (layoutKind (formOf g .layout)) 3) (eqb (formOf g .carried) 0) (rw (le-ltb g 801 h) at (every-tag binderTest 902 binder-tags g (ltb-true g 902 e))))
+    go true e = on (or-either (eqb (layoutKind (formOf g .layout)) 3) (eqb (formOf g .carried) 0)
+          (rw (le-ltb g 801 h) at (every-tag binderTest 902 binder-tags g (ltb-true g 902 e))))
       where
-        on : (eqb (layoutKind (formOf g .layout)) 3 ≡ true) ⊎ (eqb (formOf g .carried) 0 ≡ true) → (layoutKind (formOf g .layout) ≡ 3) ⊎ (formOf g .carried ≡ 0)
+        on : (eqb (layoutKind (formOf g .layout)) 3 ≡ true) ⊎ (eqb (formOf g .carried) 0 ≡ true)
+            → (layoutKind (formOf g .layout) ≡ 3) ⊎ (formOf g .carried ≡ 0)
         on (inl x) = inl (eqb-true (layoutKind (formOf g .layout)) 3 x)
         on (inr x) = inr (eqb-true (formOf g .carried) 0 x)
     go false e = inr (unlisted-none g (ltb-false g 902 e))

@@ -65,8 +65,8 @@ module _ (s : List ℕ) (t : Tree) (ts : Forest) (Γ : Ctx) (depth k q p : ℕ) 
         leaves-size = w .leaves-size;
       }
 
-  walk-cons : (b₂ l₂ : List ℕ) (r : Bound) → Walk s t Γ depth k p b₀ l₀ b₁ l₁ (Ends p (k + nodes t)) → WalkAll s ts Γ depth (k + nodes t) q b₁ l₁ b₂ l₂ r
-      → WalkAll s (cons t ts) Γ depth k q b₀ l₀ b₂ l₂ r
+  walk-cons : (b₂ l₂ : List ℕ) (r : Bound) → Walk s t Γ depth k p b₀ l₀ b₁ l₁ (Ends p (k + nodes t))
+      → WalkAll s ts Γ depth (k + nodes t) q b₁ l₁ b₂ l₂ r → WalkAll s (cons t ts) Γ depth k q b₀ l₀ b₂ l₂ r
   unfolding closedTree LeavesAt nodes
   walk-cons b₂ l₂ r w v =
       let c = answer-yes (closedTree t Γ) p (k + nodes t) p (k + nodes t) (w .answer) .0 in
@@ -104,7 +104,8 @@ module _ (s : List ℕ) (n : ℕ) (a b : Bool) (at depth k : ℕ) (b₀ l₀ : L
       pub kids-no : r₁ ≡ Refused → BoundKids s (kindsFor n a b) at depth k b₀ l₀ b₁ l₁ Refused
       kids-no er = record {
         by = λ ts Γ q i o. (let v = parts ts q i in
-            rw (v .is) (walk-stop s (v .first) (v .rest) Γ depth k q (v .mid) b₀ l₀ b₁ l₁ (subst (Walk s (v .first) Γ depth k (v .mid) b₀ l₀ b₁ l₁) er (post .by (v .first) Γ (v .mid) (v .one) o))));
+            rw (v .is) (walk-stop s (v .first) (v .rest) Γ depth k q (v .mid) b₀ l₀ b₁ l₁
+                  (subst (Walk s (v .first) Γ depth k (v .mid) b₀ l₀ b₁ l₁) er (post .by (v .first) Γ (v .mid) (v .one) o))));
       }
 
       module _ (p j : ℕ) (er : r₁ ≡ Ends p j) where
@@ -117,7 +118,8 @@ module _ (s : List ℕ) (n : ℕ) (a b : Bool) (at depth k : ℕ) (b₀ l₀ : L
             let z : r₁ ≡ Ends (v .mid) (k + nodes (v .first)) = er ∙ ap₂ (λ (x i : ℕ). Ends x i) (c .1) (c .2) in
             (sym (c .1), sym (c .2), subst (Walk s (v .first) Γ depth k (v .mid) b₀ l₀ b₁ l₁) z w)
 
-        pub rest-next : Bytes s → KidsHere s (kindsFor n a b) at depth b₀ → (at + 2 ≤ p) × Ready s p depth j b₁ l₁ × KidsHere s (kindsFor (n - 1) b b) p depth b₁
+        pub rest-next : Bytes s → KidsHere s (kindsFor n a b) at depth b₀
+            → (at + 2 ≤ p) × Ready s p depth j b₁ l₁ × KidsHere s (kindsFor (n - 1) b b) p depth b₁
         rest-next bs h =
             let v = parts (h .0) (h .2) (h .3) in
             let w = over (h .0) (h .1) (h .2) v (h .4) in
@@ -128,7 +130,8 @@ module _ (s : List ℕ) (n : ℕ) (a b : Bool) (at depth k : ℕ) (b₀ l₀ : L
             let z₁ = w .1 in
             let g = y .opened in
             let m = y .place in
-            let others : KidsAt s (kindsFor (n - 1) b b) p (v .rest) (h .2) = subst (λ (i : ℕ). KidsAt s (kindsFor (n - 1) b b) i (v .rest) (h .2)) z₀ (v .others) in (
+            let others : KidsAt s (kindsFor (n - 1) b b) p (v .rest) (h .2) = subst
+                (λ (i : ℕ). KidsAt s (kindsFor (n - 1) b b) i (v .rest) (h .2)) z₀ (v .others) in (
               omega arith,
               record {
                 fits = y .fits;
@@ -141,16 +144,19 @@ module _ (s : List ℕ) (n : ℕ) (a b : Bool) (at depth k : ℕ) (b₀ l₀ : L
               (v .rest, h .1, h .2, others, opened-below s (h .1) b₀ b₁ depth (x .kept) (h .4)),
             )
 
-        pub kids-yes : (b₂ l₂ : List ℕ) (r : Bound) → BoundKids s (kindsFor (n - 1) b b) p depth j b₁ l₁ b₂ l₂ r → BoundKids s (kindsFor n a b) at depth k b₀ l₀ b₂ l₂ r
+        pub kids-yes : (b₂ l₂ : List ℕ) (r : Bound) → BoundKids s (kindsFor (n - 1) b b) p depth j b₁ l₁ b₂ l₂ r
+            → BoundKids s (kindsFor n a b) at depth k b₀ l₀ b₂ l₂ r
         kids-yes b₂ l₂ r rest = record { by = λ ts Γ q i o. at-cons ts Γ q (parts ts q i) o }
           where
             at-cons : (ts : Forest) (Γ : Ctx) (q : ℕ) → KidsView s n a b at ts q → Opened s Γ b₀ depth → WalkAll s ts Γ depth k q b₀ l₀ b₂ l₂ r
             at-cons ts Γ q v o =
                 let w = over ts Γ q v o in
                 let x = w .2 in
-                let others : KidsAt s (kindsFor (n - 1) b b) p (v .rest) q = subst (λ (i : ℕ). KidsAt s (kindsFor (n - 1) b b) i (v .rest) q) (w .0) (v .others) in
+                let others : KidsAt s (kindsFor (n - 1) b b) p (v .rest) q = subst
+                    (λ (i : ℕ). KidsAt s (kindsFor (n - 1) b b) i (v .rest) q) (w .0) (v .others) in
                 let u = rest .by (v .rest) Γ q others (opened-below s Γ b₀ b₁ depth (x .kept) o) in
-                let z : WalkAll s (v .rest) Γ depth (k + nodes (v .first)) q b₁ l₁ b₂ l₂ r = subst (λ (i : ℕ). WalkAll s (v .rest) Γ depth i q b₁ l₁ b₂ l₂ r) (sym (w .1)) u in
+                let z : WalkAll s (v .rest) Γ depth (k + nodes (v .first)) q b₁ l₁ b₂ l₂ r = subst
+                    (λ (i : ℕ). WalkAll s (v .rest) Γ depth i q b₁ l₁ b₂ l₂ r) (sym (w .1)) u in
                 rw (v .is) (walk-cons s (v .first) (v .rest) Γ depth k q (v .mid) b₀ l₀ b₁ l₁ b₂ l₂ r x z)
 
 -- ---- binding_ok
@@ -164,7 +170,8 @@ ready-first s l₀ f z = record {
   leaves-size = z;
 }
 
-module _ (s : List ℕ) (l₀ : List ℕ) (b₀ b₁ l₁ : List ℕ) (r : Bound) (h : (t : Tree) × IsAt s predicate 0 t (length s)) (post : BoundPost s predicate 0 0 0 b₀ l₀ b₁ l₁ r) where
+module _ (s : List ℕ) (l₀ : List ℕ) (b₀ b₁ l₁ : List ℕ) (r : Bound) (h : (t : Tree) × IsAt s predicate 0 t (length s))
+    (post : BoundPost s predicate 0 0 0 b₀ l₀ b₁ l₁ r) where
   at-root : (t : Tree) → IsAt s predicate 0 t (length s) → Walk s t [] 0 0 (length s) b₀ l₀ b₁ l₁ r
   at-root t i = post .by t [] (length s) i tt
 

@@ -49,7 +49,8 @@ opened-below s (t ∷ Γ) b c (suc n) h o =
 below-set : (b : List ℕ) (n v : ℕ) → Below n b (set b n v)
 below-set b n v i l = getD-set-other b n i v 0 (λ e. omega arith)
 
-pub opened-push : (s : List ℕ) (Γ : Ctx) (b : List ℕ) (n at : ℕ) (t : Ty) → n < length b → TyAt s at t → Opened s Γ b n → Opened s (t ∷ Γ) (set b n at) (suc n)
+pub opened-push : (s : List ℕ) (Γ : Ctx) (b : List ℕ) (n at : ℕ) (t : Ty) → n < length b → TyAt s at t → Opened s Γ b n
+    → Opened s (t ∷ Γ) (set b n at) (suc n)
 opened-push s Γ b n at t l a o =
     (subst (λ (i : ℕ). TyAt s i t) (sym (getD-set-same b n at 0 l)) a, opened-below s Γ b (set b n at) n (below-set b n at) o)
 
@@ -104,10 +105,12 @@ module _ (s : List ℕ) (at end : ℕ) (l : at < end) where
         let z = ends-at (h .0) v in
         ((v .rest, subst (λ (i : ℕ). Spans s i end (encTys (v .rest))) (sym z) (v .after), v .wf .2), omega (arith, v .past))
 
-    pub open-more : (b c : List ℕ) (depth m : ℕ) → depth < length b → OpenPost s p end (depth + 1) (set b depth at) c m → OpenPost s at end depth b c m
+    pub open-more : (b c : List ℕ) (depth m : ℕ) → depth < length b → OpenPost s p end (depth + 1) (set b depth at) c m
+        → OpenPost s at end depth b c m
     open-more b c depth m k o = record { size = o .size; kept = λ i j. o .kept i (omega arith) ∙ below-set b depth at i j; by = by }
       where
-        by : (us : List Ty) → Spans s at end (encTys us) → TysWf us → (m ≡ depth + length us) × ((Γ : Ctx) → Opened s Γ b depth → Opened s (push us Γ) c m)
+        by : (us : List Ty) → Spans s at end (encTys us) → TysWf us
+            → (m ≡ depth + length us) × ((Γ : Ctx) → Opened s Γ b depth → Opened s (push us Γ) c m)
         by us a w =
             let v = first-ty s at end us l a w in
             let z = ends-at us v in
@@ -116,13 +119,16 @@ module _ (s : List ℕ) (at end : ℕ) (l : at < end) where
             let n : m ≡ depth + length (v .u ∷ v .rest) = omega (arith, f .0) in (
               n ∙ ap (λ (ts : List Ty). depth + length ts) (sym (v .is)),
               λ Γ q.
-                  subst (λ (ts : List Ty). Opened s (push ts Γ) c m) (sym (v .is)) (f .1 (v .u ∷ Γ) (subst (Opened s (v .u ∷ Γ) (set b depth at)) y (opened-push s Γ b depth at (v .u) k (v .stands) q))),
+                  subst (λ (ts : List Ty). Opened s (push ts Γ) c m) (sym (v .is))
+                      (f .1 (v .u ∷ Γ) (subst (Opened s (v .u ∷ Γ) (set b depth at)) y
+                          (opened-push s Γ b depth at (v .u) k (v .stands) q))),
             )
 
 pub open-none : (s : List ℕ) (at end depth : ℕ) (b : List ℕ) → end ≤ at → length b ≡ 4096 → OpenPost s at end depth b b depth
 unfolding encTys
 open-none s at end depth b l k = record { size = k; kept = λ i j. refl; by = by }
   where
-    by : (us : List Ty) → Spans s at end (encTys us) → TysWf us → (depth ≡ depth + length us) × ((Γ : Ctx) → Opened s Γ b depth → Opened s (push us Γ) b depth)
+    by : (us : List Ty) → Spans s at end (encTys us) → TysWf us
+        → (depth ≡ depth + length us) × ((Γ : Ctx) → Opened s Γ b depth → Opened s (push us Γ) b depth)
     by [] a w = (omega arith, λ Γ o. o)
     by (u ∷ us) a w = absurd (omega (arith, a .long, length-append (encTy u) (encTys us), ty-long u))

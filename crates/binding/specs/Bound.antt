@@ -50,7 +50,8 @@ pub record Ready (s : List ℕ) (at depth k : ℕ) (binders leaves : List ℕ) :
 pub record OpenPost (s : List ℕ) (at end depth : ℕ) (old new : List ℕ) (r : ℕ) : Type 0 where
   pub size : length new ≡ 4096
   pub kept : Below depth old new
-  pub by : (us : List Ty) → Spans s at end (encTys us) → TysWf us → (r ≡ depth + length us) × ((Γ : Ctx) → Opened s Γ old depth → Opened s (push us Γ) new r)
+  pub by : (us : List Ty) → Spans s at end (encTys us) → TysWf us
+      → (r ≡ depth + length us) × ((Γ : Ctx) → Opened s Γ old depth → Opened s (push us Γ) new r)
 
 -- those of a node with the tag g, whose types stand from tp up to p
 pub record EnterPost (s : List ℕ) (g tp p depth : ℕ) (old new : List ℕ) (r : ℕ) : Type 0 where
@@ -79,10 +80,12 @@ pub record Walked (closed : Bool) (typed : List ℕ → Type 0) (depth k j q : �
   pub leaves-size : length l₁ ≡ 2048
 
 pub record BoundPost (s : List ℕ) (e : Sort) (at depth k : ℕ) (b₀ l₀ b₁ l₁ : List ℕ) (r : Bound) : Type 0 where
-  pub by : (t : Tree) (Γ : Ctx) (q : ℕ) → IsAt s e at t q → Opened s Γ b₀ depth → Walked (closedTree t Γ) (LeavesAt t Γ k s) depth k (k + nodes t) q b₀ l₀ b₁ l₁ r
+  pub by : (t : Tree) (Γ : Ctx) (q : ℕ) → IsAt s e at t q → Opened s Γ b₀ depth
+      → Walked (closedTree t Γ) (LeavesAt t Γ k s) depth k (k + nodes t) q b₀ l₀ b₁ l₁ r
 
 pub record BoundKids (s : List ℕ) (es : List Sort) (at depth k : ℕ) (b₀ l₀ b₁ l₁ : List ℕ) (r : Bound) : Type 0 where
-  pub by : (ts : Forest) (Γ : Ctx) (q : ℕ) → KidsAt s es at ts q → Opened s Γ b₀ depth → Walked (closedForest ts Γ) (LeavesIn ts Γ k s) depth k (k + nodesIn ts) q b₀ l₀ b₁ l₁ r
+  pub by : (ts : Forest) (Γ : Ctx) (q : ℕ) → KidsAt s es at ts q → Opened s Γ b₀ depth
+      → Walked (closedForest ts Γ) (LeavesIn ts Γ k s) depth k (k + nodesIn ts) q b₀ l₀ b₁ l₁ r
 
 -- a whole frame: whether every bound index has a binder, and then where its type stands
 pub record BindingPost (s l₀ l₁ : List ℕ) (r : Bool) : Type 0 where

@@ -26,7 +26,8 @@ module _ (k : ℕ) (kept : List ℕ) (d : Decision) (s : List ℕ) (n : ℕ) (st
     asked : BuildPre (OfDecision k kept d) s n st nx leaves → BuildPre N s n st nx leaves
     asked p = record { t = p .t; table = p .table; held = p .held; c = p .c; means = turn (p .t) (p .c) (p .means) }
 
-    answered : (o : List ℕ) (at : ℕ) (q : List ℕ) (r : ℕ) → BuildPost N s n st nx leaves o at q r → BuildPost (OfDecision k kept d) s n st nx leaves o at q r
+    answered : (o : List ℕ) (at : ℕ) (q : List ℕ) (r : ℕ) → BuildPost N s n st nx leaves o at q r
+        → BuildPost (OfDecision k kept d) s n st nx leaves o at q r
     answered o at q r b = record { puts = λ t c p new tb h w ans. b .puts t c p new tb h (turn t c w) ans }
 
   pub build-rests : d ≡ D.Rests → (o : List ℕ) (at : ℕ) → BuildPost (OfDecision k kept d) s n st nx leaves o at o at
@@ -36,15 +37,18 @@ module _ (k : ℕ) (kept : List ℕ) (d : Decision) (s : List ℕ) (n : ℕ) (st
     fixed-of : (t : Tree) (c : Change) → OfDecision k kept d t c → FixedMeans t place pattern first second binder c
     fixed-of t c w = as-is (D.Fixed place pattern first second binder) e t c w
 
-    fill-at : (t : Tree) (c : Change) (m : FixedMeans t place pattern first second binder c) → FillAt t pattern first second binder (m .Δ) (m .a) (m .b) (m .us)
-    fill-at t c m = record { at-first = m .at-first; at-second = m .at-second; Θ = m .Θ; g = m .g; x = m .n; ks = m .ks; at-binder = m .at-binder; bound = m .bound }
+    fill-at : (t : Tree) (c : Change) (m : FixedMeans t place pattern first second binder c)
+        → FillAt t pattern first second binder (m .Δ) (m .a) (m .b) (m .us)
+    fill-at t c m = record { at-first = m .at-first; at-second = m .at-second; Θ = m .Θ; g = m .g; x = m .n; ks = m .ks;
+          at-binder = m .at-binder; bound = m .bound }
 
     pub fixed-asked : BuildPre (OfDecision k kept d) s n st nx leaves → FillPre s n st nx leaves pattern first second binder
     fixed-asked p =
         let m = fixed-of (p .t) (p .c) (p .means) in
         record { t = p .t; table = p .table; held = p .held; Δ = m .Δ; a = m .a; b = m .b; us = m .us; places = fill-at (p .t) (p .c) m }
 
-    pub fixed-answered : (o : List ℕ) (at : ℕ) (q : List ℕ) (r : ℕ) → FillPost s n st nx leaves pattern first second binder o at q r → BuildPost (OfDecision k kept d) s n st nx leaves o at q r
+    pub fixed-answered : (o : List ℕ) (at : ℕ) (q : List ℕ) (r : ℕ) → FillPost s n st nx leaves pattern first second binder o at q r
+        → BuildPost (OfDecision k kept d) s n st nx leaves o at q r
     fixed-answered o at q r b =
         record {
           puts = λ t c p new tb h w ans.
@@ -57,7 +61,8 @@ module _ (k : ℕ) (kept : List ℕ) (d : Decision) (s : List ℕ) (n : ℕ) (st
     pub each-asked : BuildPre (OfDecision k kept d) s n st nx leaves → BuildPre (OfEach place at binder) s n st nx leaves
     each-asked = asked (OfEach place at binder) (λ t c w. as-is (D.Each place at binder) e t c w)
 
-    pub each-answered : (o : List ℕ) (i : ℕ) (q : List ℕ) (r : ℕ) → BuildPost (OfEach place at binder) s n st nx leaves o i q r → BuildPost (OfDecision k kept d) s n st nx leaves o i q r
+    pub each-answered : (o : List ℕ) (i : ℕ) (q : List ℕ) (r : ℕ) → BuildPost (OfEach place at binder) s n st nx leaves o i q r
+        → BuildPost (OfDecision k kept d) s n st nx leaves o i q r
     each-answered = answered (OfEach place at binder) (λ t c w. as-is (D.Each place at binder) e t c w)
 
   module _ (m : ℕ) (e : d ≡ D.Kept m) where
@@ -67,19 +72,22 @@ module _ (k : ℕ) (kept : List ℕ) (d : Decision) (s : List ℕ) (n : ℕ) (st
     pub kept-asked : BuildPre (OfDecision k kept d) s n st nx leaves → BuildPre (OfKept k kept m) s n st nx leaves
     kept-asked = asked (OfKept k kept m) of-kept
 
-    pub kept-answered : (o : List ℕ) (i : ℕ) (q : List ℕ) (r : ℕ) → BuildPost (OfKept k kept m) s n st nx leaves o i q r → BuildPost (OfDecision k kept d) s n st nx leaves o i q r
+    pub kept-answered : (o : List ℕ) (i : ℕ) (q : List ℕ) (r : ℕ) → BuildPost (OfKept k kept m) s n st nx leaves o i q r
+        → BuildPost (OfDecision k kept d) s n st nx leaves o i q r
     kept-answered = answered (OfKept k kept m) of-kept
 
   module _ (at single : ℕ) (e : d ≡ D.Apart at single) where
     pub apart-asked : BuildPre (OfDecision k kept d) s n st nx leaves → BuildPre (OfApart at single) s n st nx leaves
     apart-asked = asked (OfApart at single) (λ t c w. as-is (D.Apart at single) e t c w)
 
-    pub apart-answered : (o : List ℕ) (i : ℕ) (q : List ℕ) (r : ℕ) → BuildPost (OfApart at single) s n st nx leaves o i q r → BuildPost (OfDecision k kept d) s n st nx leaves o i q r
+    pub apart-answered : (o : List ℕ) (i : ℕ) (q : List ℕ) (r : ℕ) → BuildPost (OfApart at single) s n st nx leaves o i q r
+        → BuildPost (OfDecision k kept d) s n st nx leaves o i q r
     apart-answered = answered (OfApart at single) (λ t c w. as-is (D.Apart at single) e t c w)
 
   module _ (at : ℕ) (e : d ≡ D.Within at) where
     pub within-asked : BuildPre (OfDecision k kept d) s n st nx leaves → BuildPre (OfWithin at) s n st nx leaves
     within-asked = asked (OfWithin at) (λ t c w. as-is (D.Within at) e t c w)
 
-    pub within-answered : (o : List ℕ) (i : ℕ) (q : List ℕ) (r : ℕ) → BuildPost (OfWithin at) s n st nx leaves o i q r → BuildPost (OfDecision k kept d) s n st nx leaves o i q r
+    pub within-answered : (o : List ℕ) (i : ℕ) (q : List ℕ) (r : ℕ) → BuildPost (OfWithin at) s n st nx leaves o i q r
+        → BuildPost (OfDecision k kept d) s n st nx leaves o i q r
     within-answered = answered (OfWithin at) (λ t c w. as-is (D.Within at) e t c w)

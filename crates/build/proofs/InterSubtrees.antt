@@ -62,7 +62,8 @@ module _ (s : List ℕ) (n : ℕ) (st nx : List ℕ) (t : Tree) (tb : Table s t 
 
 -- ---- a tree of operators over lists as bytes
 -- one operand stands alone
-joined-bytes : (g : ℕ) → ((ks : Forest) → enc (many g ks) ≡ encNumber 2 g ++ (count ks ∷ encs ks)) → (ks : Forest) → enc (joined g ks) ≡ joinedBytes g (count ks) ++ encs ks
+joined-bytes : (g : ℕ) → ((ks : Forest) → enc (many g ks) ≡ encNumber 2 g ++ (count ks ∷ encs ks)) → (ks : Forest)
+    → enc (joined g ks) ≡ joinedBytes g (count ks) ++ encs ks
 unfolding enc
 joined-bytes g h nil = h nil ∙ sym (many-then g 0 [])
 joined-bytes g h (cons a nil) = sym (append-nil (enc a))
@@ -81,14 +82,17 @@ two-bytes g es h a b = plain-bytes g (pair a b) es h ∙ ap (λ (l : List ℕ). 
 
 -- ---- rows as trees
 -- no child before or behind place k is at it
-row-before : (k c : ℕ) (left right : Forest) → c + nodesIn left ≤ k → rowOf (Besides k) c (append left right) ≡ encs left ++ rowOf (Besides k) (c + nodesIn left) right
+row-before : (k c : ℕ) (left right : Forest) → c + nodesIn left ≤ k
+    → rowOf (Besides k) c (append left right) ≡ encs left ++ rowOf (Besides k) (c + nodesIn left) right
 unfolding rowOf enc nodes
 row-before k c nil right h = let z : c + 0 ≡ c = omega arith in rw z refl
 row-before k c (cons w left) right h =
     let a = some-node w in
     let z : eqb c k ≡ false = ne-eqb c k (λ e. omega arith) in
     let y : c + nodes w + nodesIn left ≡ c + (nodes w + nodesIn left) = omega arith in
-    rw z (ap (λ (l : List ℕ). enc w ++ l) (row-before k (c + nodes w) left right (omega arith) ∙ ap (λ (i : ℕ). encs left ++ rowOf (Besides k) i right) y) ∙ sym (append-assoc (enc w) (encs left) (rowOf (Besides k) (c + (nodes w + nodesIn left)) right)))
+    rw z (ap (λ (l : List ℕ). enc w ++ l) (row-before k (c + nodes w) left right (omega arith) ∙ ap
+            (λ (i : ℕ). encs left ++ rowOf (Besides k) i right) y) ∙ sym
+          (append-assoc (enc w) (encs left) (rowOf (Besides k) (c + (nodes w + nodesIn left)) right)))
 
 row-behind : (k c : ℕ) (right : Forest) → k < c → rowOf (Besides k) c right ≡ encs right
 unfolding rowOf enc
@@ -98,12 +102,14 @@ row-behind k c (cons w right) h =
     rw z (ap (λ (l : List ℕ). enc w ++ l) (row-behind k (c + nodes w) right (omega arith)))
 
 -- all but the one at place k
-row-besides : (k c : ℕ) (left : Forest) (w : Tree) (right : Forest) → k ≡ c + nodesIn left → rowOf (Besides k) c (append left (cons w right)) ≡ encs (append left right)
+row-besides : (k c : ℕ) (left : Forest) (w : Tree) (right : Forest) → k ≡ c + nodesIn left
+    → rowOf (Besides k) c (append left (cons w right)) ≡ encs (append left right)
 unfolding rowOf
 row-besides k c left w right e =
     let a = some-node w in
     let z : eqb (c + nodesIn left) k ≡ true = eq-eqb (c + nodesIn left) k (sym e) in
-    row-before k c left (cons w right) (omega arith) ∙ rw z (ap (λ (l : List ℕ). encs left ++ l) (row-behind k (c + nodesIn left + nodes w) right (omega arith)) ∙ sym (encs-append left right))
+    row-before k c left (cons w right) (omega arith) ∙ rw z
+        (ap (λ (l : List ℕ). encs left ++ l) (row-behind k (c + nodesIn left + nodes w) right (omega arith)) ∙ sym (encs-append left right))
 
 row-minuends : (c : ℕ) (ks : Forest) → rowOf Minuend c ks ≡ encs (minuends ks)
 unfolding rowOf minuends enc
@@ -128,7 +134,8 @@ row-subtrahends c (cons w ks) =
 
 -- ---- build_apart
 -- the operand at a place of a row
-row-at : (t : Tree) (c : ℕ) (Γ : Ctx) (left : Forest) (w : Tree) (right : Forest) → RowAt t c Γ (append left (cons w right)) → find t [] (c + nodesIn left) ≡ found Γ w
+row-at : (t : Tree) (c : ℕ) (Γ : Ctx) (left : Forest) (w : Tree) (right : Forest) → RowAt t c Γ (append left (cons w right))
+    → find t [] (c + nodesIn left) ≡ found Γ w
 unfolding nodes
 row-at t c Γ nil w right r = let z : c + 0 ≡ c = omega arith in ap (find t []) z ∙ kid-first t [] c Γ w right r
 row-at t c Γ (cons v left) w right r =
@@ -140,7 +147,8 @@ module _ (at single : ℕ) (s : List ℕ) (n : ℕ) (st nx leaves : List ℕ) wh
   operands t c w = append (w .left) (cons (many #SetExt (sole (w .a))) (w .right))
 
   member-at : (t : Tree) (c : Change) → Table s t st nx n → (w : ApartMeans t at single c)
-      → (find t [] single ≡ found (under #BInter (w .vs) (w .Ξ)) (many #SetExt (sole (w .a)))) × (find t [] (single + 1) ≡ found (under #SetExt [] (under #BInter (w .vs) (w .Ξ))) (w .a))
+      → (find t [] single ≡ found (under #BInter (w .vs) (w .Ξ)) (many #SetExt (sole (w .a))))
+          × (find t [] (single + 1) ≡ found (under #SetExt [] (under #BInter (w .vs) (w .Ξ))) (w .a))
   member-at t c tb w =
       let r = inter-row s n st nx t tb at (w .Ξ) (w .n) (w .vs) (operands t c w) (w .at-node) in
       let f = row-at t (at + 1) (under #BInter (w .vs) (w .Ξ)) (w .left) (many #SetExt (sole (w .a))) (w .right) r in
@@ -154,7 +162,8 @@ module _ (at single : ℕ) (s : List ℕ) (n : ℕ) (st nx leaves : List ℕ) wh
   apart-few p = (place-few (p .table) (p .means .at-node), place-few (p .table) (member-at (p .t) (p .c) (p .table) (p .means) .0))
 
   pub apart-member : BuildPre (OfApart at single) s n st nx leaves → PlacedIn s n st nx (single + 1)
-  apart-member p = record { t = p .t; table = p .table; below = find-lt (p .t) [] (single + 1) _ _ (member-at (p .t) (p .c) (p .table) (p .means) .1) }
+  apart-member p = record { t = p .t; table = p .table; below = find-lt (p .t) [] (single + 1) _ _
+        (member-at (p .t) (p .c) (p .table) (p .means) .1) }
 
   module _ (m : ℕ) (pm : ChildrenPost s st at m) where
     pub apart-many : BuildPre (OfApart at single) s n st nx leaves → (2 ≤ m) × (m ≤ 255)
@@ -163,9 +172,10 @@ module _ (at single : ℕ) (s : List ℕ) (n : ℕ) (st nx leaves : List ℕ) wh
     pub apart-row : BuildPre (OfApart at single) s n st nx leaves → RowPre s n st nx (at + 1) m
     apart-row p = inter-pre s n st nx (p .t) (p .table) at _ _ _ _ (p .means .at-node) m pm
 
-    pub apart-built : (o₀ : List ℕ) (i₀ : ℕ) (o₁ : List ℕ) (i₁ : ℕ) → Puts o₀ i₀ o₁ i₁ (encNumber 2 #Not) → (o₂ : List ℕ) (i₂ : ℕ) → Puts o₁ i₁ o₂ i₂ (encNumber 2 #In)
-        → (o₃ : List ℕ) (i₃ : ℕ) → CopyPost s n st nx (single + 1) o₂ i₂ o₃ i₃ → (o₄ : List ℕ) (i₄ : ℕ) → Puts o₃ i₃ o₄ i₄ (joinedBytes #BInter (m - 1))
-        → (o₅ : List ℕ) (i₅ : ℕ) → RowPost s n st nx (at + 1) m (Besides single) o₄ i₄ o₅ i₅ → BuildPost (OfApart at single) s n st nx leaves o₀ i₀ o₅ i₅
+    pub apart-built : (o₀ : List ℕ) (i₀ : ℕ) (o₁ : List ℕ) (i₁ : ℕ) → Puts o₀ i₀ o₁ i₁ (encNumber 2 #Not) → (o₂ : List ℕ) (i₂ : ℕ)
+        → Puts o₁ i₁ o₂ i₂ (encNumber 2 #In) → (o₃ : List ℕ) (i₃ : ℕ) → CopyPost s n st nx (single + 1) o₂ i₂ o₃ i₃ → (o₄ : List ℕ) (i₄ : ℕ)
+        → Puts o₃ i₃ o₄ i₄ (joinedBytes #BInter (m - 1)) → (o₅ : List ℕ) (i₅ : ℕ)
+        → RowPost s n st nx (at + 1) m (Besides single) o₄ i₄ o₅ i₅ → BuildPost (OfApart at single) s n st nx leaves o₀ i₀ o₅ i₅
     unfolding lookup classOf formAt
     apart-built o₀ i₀ o₁ i₁ h₁ o₂ i₂ h₂ o₃ i₃ h₃ o₄ i₄ h₄ o₅ i₅ h₅ =
         record {
@@ -178,10 +188,14 @@ module _ (at single : ℕ) (s : List ℕ) (n : ℕ) (st nx leaves : List ℕ) wh
               let x₃ = h₃ .puts t _ (w .a) tb (member-at t c tb w .1) in
               let x₅ = puts-as o₄ i₄ o₅ i₅ _ _ (row-besides single (at + 1) (w .left) (many #SetExt (sole (w .a))) (w .right) (w .there))
               (h₅ .puts t (under #BInter (w .vs) (w .Ξ)) (operands t c w) tb r e) in
-              let z : m - 1 ≡ count rest = omega (arith, count-append (w .left) (cons (many #SetExt (sole (w .a))) (w .right)), count-append (w .left) (w .right)) in
+              let z : m - 1 ≡ count rest = omega (arith, count-append (w .left)
+                    (cons (many #SetExt (sole (w .a))) (w .right)), count-append (w .left) (w .right)) in
               let x₄ = puts-as o₃ i₃ o₄ i₄ _ _ (ap (joinedBytes #BInter) z) h₄ in
-              let x = puts-then o₀ i₀ o₁ i₁ o₅ i₅ _ _ h₁ (puts-then o₁ i₁ o₂ i₂ o₅ i₅ _ _ h₂ (puts-then o₂ i₂ o₃ i₃ o₅ i₅ _ _ x₃ (puts-then o₃ i₃ o₄ i₄ o₅ i₅ _ _ x₄ x₅))) in
-              puts-as o₀ i₀ o₅ i₅ _ _ (sym (not-bytes (two #In (w .a) b) ∙ ap (λ (l : List ℕ). encNumber 2 #Not ++ l) (two-bytes #In _ refl (w .a) b ∙ ap (λ (l : List ℕ). encNumber 2 #In ++ (enc (w .a) ++ l)) (joined-bytes #BInter inter-bytes rest))) ∙ y) x);
+              let x = puts-then o₀ i₀ o₁ i₁ o₅ i₅ _ _ h₁ (puts-then o₁ i₁ o₂ i₂ o₅ i₅ _ _ h₂
+                    (puts-then o₂ i₂ o₃ i₃ o₅ i₅ _ _ x₃ (puts-then o₃ i₃ o₄ i₄ o₅ i₅ _ _ x₄ x₅))) in
+              puts-as o₀ i₀ o₅ i₅ _ _ (sym (not-bytes (two #In (w .a) b) ∙ ap (λ (l : List ℕ). encNumber 2 #Not ++ l)
+                      (two-bytes #In _ refl (w .a) b ∙ ap (λ (l : List ℕ). encNumber 2 #In ++ (enc (w .a) ++ l))
+                        (joined-bytes #BInter inter-bytes rest))) ∙ y) x);
         }
 
 -- ---- build_within
@@ -199,10 +213,10 @@ module _ (at : ℕ) (s : List ℕ) (n : ℕ) (st nx leaves : List ℕ) where
     pub within-row : BuildPre (OfWithin at) s n st nx leaves → RowPre s n st nx (at + 1) m
     within-row p = inter-pre s n st nx (p .t) (p .table) at _ _ _ _ (p .means .at-node) m pm
 
-    pub within-built : (o₀ : List ℕ) (i₀ : ℕ) (o₁ : List ℕ) (i₁ : ℕ) → Puts o₀ i₀ o₁ i₁ (encNumber 2 #SubsetEq) → (o₂ : List ℕ) (i₂ : ℕ) → Puts o₁ i₁ o₂ i₂ (joinedBytes #BInter m)
-        → (o₃ : List ℕ) (i₃ : ℕ) → RowPost s n st nx (at + 1) m Minuend o₂ i₂ o₃ i₃ → (d : ℕ) → MinusRowPost s n st nx (at + 1) m d
-        → (o₄ : List ℕ) (i₄ : ℕ) → Puts o₃ i₃ o₄ i₄ (joinedBytes #BUnion d)
-        → (o₅ : List ℕ) (i₅ : ℕ) → RowPost s n st nx (at + 1) m Subtrahend o₄ i₄ o₅ i₅ → BuildPost (OfWithin at) s n st nx leaves o₀ i₀ o₅ i₅
+    pub within-built : (o₀ : List ℕ) (i₀ : ℕ) (o₁ : List ℕ) (i₁ : ℕ) → Puts o₀ i₀ o₁ i₁ (encNumber 2 #SubsetEq) → (o₂ : List ℕ) (i₂ : ℕ)
+        → Puts o₁ i₁ o₂ i₂ (joinedBytes #BInter m) → (o₃ : List ℕ) (i₃ : ℕ) → RowPost s n st nx (at + 1) m Minuend o₂ i₂ o₃ i₃ → (d : ℕ)
+        → MinusRowPost s n st nx (at + 1) m d → (o₄ : List ℕ) (i₄ : ℕ) → Puts o₃ i₃ o₄ i₄ (joinedBytes #BUnion d) → (o₅ : List ℕ) (i₅ : ℕ)
+        → RowPost s n st nx (at + 1) m Subtrahend o₄ i₄ o₅ i₅ → BuildPost (OfWithin at) s n st nx leaves o₀ i₀ o₅ i₅
     unfolding lookup classOf formAt
     within-built o₀ i₀ o₁ i₁ h₁ o₂ i₂ h₂ o₃ i₃ h₃ d pd o₄ i₄ h₄ o₅ i₅ h₅ =
         record {
@@ -219,6 +233,8 @@ module _ (at : ℕ) (s : List ℕ) (n : ℕ) (st nx leaves : List ℕ) where
               let x₄ = puts-as o₃ i₃ o₄ i₄ _ _ (ap (joinedBytes #BUnion) (pd .counts t Γ ks tb r e)) h₄ in
               let x₅ = puts-as o₄ i₄ o₅ i₅ _ _ (row-subtrahends (at + 1) ks) (h₅ .puts t Γ ks tb r e) in
               let first = puts-as o₁ i₁ o₃ i₃ _ _ (sym (joined-bytes #BInter inter-bytes (minuends ks))) (puts-then o₁ i₁ o₂ i₂ o₃ i₃ _ _ x₂ x₃) in
-              let second = puts-as o₃ i₃ o₅ i₅ _ _ (sym (joined-bytes #BUnion union-bytes (subtrahends ks))) (puts-then o₃ i₃ o₄ i₄ o₅ i₅ _ _ x₄ x₅) in
-              puts-as o₀ i₀ o₅ i₅ _ _ (sym (two-bytes #SubsetEq _ refl a b) ∙ y) (puts-then o₀ i₀ o₁ i₁ o₅ i₅ _ _ h₁ (puts-then o₁ i₁ o₃ i₃ o₅ i₅ _ _ first second)));
+              let second = puts-as o₃ i₃ o₅ i₅ _ _ (sym (joined-bytes #BUnion union-bytes (subtrahends ks)))
+                  (puts-then o₃ i₃ o₄ i₄ o₅ i₅ _ _ x₄ x₅) in
+              puts-as o₀ i₀ o₅ i₅ _ _ (sym (two-bytes #SubsetEq _ refl a b) ∙ y)
+                  (puts-then o₀ i₀ o₁ i₁ o₅ i₅ _ _ h₁ (puts-then o₁ i₁ o₃ i₃ o₅ i₅ _ _ first second)));
         }

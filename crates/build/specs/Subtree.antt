@@ -60,8 +60,10 @@ pub record BuildPre (M : Tree → Change → Type 0) (s : List ℕ) (n : ℕ) (s
   pub means : M t c
 
 -- then the bytes of the tree that it answers are written
-pub record BuildPost (M : Tree → Change → Type 0) (s : List ℕ) (n : ℕ) (st nx leaves : List ℕ) (o : List ℕ) (at : ℕ) (p : List ℕ) (r : ℕ) : Type 0 where
-  pub puts : (t : Tree) (c : Change) (place : ℕ) (new : Tree) → Table s t st nx n → Held s st leaves n t → M t c → c ≡ to place new → Puts o at p r (enc new)
+pub record BuildPost (M : Tree → Change → Type 0) (s : List ℕ) (n : ℕ) (st nx leaves : List ℕ) (o : List ℕ) (at : ℕ)
+    (p : List ℕ) (r : ℕ) : Type 0 where
+  pub puts : (t : Tree) (c : Change) (place : ℕ) (new : Tree) → Table s t st nx n → Held s st leaves n t → M t c → c ≡ to place new
+      → Puts o at p r (enc new)
 
 abbrev pub OfEach : ℕ → ℕ → ℕ → Tree → Change → Type 0
 OfEach place at binder t c = EachMeans t place at binder c

@@ -57,7 +57,8 @@ abbrev pub isTyped : Typed → Bool
 isTyped (T.Is n) = true
 isTyped T.Bad = false
 
-pub typed-by : (s leaves types : List ℕ) (r : Typed) → Bytes s → TypedPre s leaves → Roomy s types → TypePost s 0 0 leaves types r → (b : Bool) → b ≡ isTyped r → TypedPost s leaves b
+pub typed-by : (s leaves types : List ℕ) (r : Typed) → Bytes s → TypedPre s leaves → Roomy s types → TypePost s 0 0 leaves types r
+    → (b : Bool) → b ≡ isTyped r → TypedPost s leaves b
 typed-by s leaves types r bs p l q b e = record { answer = λ t h k. e ∙ go t r (q .answer predicate t (length s) [] h k (room t h) (buffer t h)) }
   where
     room : (t : Tree) → IsAt s predicate 0 t (length s) → 0 + nodes t ≤ 2048

@@ -23,8 +23,8 @@ pub record Child (nx : List ℕ) (t : Tree) (Θ : Ctx) (rest : Forest) (c : ℕ)
   pub below : KidsAtPlace t [] (getD nx c 0) Θ others
   pub past : getD nx c 0 ≡ c + nodes w
 
-pub child-of : (s st nx : List ℕ) (t : Tree) (n : ℕ) → Table s t st nx n → (Θ : Ctx) (rest : Forest) (c : ℕ) → KidsAtPlace t [] c Θ rest → 0 < count rest
-    → Child nx t Θ rest c
+pub child-of : (s st nx : List ℕ) (t : Tree) (n : ℕ) → Table s t st nx n → (Θ : Ctx) (rest : Forest) (c : ℕ) → KidsAtPlace t [] c Θ rest
+    → 0 < count rest → Child nx t Θ rest c
 child-of s st nx t n tb Θ nil c b h = absurd (omega arith)
 child-of s st nx t n tb Θ (cons w ks) c b h =
     let r = child-next t nx 0 (tb .follows) c Θ w ks (omega arith) b in
@@ -34,11 +34,13 @@ child-of s st nx t n tb Θ (cons w ks) c b h =
 module _ (s st nx : List ℕ) (k : ℕ) where
   -- what is said of each node that may stand there
   abbrev pub EachNode : (Forest → Type 0) → Type 0
-  EachNode Z = (t : Tree) (n : ℕ) (Γ : Ctx) (g x : ℕ) (us : List Ty) (ks : Forest) → Table s t st nx n → find t [] k ≡ found Γ (node (head g x us) ks) → Z ks
+  EachNode Z = (t : Tree) (n : ℕ) (Γ : Ctx) (g x : ℕ) (us : List Ty) (ks : Forest) → Table s t st nx n
+      → find t [] k ≡ found Γ (node (head g x us) ks) → Z ks
 
   -- a child is left where not all are behind
-  pub child-left : (r : ℕ) → ChildrenPost s st k r → (c i : ℕ) → i < r → (t : Tree) (n : ℕ) (Γ : Ctx) (g x : ℕ) (us : List Ty) (ks : Forest) → Table s t st nx n
-      → find t [] k ≡ found Γ (node (head g x us) ks) → (rest : Forest) → KidsAtPlace t [] c (under g us Γ) rest → i + count rest ≡ count ks → Child nx t (under g us Γ) rest c
+  pub child-left : (r : ℕ) → ChildrenPost s st k r → (c i : ℕ) → i < r → (t : Tree) (n : ℕ) (Γ : Ctx) (g x : ℕ) (us : List Ty) (ks : Forest)
+      → Table s t st nx n → find t [] k ≡ found Γ (node (head g x us) ks) → (rest : Forest) → KidsAtPlace t [] c (under g us Γ) rest
+      → i + count rest ≡ count ks → Child nx t (under g us Γ) rest c
   child-left r many c i h t n Γ g x us ks tb f rest below done =
       let z : r ≡ count ks = many .many t n Γ (node (head g x us) ks) (tb .framed) f in
       child-of s st nx t n tb (under g us Γ) rest c below (omega (arith, done))
@@ -83,7 +85,8 @@ module _ (s st nx : List ℕ) (k : ℕ) where
               rest = d .others;
               below = rw en (d .below);
               done = omega (arith, q .done);
-              keeps = rw (en, d .past) (step ks (d .w) (d .others) (known t n (under g us Γ) (d .w) (tb .framed) (d .there)) (rw (d .is) at (q .keeps)));
+              keeps = rw (en, d .past) (step ks (d .w) (d .others) (known t n (under g us Γ) (d .w) (tb .framed) (d .there))
+                    (rw (d .is) at (q .keeps)));
             }
 
         pub walk-stop : (Z : Forest → Type 0) → ((ks : Forest) (w : Tree) (others : Forest) → R w → P ks c (cons w others) → Z ks) → EachNode Z

@@ -18,7 +18,8 @@ use Rattle.decision.specs.declared.Decision.{Decision}
 use Rattle.decision.specs.declared.Decision.the-variants as D
 use Rattle.decision.proofs.Bridges.{imp-parts}
 
-pub or-first : (t x : Tree) (Ξ : Ctx) (kept : List ℕ) (d : Decision) (c e : Change) → isRests d ≡ false → Means t x Ξ kept d c → Means t x Ξ kept d (c orElse e)
+pub or-first : (t x : Tree) (Ξ : Ctx) (kept : List ℕ) (d : Decision) (c e : Change) → isRests d ≡ false → Means t x Ξ kept d c
+    → Means t x Ξ kept d (c orElse e)
 or-first t x Ξ kept D.Rests c e h m = let z : _≡_ {A = ℕ} 0 1 = cc in absurd (omega arith)
 or-first t x Ξ kept (D.Fixed place pattern first second binder) c e h m = rw (m .answer) (rw (m .answer) at m)
 or-first t x Ξ kept (D.Each place node binder) c e h m = rw (m .answer) (rw (m .answer) at m)
@@ -47,7 +48,8 @@ module _ (s st nx : List ℕ) (a b : ℕ) where
 
   module _ (f g : Ctx → Tree → Tree → Change) (d : Decision) (pd : DecidesPair f s st nx a b d) where
     pub series-first : isRests d ≡ false → DecidesPair (λ Γ v w. f Γ v w orElse g Γ v w) s st nx a b d
-    series-first h = record { means = λ t n Γ v w tb fa fb x Ξ kept. or-first t x Ξ kept d (f Γ v w) (g Γ v w) h (pd .means t n Γ v w tb fa fb x Ξ kept) }
+    series-first h = record { means = λ t n Γ v w tb fa fb x Ξ kept. or-first t x Ξ kept d (f Γ v w) (g Γ v w) h
+          (pd .means t n Γ v w tb fa fb x Ξ kept) }
 
     pub series-next : isRests d ≡ true → (e : Decision) → DecidesPair g s st nx a b e → DecidesPair (λ Γ v w. f Γ v w orElse g Γ v w) s st nx a b e
     series-next h e pe = record {
@@ -57,11 +59,13 @@ module _ (s st nx : List ℕ) (a b : ℕ) where
 
 -- ---- ⇒
 module _ (s st nx : List ℕ) (a b : ℕ) where
-  imp : (d : Decision) → DecidesPair (λ Γ v w. impFirst v w orElse (impAnd v w orElse impLast v w)) s st nx a b d → DecidesTwo simplifyImp s st nx a b d
+  imp : (d : Decision) → DecidesPair (λ Γ v w. impFirst v w orElse (impAnd v w orElse impLast v w)) s st nx a b d
+      → DecidesTwo simplifyImp s st nx a b d
   imp d p = same-rule s st nx a b (λ Γ v w. impFirst v w orElse (impAnd v w orElse impLast v w)) (λ Γ. simplifyImp) (λ Γ. imp-parts) d p
 
   module _ (d : Decision) (pd : DecidesTwo impFirst s st nx a b d) where
-    next : isRests d ≡ true → (e : Decision) → DecidesPair (λ Γ v w. impAnd v w orElse impLast v w) s st nx a b e → DecidesTwo simplifyImp s st nx a b e
+    next : isRests d ≡ true → (e : Decision) → DecidesPair (λ Γ v w. impAnd v w orElse impLast v w) s st nx a b e
+        → DecidesTwo simplifyImp s st nx a b e
     next h e p = imp e (series-next s st nx a b (λ Γ. impFirst) (λ Γ v w. impAnd v w orElse impLast v w) d pd h e p)
 
     pub imp-first : isRests d ≡ false → DecidesTwo simplifyImp s st nx a b d
@@ -75,7 +79,8 @@ module _ (s st nx : List ℕ) (a b : ℕ) where
       imp-last i r p = next h r (series-next s st nx a b (λ Γ. impAnd) (λ Γ. impLast) e pe i r p)
 
 -- a decision that does not rest stands for a tree
-pub changes : (t v : Tree) (Γ : Ctx) (kp : List ℕ) (x : Decision) (c : Change) → isRests x ≡ false → Means t v Γ kp x c → (place : ℕ) × ((new : Tree) × (c ≡ to place new))
+pub changes : (t v : Tree) (Γ : Ctx) (kp : List ℕ) (x : Decision) (c : Change) → isRests x ≡ false → Means t v Γ kp x c
+    → (place : ℕ) × ((new : Tree) × (c ≡ to place new))
 changes t v Γ kp D.Rests c h m = true-not (sym h)
 changes t v Γ kp (D.Fixed a b e f g) c h m = (a, (m .new, m .answer))
 changes t v Γ kp (D.Each a b e) c h m = (a, (m .new, m .answer))

@@ -120,7 +120,8 @@ pub fixed-at : (t : Tree) (place pattern : ℕ) (c : Change) (new : Tree) → c 
     → (i j k : ℕ) (Δ Θ : Ctx) (a b v : Tree) → find t [] i ≡ found Δ a → find t [] j ≡ found Δ b → find t [] k ≡ found Θ v
     → Bound pattern (tagOf v) → enc new ≡ filled (template pattern) (filling Δ a b (ownTypes v)) → FixedMeans t place pattern i j k c
 fixed-at t place pattern c new ans i j k Δ Θ a b (node (head g n us) ks) fi fj fk bd e =
-    record { new = new; answer = ans; Δ = Δ; a = a; b = b; at-first = fi; at-second = fj; Θ = Θ; g = g; n = n; us = us; ks = ks; at-binder = fk; bound = bd; bytes = e }
+    record { new = new; answer = ans; Δ = Δ; a = a; b = b; at-first = fi; at-second = fj; Θ = Θ; g = g; n = n; us = us; ks = ks;
+          at-binder = fk; bound = bd; bytes = e }
 
 -- a pattern that takes no binders goes with any node
 pub unbound : (p g : ℕ) → (ltb p 88 && not (takesBinders p)) ≡ true → Bound p g
@@ -174,7 +175,8 @@ module _ (rule : Ctx → Tree → Change) (s st nx : List ℕ) (k tag : ℕ) (pt
     tag-is key {t} {n} {Γ} {v} tb f = sym (pt .tag t n Γ v (tb .framed) f) ∙ key
 
     -- the right side has no operand, or the node itself is its operand
-    pub by-node : ((Γ : Ctx) (n : ℕ) (us : List Ty) (ks : Forest) → rule Γ (node (head g n us) ks) ≡ to place (side place Γ (node (head g n us) ks) (node (head g n us) ks) us))
+    pub by-node : ((Γ : Ctx) (n : ℕ) (us : List Ty) (ks : Forest)
+          → rule Γ (node (head g n us) ks) ≡ to place (side place Γ (node (head g n us) ks) (node (head g n us) ks) us))
         → OfNode rule s st nx k tag g place
     by-node ans key r er =
         record {
@@ -183,7 +185,8 @@ module _ (rule : Ctx → Tree → Change) (s st nx : List ℕ) (k tag : ℕ) (pt
               let x : Tree = node (head g (o .n) (o .us)) (o .ks) in
               let fx : find t [] k ≡ found Γ x = f ∙ ap (found Γ) (o .is) in
               rw (er, o .is)
-              (fixed-at t place place (rule Γ x) (side place Γ x x (o .us)) (ans Γ (o .n) (o .us) (o .ks)) k k k Γ Γ x x x fx fx fx bd (sym (right-side place has Γ x x (o .us))));
+              (fixed-at t place place (rule Γ x) (side place Γ x x (o .us)) (ans Γ (o .n) (o .us) (o .ks)) k k k Γ Γ x x x fx fx fx bd
+                    (sym (right-side place has Γ x x (o .us))));
         }
 
     -- its operand is the child
@@ -199,12 +202,14 @@ module _ (rule : Ctx → Tree → Change) (s st nx : List ℕ) (k tag : ℕ) (pt
               let fa = only-child t nx (tb .follows) k Γ g (o .n) (o .us) (o .a) fx in
               let Δ : Ctx = under g (o .us) Γ in
               rw (er, o .is)
-              (fixed-at t place place (rule Γ x) (side place Δ (o .a) (o .a) (o .us)) (ans Γ (o .n) (o .us) (o .a)) (k + 1) (k + 1) k Δ Γ (o .a) (o .a) x fa fa fx bd (sym (right-side place has Δ (o .a) (o .a) (o .us))));
+              (fixed-at t place place (rule Γ x) (side place Δ (o .a) (o .a) (o .us)) (ans Γ (o .n) (o .us) (o .a)) (k + 1) (k + 1) k Δ Γ
+                    (o .a) (o .a) x fa fa fx bd (sym (right-side place has Δ (o .a) (o .a) (o .us))));
         }
 
     -- its operands are the two children
     pub by-double : (e d : Sort) → Takes g (e ∷ d ∷ [])
-        → ((Γ : Ctx) (n : ℕ) (us : List Ty) (a b : Tree) → rule Γ (node (head g n us) (cons a (cons b nil))) ≡ to place (side place (under g us Γ) a b us))
+        → ((Γ : Ctx) (n : ℕ) (us : List Ty) (a b : Tree) → rule Γ (node (head g n us) (cons a (cons b nil))) ≡ to place
+              (side place (under g us Γ) a b us))
         → OfTwo rule s st nx k tag g place
     by-double e d tk ans key j ej r er =
         record {
@@ -215,7 +220,8 @@ module _ (rule : Ctx → Tree → Change) (s st nx : List ℕ) (k tag : ℕ) (pt
               let fs = two-children t nx (tb .follows) k Γ g (o .n) (o .us) (o .a) (o .b) fx in
               let Δ : Ctx = under g (o .us) Γ in
               rw (er, o .is, ej (place-few tb (fs .0)))
-              (fixed-at t place place (rule Γ x) (side place Δ (o .a) (o .b) (o .us)) (ans Γ (o .n) (o .us) (o .a) (o .b)) (k + 1) (getD nx (k + 1) 0) k Δ Γ (o .a) (o .b) x (fs .0) (fs .1) fx bd (sym (right-side place has Δ (o .a) (o .b) (o .us))));
+              (fixed-at t place place (rule Γ x) (side place Δ (o .a) (o .b) (o .us)) (ans Γ (o .n) (o .us) (o .a) (o .b)) (k + 1)
+                    (getD nx (k + 1) 0) k Δ Γ (o .a) (o .b) x (fs .0) (fs .1) fx bd (sym (right-side place has Δ (o .a) (o .b) (o .us))));
         }
 
 -- ---- a pattern for each child
@@ -229,11 +235,10 @@ each-bytes place Δ us f h (cons a ks) = ap₂ (λ (x y : List ℕ). x ++ y) (h 
 abbrev pub Joins : ℕ → Type 0
 Joins o = (ls : Forest) → enc (many o ls) ≡ encNumber 2 o ++ (count ls ∷ encs ls)
 
-pub each-means : (t : Tree) (place at binder : ℕ) (c : Change) → Joins (joint place) → (f : Tree → Tree) (ks : Forest) → c ≡ to place (many (joint place) (mapF f ks))
-    → (Ξ : Ctx) (g n : ℕ) (vs : List Ty) → find t [] at ≡ found Ξ (node (head g n vs) ks) → count ks ≤ 255
-    → (Θ : Ctx) (b : Tree) → find t [] binder ≡ found Θ b → Bound place (tagOf b)
-    → ((a : Tree) → enc (f a) ≡ filled (template place) (filling (under g vs Ξ) a a (ownTypes b)))
-    → EachMeans t place at binder c
+pub each-means : (t : Tree) (place at binder : ℕ) (c : Change) → Joins (joint place) → (f : Tree → Tree) (ks : Forest)
+    → c ≡ to place (many (joint place) (mapF f ks)) → (Ξ : Ctx) (g n : ℕ) (vs : List Ty) → find t [] at ≡ found Ξ (node (head g n vs) ks)
+    → count ks ≤ 255 → (Θ : Ctx) (b : Tree) → find t [] binder ≡ found Θ b → Bound place (tagOf b)
+    → ((a : Tree) → enc (f a) ≡ filled (template place) (filling (under g vs Ξ) a a (ownTypes b))) → EachMeans t place at binder c
 each-means t place at binder c j f ks ans Ξ g n vs fa few Θ (node (head h m us) ls) fb bd bytes =
     record {
       new = many (joint place) (mapF f ks);
@@ -252,14 +257,16 @@ each-means t place at binder c j f ks ans Ξ g n vs fa few Θ (node (head h m us
       ls = ls;
       at-binder = fb;
       bound = bd;
-      bytes = j (mapF f ks) ∙ ap₂ (λ (x : ℕ) (y : List ℕ). encNumber 2 (joint place) ++ (x ∷ y)) (count-map f ks) (each-bytes place (under g vs Ξ) us f bytes ks);
+      bytes = j (mapF f ks) ∙ ap₂ (λ (x : ℕ) (y : List ℕ). encNumber 2 (joint place) ++ (x ∷ y)) (count-map f ks)
+          (each-bytes place (under g vs Ξ) us f bytes ks);
     }
 
 -- the children of a tag that is followed by a count from 2 on
 abbrev pub Counts : ℕ → Type 0
 Counts g = (n : ℕ) (us : List Ty) (m : ℕ) → inRange (formOf g .layout) (numberIn g n us m) ≡ (leb 2 m && leb m 255)
 
-both-counts : (g : ℕ) → Counts g → (n : ℕ) (us : List Ty) (ks : Forest) → Sorted (node (head g n us) ks) → (leb 2 (count ks) ≡ true) × (leb (count ks) 255 ≡ true)
+both-counts : (g : ℕ) → Counts g → (n : ℕ) (us : List Ty) (ks : Forest) → Sorted (node (head g n us) ks)
+    → (leb 2 (count ks) ≡ true) × (leb (count ks) 255 ≡ true)
 both-counts g h n us ks (e, w) = both-true (leb 2 (count ks)) (leb (count ks) 255) (sym (h n us (count ks)) ∙ w .0 .range)
 
 pub few-of : (g : ℕ) → Counts g → (n : ℕ) (us : List Ty) (ks : Forest) → Sorted (node (head g n us) ks) → count ks ≤ 255
@@ -287,11 +294,13 @@ module _ (rule : Ctx → Tree → Change) (s st nx : List ℕ) (k tag : ℕ) (pt
             let l = some-two g cs (y .n) (y .us) (y .ks) sx in
             let Δ : Ctx = under g (y .us) Γ in
             rw (er, y .is)
-            (each-means t place k k (rule Γ x) jo (λ a. side place Δ a a (y .us)) (y .ks) (ans Γ (y .n) (y .us) (y .ks) l) Γ g (y .n) (y .us) fx (few-of g cs (y .n) (y .us) (y .ks) sx) Γ x fx bd (λ a. sym (right-side place has Δ a a (y .us))));
+            (each-means t place k k (rule Γ x) jo (λ a. side place Δ a a (y .us)) (y .ks) (ans Γ (y .n) (y .us) (y .ks) l) Γ g (y .n)
+                  (y .us) fx (few-of g cs (y .n) (y .us) (y .ks) sx) Γ x fx bd (λ a. sym (right-side place has Δ a a (y .us))));
       }
 
   -- an operator over a list, where it has just two operands
-  pub by-pair : ((Γ : Ctx) (n : ℕ) (us : List Ty) (ks : Forest) → rule Γ (node (head g n us) ks) ≡ with2 ks (λ a b. to place (side place (under g us Γ) a b us)))
+  pub by-pair : ((Γ : Ctx) (n : ℕ) (us : List Ty) (ks : Forest)
+        → rule Γ (node (head g n us) ks) ≡ with2 ks (λ a b. to place (side place (under g us Γ) a b us)))
       → OfPair rule s st nx k tag g place
   by-pair ans key j ej m pm r er =
       record {
@@ -313,7 +322,8 @@ module _ (rule : Ctx → Tree → Change) (s st nx : List ℕ) (k tag : ℕ) (pt
           let x : Tree = node (head g i us) (cons a (cons b nil)) in
           let Δ : Ctx = under g us Γ in
           rw (ej (place-few tb (fs .0)))
-          (fixed-at t place place (rule Γ x) (side place Δ a b us) (ans Γ i us (cons a (cons b nil))) (k + 1) (getD nx (k + 1) 0) k Δ Γ a b x (fs .0) (fs .1) fx bd (sym (right-side place has Δ a b us)))
+          (fixed-at t place place (rule Γ x) (side place Δ a b us) (ans Γ i us (cons a (cons b nil))) (k + 1)
+                (getD nx (k + 1) 0) k Δ Γ a b x (fs .0) (fs .1) fx bd (sym (right-side place has Δ a b us)))
       go t n Γ i us (cons a (cons b (cons d ks))) tb fx w Ξ kept =
           let z : eqb (count (cons a (cons b (cons d ks)))) 2 ≡ false = ne-eqb (count (cons a (cons b (cons d ks)))) 2 (λ h. omega arith) in
           rw z (ans Γ i us (cons a (cons b (cons d ks))))

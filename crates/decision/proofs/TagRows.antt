@@ -39,7 +39,8 @@ others [] = []
 others (x ∷ l) = l
 
 module _ {A : Type 0} (f e : ℕ → ℕ → A) where
-  row-or : (g p h q : ℕ) (b c d : Bool) → eqb g h ≡ b → eqb p q ≡ c → f h q ≡ e h q → ((b && c) || d) ≡ true → (d ≡ true → f g p ≡ e g p) → f g p ≡ e g p
+  row-or : (g p h q : ℕ) (b c d : Bool) → eqb g h ≡ b → eqb p q ≡ c → f h q ≡ e h q → ((b && c) || d) ≡ true
+      → (d ≡ true → f g p ≡ e g p) → f g p ≡ e g p
   row-or g p h q true true d zg zp z i later = rw (eqb-true g h zg, eqb-true p q zp) z
   row-or g p h q true false d zg zp z i later = later i
   row-or g p h q false c d zg zp z i later = later i
@@ -86,12 +87,14 @@ module _ (rule : Ctx → Tree → Change) (s st nx : List ℕ) (k tag : ℕ) (pt
       → ((Γ : Ctx) (n : ℕ) (us : List Ty) (a : Tree) → over (answer Γ n us (cons a nil)) rs ≡ over (ofTwo Γ us a a) rs)
       → (g p : ℕ) → isRow rs g p ≡ true → OfChild rule s st nx k tag g p
   by-children e tk ans g p i =
-      by-single rule s st nx k tag pt g p (at-row bound yes rs bd g p i) (at-row has yes rs hs g p i) e (λ x. at-row (sorts x) (these (e ∷ [])) rs (tk x) g p i)
+      by-single rule s st nx k tag pt g p (at-row bound yes rs bd g p i) (at-row has yes rs hs g p i) e
+          (λ x. at-row (sorts x) (these (e ∷ [])) rs (tk x) g p i)
       (λ Γ n us a. at-row (answer Γ n us (cons a nil)) (ofTwo Γ us a a) rs (ans Γ n us a) g p i)
 
   pub by-doubles : (e d : Sort) → ((x : ℕ) → over (sorts x) rs ≡ over (these (e ∷ d ∷ [])) rs)
       → ((Γ : Ctx) (n : ℕ) (us : List Ty) (a b : Tree) → over (answer Γ n us (cons a (cons b nil))) rs ≡ over (ofTwo Γ us a b) rs)
       → (g p : ℕ) → isRow rs g p ≡ true → OfTwo rule s st nx k tag g p
   by-doubles e d tk ans g p i =
-      by-double rule s st nx k tag pt g p (at-row bound yes rs bd g p i) (at-row has yes rs hs g p i) e d (λ x. at-row (sorts x) (these (e ∷ d ∷ [])) rs (tk x) g p i)
+      by-double rule s st nx k tag pt g p (at-row bound yes rs bd g p i) (at-row has yes rs hs g p i) e d
+          (λ x. at-row (sorts x) (these (e ∷ d ∷ [])) rs (tk x) g p i)
       (λ Γ n us a b. at-row (answer Γ n us (cons a (cons b nil))) (ofTwo Γ us a b) rs (ans Γ n us a b) g p i)

@@ -35,19 +35,22 @@ pub two-few : {s st nx : List ℕ} {a b : ℕ} → HereTwo s st nx a b → (a < 
 two-few h = (place-few (h .table) (h .first), place-few (h .table) (h .second))
 
 -- ---- decisions on one of two trees
-module _ (rule : Tree → Tree → Change) (s st nx : List ℕ) (a b place : ℕ) (plain : (ltb place 88 && not (takesBinders place)) ≡ true) (has : isIn sides place ≡ true) where
+module _ (rule : Tree → Tree → Change) (s st nx : List ℕ) (a b place : ℕ) (plain : (ltb place 88 && not (takesBinders place)) ≡ true)
+    (has : isIn sides place ≡ true) where
   -- what the rule answers, where trees stand at both places
   abbrev Answers : (Ctx → Tree → Tree → Tree) → Type 0
-  Answers new = (t : Tree) (n : ℕ) (Γ : Ctx) (v w : Tree) → Table s t st nx n → find t [] a ≡ found Γ v → find t [] b ≡ found Γ w → rule v w ≡ to place (new Γ v w)
+  Answers new = (t : Tree) (n : ℕ) (Γ : Ctx) (v w : Tree) → Table s t st nx n → find t [] a ≡ found Γ v → find t [] b ≡ found Γ w
+      → rule v w ≡ to place (new Γ v w)
 
   abbrev Decided : Decision → Type 0
   Decided d = (r : Decision) → r ≡ d → DecidesTwo rule s st nx a b r
 
   -- the right side has the one operand u; its binder is u or the other tree
-  of-one : (t : Tree) (i j : ℕ) (Γ : Ctx) (u y : Tree) (c : Change) → find t [] i ≡ found Γ u → find t [] j ≡ found Γ y → c ≡ to place (side place Γ u u (ownTypes y))
-      → FixedMeans t place place i i j c
+  of-one : (t : Tree) (i j : ℕ) (Γ : Ctx) (u y : Tree) (c : Change) → find t [] i ≡ found Γ u → find t [] j ≡ found Γ y
+      → c ≡ to place (side place Γ u u (ownTypes y)) → FixedMeans t place place i i j c
   of-one t i j Γ u y c fu fy ans =
-      fixed-at t place place c (side place Γ u u (ownTypes y)) ans i i j Γ Γ u u y fu fu fy (unbound place (tagOf y) plain) (sym (right-side place has Γ u u (ownTypes y)))
+      fixed-at t place place c (side place Γ u u (ownTypes y)) ans i i j Γ Γ u u y fu fu fy (unbound place (tagOf y) plain)
+          (sym (right-side place has Γ u u (ownTypes y)))
 
   pub on-left : Answers (λ Γ v w. side place Γ v v (ownTypes v)) → Decided (D.Fixed place place a a a)
   on-left ans r er = record { means = λ t n Γ v w tb fa fb x Ξ kept. rw er (of-one t a a Γ v v (rule v w) fa fa (ans t n Γ v w tb fa fb)) }
@@ -60,8 +63,8 @@ module _ (rule : Tree → Tree → Change) (s st nx : List ℕ) (a b place : ℕ
 
   -- a negation, removed where there is one
   module _ (is : (Γ : Ctx) (u : Tree) (us : List Ty) → side place Γ u u us ≡ one #Not u) where
-    negated-means : (t : Tree) (n p : ℕ) (Γ : Ctx) (v : Tree) (tag : ℕ) (c : Change) → Table s t st nx n → find t [] p ≡ found Γ v → TagPost s st p tag
-        → c ≡ to place (makeNeg v) → (x : Tree) (Ξ : Ctx) (kept : List ℕ) → Means t x Ξ kept (negatedAt place tag p) c
+    negated-means : (t : Tree) (n p : ℕ) (Γ : Ctx) (v : Tree) (tag : ℕ) (c : Change) → Table s t st nx n → find t [] p ≡ found Γ v
+        → TagPost s st p tag → c ≡ to place (makeNeg v) → (x : Tree) (Ξ : Ctx) (kept : List ℕ) → Means t x Ξ kept (negatedAt place tag p) c
     unfolding lookup classOf formAt side makeNeg
     negated-means t n p Γ v tag c tb f pt ans x Ξ kept = go (eqb tag 701) refl
       where
@@ -70,7 +73,8 @@ module _ (rule : Tree → Tree → Change) (s st nx : List ℕ) (a b place : ℕ
             let z = pt .tag t n Γ v (tb .framed) f in
             let o = single 701 predicate (λ x. refl) v (place-sorted s t st n (tb .framed) p Γ v f) (sym z ∙ eqb-true tag 701 h) in
             let fc = only-child t nx (tb .follows) p Γ 701 (o .n) (o .us) (o .a) (f ∙ ap (found Γ) (o .is)) in
-            fixed-at t place 64 c (o .a) (ans ∙ ap (λ (u : Tree). to place (makeNeg u)) (o .is)) (p + 1) (p + 1) p Γ Γ (o .a) (o .a) v fc fc f (unbound 64 (tagOf v) refl) (sym (right-side 64 refl Γ (o .a) (o .a) (ownTypes v)))
+            fixed-at t place 64 c (o .a) (ans ∙ ap (λ (u : Tree). to place (makeNeg u)) (o .is)) (p + 1) (p + 1) p Γ Γ (o .a)
+                (o .a) v fc fc f (unbound 64 (tagOf v) refl) (sym (right-side 64 refl Γ (o .a) (o .a) (ownTypes v)))
         go false h =
             let z = pt .tag t n Γ v (tb .framed) f in
             of-one t p p Γ v v c f f (ans ∙ ap (to place) (neg-other v (λ q. eqb-false tag 701 h (z ∙ q)) ∙ sym (is Γ v (ownTypes v))))

@@ -3,7 +3,10 @@ use Prim.Native.Nat.{ℕ}
 use mathlib.Core.List.{List, [], _∷_}
 use Rattle.frame.specs.Trees.{Tree, leaf, two}
 use Rattle.frame.specs.Sameness.{sameTree}
-use Rattle.frame.specs.Operators.{#Equal, #SRel, #STRel, #SetMinus, #CProd, #DProd, #PProd, #DomRes, #DomSub, #RanRes, #RanSub, #UpTo, #RelImage, #BInter, #BComp, #FComp, #QUnion, #Not, #Finite, #Partition, #SubsetEq, #Forall, #Exists, #BTrue, #BFalse, #LAnd}
+use Rattle.frame.specs.Operators.{
+  #Equal, #SRel, #STRel, #SetMinus, #CProd, #DProd, #PProd, #DomRes, #DomSub, #RanRes, #RanSub, #UpTo, #RelImage, #BInter, #BComp,
+  #FComp, #QUnion, #Not, #Finite, #Partition, #SubsetEq, #Forall, #Exists, #BTrue, #BFalse, #LAnd
+}
 use Rattle.frame.specs.Places.{Ctx}
 use Rattle.rules.specs.Change.{Change, to, _orElse_, when, isTag, onTag, unary, binary, quantifier, contains}
 use Rattle.rules.specs.Simplify.{makeNeg, simplifyForall, simplifyExists}
@@ -28,7 +31,8 @@ unequal a b = rewriteNotInner (two #Equal a b)
 -- a set equated to ∅: the tags at which code looks for more than the tag. The last that is tested comes first.
 abbrev pub lookedUp : List ℕ
 lookedUp =
-    #QUnion ∷ #BComp ∷ #FComp ∷ #PProd ∷ #DProd ∷ #RelImage ∷ #RanSub ∷ #RanRes ∷ #DomSub ∷ #DomRes ∷ #STRel ∷ #SRel ∷ #UpTo ∷ #CProd ∷ #SetMinus ∷ #BInter ∷ []
+    #QUnion ∷ #BComp ∷ #FComp ∷ #PProd ∷ #DProd ∷ #RelImage ∷ #RanSub ∷ #RanRes ∷ #DomSub ∷ #DomRes ∷ #STRel ∷ #SRel ∷ #UpTo ∷ #CProd
+        ∷ #SetMinus ∷ #BInter ∷ []
 
 -- finite(a ◁ b)
 abbrev pub finiteRestricted : Tree → Tree → Change

@@ -40,7 +40,8 @@ module _ (σ : ℕ → Ty) (t : Tree) (k place : ℕ) (u : Tree) (a : Accepted �
       let i = step-inv t k place u e in
       rw (i .result)
       (keeps-at-place I t [] k (i .Γ) (i .old) (i .new) (i .there) s
-      (λ v. equation-keeps I σ (i .Γ) place (i .old) (i .new) (old-accepted σ t k place u a e .0) (step-instance σ t k place u a e) (old-predicate σ t k place u a e) v))
+      (λ v. equation-keeps I σ (i .Γ) place (i .old) (i .new) (old-accepted σ t k place u a e .0) (step-instance σ t k place u a e)
+            (old-predicate σ t k place u a e) v))
 
 -- ---- a row of them
 steps-fall : (σ : ℕ → Ty) {t u : Tree} {n : ℕ} → Steps t n u → Accepted σ t [] predicate → n + weight u ≤ weight t
@@ -48,7 +49,8 @@ steps-fall σ (none t) a = omega arith
 steps-fall σ (more t v u k place n e s) a =
     omega (arith, step-falls σ t k place v a e, steps-fall σ s (step-accepted σ t k place v a e))
 
-steps-keep : (σ : ℕ → Ty) (I : Interpretation) {t u : Tree} {n : ℕ} → Steps t n u → Accepted σ t [] predicate → SingleIntegers t [] → NoInterOverNothing I t [] → isTrue I u ≡ isTrue I t
+steps-keep : (σ : ℕ → Ty) (I : Interpretation) {t u : Tree} {n : ℕ} → Steps t n u → Accepted σ t [] predicate → SingleIntegers t []
+    → NoInterOverNothing I t [] → isTrue I u ≡ isTrue I t
 unfolding isTrue
 steps-keep σ I (none t) a s l = refl
 steps-keep σ I (more t v u k place n e r) a s l =

@@ -33,7 +33,8 @@ children = row 752 52 ∷ row 753 53 ∷ row 754 54 ∷ row 756 55 ∷ row 757 5
 
 -- a right side of the two children
 abbrev pub twos : List Row
-twos = row 213 40 ∷ row 214 41 ∷ row 221 42 ∷ row 204 43 ∷ row 205 44 ∷ row 217 45 ∷ row 218 46 ∷ row 219 47 ∷ row 220 48 ∷ row 227 49 ∷ row 215 50 ∷ row 216 51 ∷ []
+twos = row 213 40 ∷ row 214 41 ∷ row 221 42 ∷ row 204 43 ∷ row 205 44 ∷ row 217 45 ∷ row 218 46 ∷ row 219 47 ∷ row 220 48 ∷ row 227 49 ∷
+    row 215 50 ∷ row 216 51 ∷ []
 
 module _ (s st nx : List ℕ) (k tag : ℕ) (pt : TagPost s st k tag) where
   pub empty-node : (g p : ℕ) → isRow nodes g p ≡ true → OfNode rewriteEqualsEmptySet s st nx k tag g p
@@ -50,7 +51,8 @@ module _ (s st nx : List ℕ) (k tag : ℕ) (pt : TagPost s st k tag) where
 
   pub empty-39 : OfEach rewriteEqualsEmptySet s st nx k tag 301 39
   unfolding onTag lookup classOf formAt side rewriteEqualsEmptySet
-  empty-39 = by-each rewriteEqualsEmptySet s st nx k tag pt 301 39 refl refl (λ n us m. refl) and-bytes (λ Γ n us ks l. ap (to 39) (joined-many 351 (λ a. side 39 Γ a a us) ks l))
+  empty-39 = by-each rewriteEqualsEmptySet s st nx k tag pt 301 39 refl refl (λ n us m. refl) and-bytes
+      (λ Γ n us ks l. ap (to 39) (joined-many 351 (λ a. side 39 Γ a a us) ks l))
 
   pub empty-56 : OfPair rewriteEqualsEmptySet s st nx k tag 304 56
   unfolding onTag lookup classOf formAt side rewriteEqualsEmptySet
@@ -62,7 +64,8 @@ module _ (s st nx : List ℕ) (k tag : ℕ) (pt : TagPost s st k tag) where
 
   pub empty-58 : OfEach rewriteEqualsEmptySet s st nx k tag 305 58
   unfolding onTag lookup classOf formAt side rewriteEqualsEmptySet
-  empty-58 = by-each rewriteEqualsEmptySet s st nx k tag pt 305 58 refl refl (λ n us m. refl) and-bytes (λ Γ n us ks l. ap (to 58) (joined-many 351 (λ a. side 58 Γ a a us) ks l))
+  empty-58 = by-each rewriteEqualsEmptySet s st nx k tag pt 305 58 refl refl (λ n us m. refl) and-bytes
+      (λ Γ n us ks l. ap (to 58) (joined-many 351 (λ a. side 58 Γ a a us) ks l))
 
   pub empty-59 : OfTwo rewriteEqualsEmptySet s st nx k tag 801 59
   unfolding onTag lookup classOf formAt side rewriteEqualsEmptySet
@@ -89,4 +92,16 @@ module _ (s st nx : List ℕ) (k tag : ℕ) (pt : TagPost s st k tag) where
   empty-none u v = by-rest rewriteEqualsEmptySet s st nx k tag pt (λ Γ e. rest Γ e) D.Rests refl
     where
       rest : (Γ : Ctx) (e : Tree) → tagOf e ≡ tag → rewriteEqualsEmptySet Γ e ≡ same
-      rest Γ (node (head o n us) ks) z = rw z (simp (ne-eqb tag 5 (v .0 .0 .0 .0 .0 .0 .0 .0 .0 .0 .0 .0 .0 .1), ne-eqb tag 302 (u .0 .0 .0 .0 .0 .0 .0 .0 .0 .0 .0 .0 .0 .0 .0 .1), ne-eqb tag 301 (v .0 .0 .0 .0 .0 .0 .0 .0 .0 .0 .0 .0 .1), ne-eqb tag 213 (u .0 .0 .0 .0 .0 .0 .0 .0 .0 .0 .0 .0 .0 .0 .1), ne-eqb tag 214 (u .0 .0 .0 .0 .0 .0 .0 .0 .0 .0 .0 .0 .0 .1), ne-eqb tag 221 (u .0 .0 .0 .0 .0 .0 .0 .0 .0 .0 .0 .0 .1), ne-eqb tag 204 (u .0 .0 .0 .0 .0 .0 .0 .0 .0 .0 .0 .1), ne-eqb tag 205 (u .0 .0 .0 .0 .0 .0 .0 .0 .0 .0 .1), ne-eqb tag 217 (u .0 .0 .0 .0 .0 .0 .0 .0 .0 .1), ne-eqb tag 218 (u .0 .0 .0 .0 .0 .0 .0 .0 .1), ne-eqb tag 219 (u .0 .0 .0 .0 .0 .0 .0 .1), ne-eqb tag 220 (u .0 .0 .0 .0 .0 .0 .1), ne-eqb tag 227 (u .0 .0 .0 .0 .0 .1), ne-eqb tag 215 (u .0 .0 .0 .0 .1), ne-eqb tag 216 (u .0 .0 .0 .1), ne-eqb tag 752 (v .0 .0 .0 .0 .0 .0 .0 .0 .0 .0 .0 .1), ne-eqb tag 753 (v .0 .0 .0 .0 .0 .0 .0 .0 .0 .0 .1), ne-eqb tag 754 (v .0 .0 .0 .0 .0 .0 .0 .0 .0 .1), ne-eqb tag 756 (v .0 .0 .0 .0 .0 .0 .0 .0 .1), ne-eqb tag 757 (v .0 .0 .0 .0 .0 .0 .0 .1), ne-eqb tag 763 (v .0 .0 .0 .0 .0 .0 .1), ne-eqb tag 304 (u .0 .0 .1), ne-eqb tag 303 (u .0 .1), ne-eqb tag 305 (v .0 .0 .0 .0 .0 .1), ne-eqb tag 801 (u .1), ne-eqb tag 402 (v .0 .0 .0 .0 .1), ne-eqb tag 403 (v .0 .0 .0 .1), ne-eqb tag 412 (v .0 .0 .1), ne-eqb tag 410 (v .0 .1), ne-eqb tag 411 (v .1)))
+      rest Γ (node (head o n us) ks) z = rw z (simp (ne-eqb tag 5 (v .0 .0 .0 .0 .0 .0 .0 .0 .0 .0 .0 .0 .0 .1), ne-eqb tag 302
+              (u .0 .0 .0 .0 .0 .0 .0 .0 .0 .0 .0 .0 .0 .0 .0 .1), ne-eqb tag 301 (v .0 .0 .0 .0 .0 .0 .0 .0 .0 .0 .0 .0 .1), ne-eqb tag 213
+              (u .0 .0 .0 .0 .0 .0 .0 .0 .0 .0 .0 .0 .0 .0 .1), ne-eqb tag 214 (u .0 .0 .0 .0 .0 .0 .0 .0 .0 .0 .0 .0 .0 .1), ne-eqb tag 221
+              (u .0 .0 .0 .0 .0 .0 .0 .0 .0 .0 .0 .0 .1), ne-eqb tag 204 (u .0 .0 .0 .0 .0 .0 .0 .0 .0 .0 .0 .1), ne-eqb tag 205
+              (u .0 .0 .0 .0 .0 .0 .0 .0 .0 .0 .1), ne-eqb tag 217 (u .0 .0 .0 .0 .0 .0 .0 .0 .0 .1), ne-eqb tag 218
+              (u .0 .0 .0 .0 .0 .0 .0 .0 .1), ne-eqb tag 219 (u .0 .0 .0 .0 .0 .0 .0 .1), ne-eqb tag 220
+              (u .0 .0 .0 .0 .0 .0 .1), ne-eqb tag 227 (u .0 .0 .0 .0 .0 .1), ne-eqb tag 215 (u .0 .0 .0 .0 .1), ne-eqb tag 216
+              (u .0 .0 .0 .1), ne-eqb tag 752 (v .0 .0 .0 .0 .0 .0 .0 .0 .0 .0 .0 .1), ne-eqb tag 753
+              (v .0 .0 .0 .0 .0 .0 .0 .0 .0 .0 .1), ne-eqb tag 754 (v .0 .0 .0 .0 .0 .0 .0 .0 .0 .1), ne-eqb tag 756
+              (v .0 .0 .0 .0 .0 .0 .0 .0 .1), ne-eqb tag 757 (v .0 .0 .0 .0 .0 .0 .0 .1), ne-eqb tag 763
+              (v .0 .0 .0 .0 .0 .0 .1), ne-eqb tag 304 (u .0 .0 .1), ne-eqb tag 303 (u .0 .1), ne-eqb tag 305
+              (v .0 .0 .0 .0 .0 .1), ne-eqb tag 801 (u .1), ne-eqb tag 402 (v .0 .0 .0 .0 .1), ne-eqb tag 403
+              (v .0 .0 .0 .1), ne-eqb tag 412 (v .0 .0 .1), ne-eqb tag 410 (v .0 .1), ne-eqb tag 411 (v .1)))

@@ -79,21 +79,24 @@ module _ (s types : List ℕ) (r : Ranges) (a b : Tree) (t u : Ty) (us : List Ty
     operand-holds (suc zero) h = second
     operand-holds (suc (suc i)) h = true-not h
 
-    type-holds : MadeFrom types (r .«first_type») t × MadeFrom types (r .«second_type») u → (i : ℕ) → small i ≡ true → MadeFrom types (typeOfOperand r i) (typeAt i (f .types))
+    type-holds : MadeFrom types (r .«first_type») t × MadeFrom types (r .«second_type») u → (i : ℕ) → small i ≡ true
+        → MadeFrom types (typeOfOperand r i) (typeAt i (f .types))
     unfolding small
     type-holds m zero h = m .0
     type-holds m (suc zero) h = m .1
     type-holds m (suc (suc i)) h = true-not h
 
     module _ (c : Bool) (bound : c ≡ true → Spans s (r .binders) (r .«binders_end») (length us ∷ encTys us)) where
-      all-holds : (ps : List Part) → fits c ps ≡ true → (asksTypes ps ≡ true → MadeFrom types (r .«first_type») t × MadeFrom types (r .«second_type») u) → Holds s types r f ps
+      all-holds : (ps : List Part) → fits c ps ≡ true → (asksTypes ps ≡ true
+            → MadeFrom types (r .«first_type») t × MadeFrom types (r .«second_type») u) → Holds s types r f ps
       unfolding fits asksTypes Holds
       all-holds [] h m = tt
       all-holds (tag g ∷ ps) h m = all-holds ps h m
       all-holds (byte x ∷ ps) h m = all-holds ps h m
       all-holds (operand i ∷ ps) h m = let w = both-true (small i) (fits c ps) h in (operand-holds i (w .0), all-holds ps (w .1) m)
       all-holds (type d i ∷ ps) h m = let w = both-true (small i) (fits c ps) h in (type-holds (m refl) i (w .0), all-holds ps (w .1) (λ z. m refl))
-      all-holds (expression d i ∷ ps) h m = let w = both-true (small i) (fits c ps) h in (type-holds (m refl) i (w .0), all-holds ps (w .1) (λ z. m refl))
+      all-holds (expression d i ∷ ps) h m = let w = both-true (small i) (fits c ps) h in
+          (type-holds (m refl) i (w .0), all-holds ps (w .1) (λ z. m refl))
       all-holds (binders ∷ ps) h m = let w = both-true c (fits c ps) h in (bound (w .0), all-holds ps (w .1) m)
 
 -- ---- `fill`
@@ -102,10 +105,12 @@ bound-few : (p g : ℕ) → Bound p g → p < 88
 bound-few p g h = ltb-true p 88 (both-true (ltb p 88) (not (takesBinders p) || hasBinders (formOf g .layout)) h .0)
 
 bound-has : (p g : ℕ) → Bound p g → takesBinders p ≡ true → hasBinders (formOf g .layout) ≡ true
-bound-has p g h e = or-then (takesBinders p) (hasBinders (formOf g .layout)) (both-true (ltb p 88) (not (takesBinders p) || hasBinders (formOf g .layout)) h .1) e
+bound-has p g h e = or-then (takesBinders p) (hasBinders (formOf g .layout))
+    (both-true (ltb p 88) (not (takesBinders p) || hasBinders (formOf g .layout)) h .1) e
 
 module _ (s : List ℕ) (n : ℕ) (st nx leaves : List ℕ) (pattern first second binder : ℕ) where
-  pub fill-types : FillPre s n st nx leaves pattern first second binder → (types : List ℕ) → length types ≡ 129 → getD types boolAt 0 ≡ 0 → TypesPre s st leaves pattern first second types
+  pub fill-types : FillPre s n st nx leaves pattern first second binder → (types : List ℕ) → length types ≡ 129 → getD types boolAt 0 ≡ 0
+      → TypesPre s st leaves pattern first second types
   fill-types p types l z =
       let w = p .places in
       record {
@@ -124,20 +129,25 @@ module _ (s : List ℕ) (n : ℕ) (st nx leaves : List ℕ) (pattern first secon
       record {
         t = p .t;
         table = p .table;
-        below = (find-lt (p .t) [] first (p .Δ) (p .a) (w .at-first), find-lt (p .t) [] second (p .Δ) (p .b) (w .at-second), find-lt (p .t) [] binder (w .Θ) (node (head (w .g) (w .x) (p .us)) (w .ks)) (w .at-binder));
+        below = (find-lt (p .t) [] first (p .Δ) (p .a) (w .at-first), find-lt (p .t) [] second (p .Δ) (p .b) (w .at-second), find-lt
+              (p .t) [] binder (w .Θ) (node (head (w .g) (w .x) (p .us)) (w .ks)) (w .at-binder));
       }
 
-  module _ (types : List ℕ) (pt : TypesPost s st leaves pattern first second types) (r : Ranges) (pr : RangesPost s n st nx first second binder r) where
-    holds : (t : Tree) (Δ : Ctx) (a b : Tree) (us : List Ty) → Table s t st nx n → Held s st leaves n t → FillAt t pattern first second binder Δ a b us
-        → Holds s types r (filling Δ a b us) (template pattern)
+  module _ (types : List ℕ) (pt : TypesPost s st leaves pattern first second types) (r : Ranges)
+      (pr : RangesPost s n st nx first second binder r) where
+    holds : (t : Tree) (Δ : Ctx) (a b : Tree) (us : List Ty) → Table s t st nx n → Held s st leaves n t
+        → FillAt t pattern first second binder Δ a b us → Holds s types r (filling Δ a b us) (template pattern)
     holds t Δ a b us tb h w =
-        all-holds s types r a b (typeOf a Δ) (typeOf b Δ) us (pr .of-first t Δ a tb (w .at-first)) (pr .of-second t Δ b tb (w .at-second)) (takesBinders pattern)
+        all-holds s types r a b (typeOf a Δ) (typeOf b Δ) us (pr .of-first t Δ a tb (w .at-first))
+            (pr .of-second t Δ b tb (w .at-second)) (takesBinders pattern)
         (λ e. pr .of-binders t (w .Θ) (w .g) (w .x) us (w .ks) tb (w .at-binder) (bound-has pattern (w .g) (w .bound) e))
         (template pattern) (template-fits pattern (bound-few pattern (w .g) (w .bound)))
         (λ e. rw (pr .types .0, pr .types .1) (pt .there e t n Δ Δ a b h (w .at-first) (w .at-second)))
 
     pub fill-ready : FillPre s n st nx leaves pattern first second binder → (pattern < 88) × Fillable (template pattern) s types r
-    fill-ready p = (bound-few pattern (p .places .g) (p .places .bound), (filling (p .Δ) (p .a) (p .b) (p .us), holds (p .t) (p .Δ) (p .a) (p .b) (p .us) (p .table) (p .held) (p .places)))
+    fill-ready p = (bound-few pattern (p .places .g) (p .places .bound),
+          (filling (p .Δ) (p .a) (p .b) (p .us), holds (p .t) (p .Δ) (p .a) (p .b) (p .us) (p .table) (p .held) (p .places)))
 
-    pub fill-done : (o : List ℕ) (at : ℕ) (q : List ℕ) (k : ℕ) → Filled (template pattern) s types r o at q k → FillPost s n st nx leaves pattern first second binder o at q k
+    pub fill-done : (o : List ℕ) (at : ℕ) (q : List ℕ) (k : ℕ) → Filled (template pattern) s types r o at q k
+        → FillPost s n st nx leaves pattern first second binder o at q k
     fill-done o at q k d = record { puts = λ t Δ a b us tb h w. d .puts (filling Δ a b us) (holds t Δ a b us tb h w) }

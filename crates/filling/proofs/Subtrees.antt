@@ -42,13 +42,15 @@ leaves-root Γ Δ t v p s l e h =
 mutual
   unfolding find LeavesAt
 
-  pub leaves-found : (t : Tree) (Γ : Ctx) (k : ℕ) (Δ : Ctx) (v : Tree) (p : ℕ) (s l : List ℕ) → find t Γ k ≡ found Δ v → LeavesAt t Γ p s l → LeavesAt v Δ (p + k) s l
+  pub leaves-found : (t : Tree) (Γ : Ctx) (k : ℕ) (Δ : Ctx) (v : Tree) (p : ℕ) (s l : List ℕ) → find t Γ k ≡ found Δ v → LeavesAt t Γ p s l
+      → LeavesAt v Δ (p + k) s l
   leaves-found (node (head g n us) ks) Γ zero Δ v p s l e h = leaves-root Γ Δ (node (head g n us) ks) v p s l e h
   leaves-found (node (head g n us) ks) Γ (suc k) Δ v p s l e h =
       let z : suc p + k ≡ p + suc k = omega arith in
       subst (λ (i : ℕ). LeavesAt v Δ i s l) z (leaves-in ks (under g us Γ) k Δ v (suc p) s l e (h .1))
 
-  leaves-in : (ks : Forest) (Γ : Ctx) (k : ℕ) (Δ : Ctx) (v : Tree) (p : ℕ) (s l : List ℕ) → findIn ks Γ k ≡ found Δ v → LeavesIn ks Γ p s l → LeavesAt v Δ (p + k) s l
+  leaves-in : (ks : Forest) (Γ : Ctx) (k : ℕ) (Δ : Ctx) (v : Tree) (p : ℕ) (s l : List ℕ) → findIn ks Γ k ≡ found Δ v → LeavesIn ks Γ p s l
+      → LeavesAt v Δ (p + k) s l
   leaves-in nil Γ k Δ v p s l e h = absent-not Δ v e
   leaves-in (cons t ks) Γ k Δ v p s l e h =
       go (ltb k (nodes t)) refl e (λ x. leaves-found t Γ k Δ v p s l x (h .0)) (λ x. leaves-in ks Γ (k - nodes t) Δ v (p + nodes t) s l x (h .1))
@@ -90,18 +92,22 @@ below-root h ls Γ Δ i (node j ms) ks e p =
     rw (y, z) refl
 
 -- a node with a child has two places
-pub two-places : (t : Tree) (Γ : Ctx) (k : ℕ) (Δ : Ctx) (i : Head) (a : Tree) (ks : Forest) → find t Γ k ≡ found Δ (node i (cons a ks)) → suc k < nodes t
+pub two-places : (t : Tree) (Γ : Ctx) (k : ℕ) (Δ : Ctx) (i : Head) (a : Tree) (ks : Forest)
+    → find t Γ k ≡ found Δ (node i (cons a ks)) → suc k < nodes t
 unfolding nodes
 two-places t Γ k Δ i (node j ms) ks f = omega (arith, place-end t Γ k Δ (node i (cons (node j ms) ks)) f .0)
 
 mutual
   unfolding find starts
 
-  first-start : (t : Tree) (Γ : Ctx) (k : ℕ) (Δ : Ctx) (i : Head) (a : Tree) (ks : Forest) → find t Γ k ≡ found Δ (node i (cons a ks)) → Below t k (length (encHead i (count (cons a ks))))
+  first-start : (t : Tree) (Γ : Ctx) (k : ℕ) (Δ : Ctx) (i : Head) (a : Tree) (ks : Forest) → find t Γ k ≡ found Δ (node i (cons a ks))
+      → Below t k (length (encHead i (count (cons a ks))))
   first-start (node h ls) Γ zero Δ i a ks f p = below-root h ls Γ Δ i a ks f p
-  first-start (node (head g n us) ls) Γ (suc k) Δ i a ks f p = first-start-in ls (under g us Γ) k Δ i a ks f (p + length (encHead (head g n us) (count ls)))
+  first-start (node (head g n us) ls) Γ (suc k) Δ i a ks f p = first-start-in ls (under g us Γ) k Δ i a ks f
+      (p + length (encHead (head g n us) (count ls)))
 
-  first-start-in : (ls : Forest) (Γ : Ctx) (k : ℕ) (Δ : Ctx) (i : Head) (a : Tree) (ks : Forest) → findIn ls Γ k ≡ found Δ (node i (cons a ks)) → BelowIn ls k (length (encHead i (count (cons a ks))))
+  first-start-in : (ls : Forest) (Γ : Ctx) (k : ℕ) (Δ : Ctx) (i : Head) (a : Tree) (ks : Forest)
+      → findIn ls Γ k ≡ found Δ (node i (cons a ks)) → BelowIn ls k (length (encHead i (count (cons a ks))))
   first-start-in nil Γ k Δ i a ks f p = absent-not Δ (node i (cons a ks)) f
   first-start-in (cons t ls) Γ k Δ i a ks f p =
       go (ltb k (nodes t)) refl f (λ x p. first-start t Γ k Δ i a ks x p) (λ x p. first-start-in ls Γ (k - nodes t) Δ i a ks x p) p
@@ -120,7 +126,8 @@ mutual
           let u : suc k ≡ nodes t + suc (k - nodes t) = omega (arith, ltb-false k (nodes t) q) in
           let v : k ≡ nodes t + (k - nodes t) = omega (arith, ltb-false k (nodes t) q) in
           ap (λ (m : ℕ). getD (starts t p ++ l) m 0) u ∙ starts-rest t p (suc (k - nodes t)) l ∙ y e r
-          ∙ ap (λ (m : ℕ). m + length (encHead i (count (cons a ks)))) (sym (ap (λ (m : ℕ). getD (starts t p ++ l) m 0) v ∙ starts-rest t p (k - nodes t) l))
+          ∙ ap (λ (m : ℕ). m + length (encHead i (count (cons a ks))))
+              (sym (ap (λ (m : ℕ). getD (starts t p ++ l) m 0) v ∙ starts-rest t p (k - nodes t) l))
 
 -- ---- bytes
 module _ (s : List ℕ) (t : Tree) (st : List ℕ) (n : ℕ) (fr : Framed s t st n) where
@@ -143,8 +150,10 @@ module _ (s : List ℕ) (t : Tree) (st : List ℕ) (n : ℕ) (fr : Framed s t st
         let b = fr .begins k (find-lt t [] k Γ v f) in
         let c = fr .begins (suc k) (two-places t [] k Γ (head g x us) a ks f) in
         let e : getD st k 0 + length (encHead (head g x us) (count (cons a ks))) ≡ getD st (k + 1) 0 =
-        ap (λ (m : ℕ). m + length (encHead (head g x us) (count (cons a ks)))) b ∙ sym (first-start t [] k Γ (head g x us) a ks f 0) ∙ sym c ∙ ap (λ (m : ℕ). getD st m 0) (sym z) in
-        subst (λ (j : ℕ). Spans s (getD st k 0) j (encHead (head g x us) (count (cons a ks)))) e (span-left (encHead (head g x us) (count (cons a ks))) (encs (cons a ks)) w)
+        ap (λ (m : ℕ). m + length (encHead (head g x us) (count (cons a ks)))) b ∙ sym
+            (first-start t [] k Γ (head g x us) a ks f 0) ∙ sym c ∙ ap (λ (m : ℕ). getD st m 0) (sym z) in
+        subst (λ (j : ℕ). Spans s (getD st k 0) j (encHead (head g x us) (count (cons a ks)))) e
+            (span-left (encHead (head g x us) (count (cons a ks))) (encs (cons a ks)) w)
 
     bytes-by : Layout → List ℕ
     bytes-by l = encNumber (width l) (numberOf l x (length us) (count (cons a ks))) ++ encTys us
@@ -162,4 +171,5 @@ module _ (s : List ℕ) (t : Tree) (st : List ℕ) (n : ℕ) (fr : Framed s t st
     binders-at h =
         let w = span-right (encNumber 2 g) (bytes-by (formOf g .layout)) top-at in
         let z : getD st k 0 + length (encNumber 2 g) ≡ getD st k 0 + 2 = omega (arith, number-length 2 g) in
-        subst (λ (j : ℕ). Spans s j (getD st (k + 1) 0) (length us ∷ encTys us)) z (subst (λ (l : List ℕ). Spans s (getD st k 0 + length (encNumber 2 g)) (getD st (k + 1) 0) l) (bytes-is (formOf g .layout) h) w)
+        subst (λ (j : ℕ). Spans s j (getD st (k + 1) 0) (length us ∷ encTys us)) z
+            (subst (λ (l : List ℕ). Spans s (getD st k 0 + length (encNumber 2 g)) (getD st (k + 1) 0) l) (bytes-is (formOf g .layout) h) w)

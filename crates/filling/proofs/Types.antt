@@ -72,7 +72,8 @@ module _ (s st leaves : List ℕ) (k : ℕ) where
   pub type-of-few : (types : List ℕ) (to : ℕ) → TypeOfPre s st leaves k types to → k < 2048
   type-of-few types to p = omega (arith, p .below, framed-few s (p .t) st (p .n) (p .held .framed))
 
-  pub type-of-pre : (types : List ℕ) (to : ℕ) → TypeOfPre s st leaves k types to → (at : ℕ) → at ≡ getD st k 0 → (work : List ℕ) → WorkFor s st leaves k work → TypePre s at k leaves work
+  pub type-of-pre : (types : List ℕ) (to : ℕ) → TypeOfPre s st leaves k types to → (at : ℕ) → at ≡ getD st k 0 → (work : List ℕ)
+      → WorkFor s st leaves k work → TypePre s at k leaves work
   type-of-pre types to p at ea work d =
       let v = find-some (p .t) [] k (p .below) in
       let x = stands (p .n) (p .t) (p .held) (v .0) (v .1) (v .2) in
@@ -89,12 +90,13 @@ module _ (s st leaves : List ℕ) (k : ℕ) where
         buffer = d .room (p .n) (p .t) (p .held) (v .0) (v .1) (v .2);
       })
 
-  module _ (types : List ℕ) (to : ℕ) (p : TypeOfPre s st leaves k types to) (at : ℕ) (ea : at ≡ getD st k 0) (work : List ℕ) (l : WorkFor s st leaves k work) where
+  module _ (types : List ℕ) (to : ℕ) (p : TypeOfPre s st leaves k types to) (at : ℕ) (ea : at ≡ getD st k 0) (work : List ℕ)
+      (l : WorkFor s st leaves k work) where
     answer-at : (a : Typed) → TypePost s at k leaves work a → TypePost s (getD st k 0) k leaves work a
     answer-at a post = subst (λ (i : ℕ). TypePost s i k leaves work a) ea post
 
-    type-is : (m : ℕ) → TypePost s at k leaves work (T.Is m) → (n : ℕ) (t : Tree) → Held s st leaves n t → (Δ : Ctx) (v : Tree) → find t [] k ≡ found Δ v
-        → Spans work 0 m (encTy (typeOf v Δ)) × (m ≤ 64)
+    type-is : (m : ℕ) → TypePost s at k leaves work (T.Is m) → (n : ℕ) (t : Tree) → Held s st leaves n t → (Δ : Ctx) (v : Tree)
+        → find t [] k ≡ found Δ v → Spans work 0 m (encTy (typeOf v Δ)) × (m ≤ 64)
     type-is m post n t h Δ v f =
         let y : Typing (T.Is m) v Δ work = typing n t h Δ v f work (T.Is m) l (answer-at (T.Is m) post) in
         (y .1, omega (arith, y .1 .long, held-short s st leaves n t h k Δ v f))
@@ -105,7 +107,8 @@ module _ (s st leaves : List ℕ) (k : ℕ) where
         let x = type-is m (subst (λ (i : Typed). TypePost s at k leaves work i) e post) (p .n) (p .t) (p .held) (v .0) (v .1) (v .2) in
         (omega arith, x .0 .within, omega (arith, p .long, p .room, x .1))
 
-    pub type-copied : (a : Typed) → TypePost s at k leaves work a → (m : ℕ) → a ≡ T.Is m → (q : List ℕ) → Copied work 0 (m - 0) types q to → TypeOfPost s st leaves k types q to
+    pub type-copied : (a : Typed) → TypePost s at k leaves work a → (m : ℕ) → a ≡ T.Is m → (q : List ℕ) → Copied work 0 (m - 0) types q to
+        → TypeOfPost s st leaves k types q to
     type-copied a post m e q c =
         let posted = subst (λ (i : Typed). TypePost s at k leaves work i) e post in
         let v = find-some (p .t) [] k (p .below) in
@@ -115,7 +118,8 @@ module _ (s st leaves : List ℕ) (k : ℕ) where
           there = λ t n Δ w h f.
               (let y = type-is m posted n t h Δ w f in
               let z : to + (m - 0) ≡ to + length (encTy (typeOf w Δ)) = omega (arith, y .0 .long) in
-              subst (λ (i : ℕ). Spans q to i (encTy (typeOf w Δ))) z (copied-span (m - 0) types q to refl (y .0) c (omega (arith, p .long, p .room, y .1))));
+              subst (λ (i : ℕ). Spans q to i (encTy (typeOf w Δ))) z
+                  (copied-span (m - 0) types q to refl (y .0) c (omega (arith, p .long, p .room, y .1))));
           low = λ j i. c .low j i;
           high = λ j i. c .high j (omega (arith, x .1, i));
         }
@@ -125,7 +129,8 @@ module _ (s st leaves : List ℕ) (k : ℕ) where
         record {
           long = refl;
           there = λ t n Δ w h f.
-              (let y : Typing T.Bad w Δ work = typing n t h Δ w f work T.Bad l (answer-at T.Bad (subst (λ (i : Typed). TypePost s at k leaves work i) e post)) in
+              (let y : Typing T.Bad w Δ work = typing n t h Δ w f work T.Bad l
+                    (answer-at T.Bad (subst (λ (i : Typed). TypePost s at k leaves work i) e post)) in
               true-not (sym y ∙ held-typed s st leaves n t h k Δ w f));
           low = λ j i. refl;
           high = λ j i. refl;
@@ -160,10 +165,11 @@ module _ (s st leaves : List ℕ) (pattern first second : ℕ) (types : List ℕ
 
 -- ---- ranges
 -- a node with binders has a child
-first-of : (s : List ℕ) (t : Tree) (st : List ℕ) (n : ℕ) → Framed s t st n → (k : ℕ) (Γ : Ctx) (g x : ℕ) (us : List Ty) (ks : Forest) → find t [] k ≡ found Γ (node (head g x us) ks)
-    → hasBinders (formOf g .layout) ≡ true → (a : Tree) × ((ls : Forest) × (ks ≡ cons a ls))
+first-of : (s : List ℕ) (t : Tree) (st : List ℕ) (n : ℕ) → Framed s t st n → (k : ℕ) (Γ : Ctx) (g x : ℕ) (us : List Ty) (ks : Forest)
+    → find t [] k ≡ found Γ (node (head g x us) ks) → hasBinders (formOf g .layout) ≡ true → (a : Tree) × ((ls : Forest) × (ks ≡ cons a ls))
 first-of s t st n fr k Γ g x us (cons a ls) f h = (a, (ls, refl))
-first-of s t st n fr k Γ g x us nil f h = absurd (none (formOf g .layout) (numberIn g x us 0) h (place-sorted s t st n fr k Γ (node (head g x us) nil) f .1 .1))
+first-of s t st n fr k Γ g x us nil f h = absurd (none (formOf g .layout) (numberIn g x us 0) h
+      (place-sorted s t st n fr k Γ (node (head g x us) nil) f .1 .1))
   where
     none : (l : Layout) (m : ℕ) → hasBinders l ≡ true → Wfs nil (sortsOf l m) → ⊥
     none (these es) m h w = true-not h
@@ -174,7 +180,8 @@ first-of s t st n fr k Γ g x us nil f h = absurd (none (formOf g .layout) (numb
 
 module _ (s : List ℕ) (n : ℕ) (st nx : List ℕ) (first second binder : ℕ) (p : RangesPre s n st nx first second binder) where
   pub range-few : (first < 2048) × (second < 2048) × (binder < 2048)
-  range-few = let z = framed-few s (p .t) st n (p .table .framed) in (omega (arith, p .below .0), omega (arith, p .below .1), omega (arith, p .below .2))
+  range-few = let z = framed-few s (p .t) st n (p .table .framed) in
+      (omega (arith, p .below .0), omega (arith, p .below .1), omega (arith, p .below .2))
 
   pub first-in : PlacedIn s n st nx first
   first-in = record { t = p .t; table = p .table; below = p .below .0 }
@@ -184,7 +191,8 @@ module _ (s : List ℕ) (n : ℕ) (st nx : List ℕ) (first second binder : ℕ)
 
   pub ranges-done : (a b c d e g : ℕ) → a ≡ getD st first 0 → EndAtPost s n st nx first b → c ≡ getD st second 0 → EndAtPost s n st nx second d
       → e ≡ getD st binder 0 → (binder + 1 < 2048 → g ≡ getD st (binder + 1) 0)
-      → RangesPost s n st nx first second binder (record { first = a; «first_end» = b; second = c; «second_end» = d; «first_type» = 0; «second_type» = 64; binders = e + 2; «binders_end» = g })
+      → RangesPost s n st nx first second binder (record { first = a; «first_end» = b; second = c; «second_end» = d; «first_type» = 0;
+              «second_type» = 64; binders = e + 2; «binders_end» = g })
   ranges-done a b c d e g ea eb ec ed ee eg =
       record {
         types = (refl, refl);
@@ -192,7 +200,8 @@ module _ (s : List ℕ) (n : ℕ) (st nx : List ℕ) (first second binder : ℕ)
         of-second = λ t Γ v tb f. rw ec (span-at s t st n (tb .framed) second Γ v f d (ed .ends t Γ v tb f));
         of-binders = λ t Γ o x us ks tb f h.
             (let y = first-of s t st n (tb .framed) binder Γ o x us ks f h in
-            let fy : find t [] binder ≡ found Γ (node (head o x us) (cons (y .0) (y .1 .0))) = f ∙ ap (λ (l : Forest). found Γ (node (head o x us) l)) (y .1 .1) in
+            let fy : find t [] binder ≡ found Γ (node (head o x us) (cons (y .0) (y .1 .0))) = f ∙ ap
+                (λ (l : Forest). found Γ (node (head o x us) l)) (y .1 .1) in
             let l = framed-few s t st n (tb .framed) in
             let z = two-places t [] binder Γ (head o x us) (y .0) (y .1 .0) fy in
             rw (ee, eg (omega arith)) (binders-at s t st n (tb .framed) binder Γ o x us (y .0) (y .1 .0) fy h));

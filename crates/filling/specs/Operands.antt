@@ -82,8 +82,9 @@ pub record RangesPost (s : List ℕ) (n : ℕ) (st nx : List ℕ) (first second 
   pub types : (r .«first_type» ≡ 0) × (r .«second_type» ≡ 64)
   pub of-first : (t : Tree) (Γ : Ctx) (v : Tree) → Table s t st nx n → find t [] first ≡ found Γ v → Spans s (r .first) (r .«first_end») (enc v)
   pub of-second : (t : Tree) (Γ : Ctx) (v : Tree) → Table s t st nx n → find t [] second ≡ found Γ v → Spans s (r .second) (r .«second_end») (enc v)
-  pub of-binders : (t : Tree) (Γ : Ctx) (g x : ℕ) (us : List Ty) (ks : Forest) → Table s t st nx n → find t [] binder ≡ found Γ (node (head g x us) ks)
-      → hasBinders (formOf g .layout) ≡ true → Spans s (r .binders) (r .«binders_end») (length us ∷ encTys us)
+  pub of-binders : (t : Tree) (Γ : Ctx) (g x : ℕ) (us : List Ty) (ks : Forest) → Table s t st nx n
+      → find t [] binder ≡ found Γ (node (head g x us) ks) → hasBinders (formOf g .layout) ≡ true
+      → Spans s (r .binders) (r .«binders_end») (length us ∷ encTys us)
 
 -- ---- a pattern filled
 -- what stands at the three places, and that the pattern's binders are there
@@ -107,6 +108,7 @@ pub record FillPre (s : List ℕ) (n : ℕ) (st nx leaves : List ℕ) (pattern f
   pub us : List Ty
   pub places : FillAt t pattern first second binder Δ a b us
 
-pub record FillPost (s : List ℕ) (n : ℕ) (st nx leaves : List ℕ) (pattern first second binder : ℕ) (o : List ℕ) (at : ℕ) (p : List ℕ) (r : ℕ) : Type 0 where
-  pub puts : (t : Tree) (Δ : Ctx) (a b : Tree) (us : List Ty) → Table s t st nx n → Held s st leaves n t → FillAt t pattern first second binder Δ a b us
-      → Puts o at p r (filled (template pattern) (filling Δ a b us))
+pub record FillPost (s : List ℕ) (n : ℕ) (st nx leaves : List ℕ) (pattern first second binder : ℕ) (o : List ℕ) (at : ℕ)
+    (p : List ℕ) (r : ℕ) : Type 0 where
+  pub puts : (t : Tree) (Δ : Ctx) (a b : Tree) (us : List Ty) → Table s t st nx n → Held s st leaves n t
+      → FillAt t pattern first second binder Δ a b us → Puts o at p r (filled (template pattern) (filling Δ a b us))

@@ -30,7 +30,8 @@ from-on (suc n) k f e t l h =
 abbrev pub alongRows : (ℕ → Class → Bool) → ℕ → ℕ → List Row → Bool
 alongRows f n k [] = allFrom (n - k) k (λ t. f t unlisted)
 alongRows f n k (row from to c ∷ rows) =
-    (leb k from && leb from to) && ((allFrom (from - k) k (λ t. f t unlisted) && allFrom (suc to - from) from (λ t. f t c)) && alongRows f n (suc to) rows)
+    (leb k from && leb from to) && ((allFrom (from - k) k (λ t. f t unlisted) && allFrom (suc to - from) from (λ t. f t c)) &&
+          alongRows f n (suc to) rows)
 
 -- what the test says of the first row, and of the rest
 record Along (f : ℕ → Class → Bool) (n k from to : ℕ) (c : Class) (rows : List Row) : Type 0 where
@@ -40,7 +41,8 @@ record Along (f : ℕ → Class → Bool) (n k from to : ℕ) (c : Class) (rows 
   own : allFrom (suc to - from) from (λ t. f t c) ≡ true
   rest : alongRows f n (suc to) rows ≡ true
 
-parts : (f : ℕ → Class → Bool) (n k from to : ℕ) (c : Class) (rows : List Row) → alongRows f n k (row from to c ∷ rows) ≡ true → Along f n k from to c rows
+parts : (f : ℕ → Class → Bool) (n k from to : ℕ) (c : Class) (rows : List Row) → alongRows f n k (row from to c ∷ rows) ≡ true
+    → Along f n k from to c rows
 parts f n k from to c rows e =
     let gap-test = allFrom (from - k) k (λ t. f t unlisted) in
     let own-test = allFrom (suc to - from) from (λ t. f t c) in
@@ -63,7 +65,8 @@ before-rows f n k (row from to c ∷ rows) e t h =
     let o = p .order in
     past (leb from t) (leb t to) c (lookup rows t) (lt-leb from t (omega arith)) ∙ before-rows f n (suc to) rows (p .rest) t (omega arith)
 
-by-row : (f : ℕ → Class → Bool) (t : ℕ) (c d : Class) (a b : Bool) → (a ≡ false → f t d ≡ true) → (a ≡ true → b ≡ true → f t c ≡ true) → (b ≡ false → f t d ≡ true) → f t (pick (a && b) c d) ≡ true
+by-row : (f : ℕ → Class → Bool) (t : ℕ) (c d : Class) (a b : Bool) → (a ≡ false → f t d ≡ true) → (a ≡ true → b ≡ true → f t c ≡ true)
+    → (b ≡ false → f t d ≡ true) → f t (pick (a && b) c d) ≡ true
 by-row f t c d true true x y z = y refl refl
 by-row f t c d true false x y z = z refl
 by-row f t c d false b x y z = x refl
@@ -75,7 +78,8 @@ along f n k (row from to c ∷ rows) e t l h =
     let p = parts f n k from to c rows e in
     let o = p .order in
     by-row f t c (lookup rows t) (leb from t) (leb t to)
-    (λ x. (let i = leb-false from t x in ap (λ (d : Class). f t d) (before-rows f n (suc to) rows (p .rest) t (omega arith)) ∙ from-on (from - k) k (λ i. f i unlisted) (p .gap) t l (omega arith)))
+    (λ x. (let i = leb-false from t x in ap (λ (d : Class). f t d) (before-rows f n (suc to) rows (p .rest) t (omega arith)) ∙ from-on
+            (from - k) k (λ i. f i unlisted) (p .gap) t l (omega arith)))
     (λ x y. (let i = leb-true from t x in let j = leb-true t to y in from-on (suc to - from) from (λ i. f i c) (p .own) t i (omega arith)))
     (λ y. (let j = leb-false t to y in along f n (suc to) rows (p .rest) t (omega arith) h))
 

@@ -38,7 +38,8 @@ pub parse-inv : (s : List ℕ) (t : Tree) → parse s ≡ tree t → ParseInv s 
 unfolding parse
 parse-inv s t e = on-size (eqb (length s) 0) (ltb frameLimit (length s)) refl refl e
   where
-    on-root : 0 < length s → length s ≤ frameLimit → (x : Res) → readNode (suc (length s)) s predicate 0 ≡ x → whole (length s) x ≡ tree t → ParseInv s t
+    on-root : 0 < length s → length s ≤ frameLimit → (x : Res) → readNode (suc (length s)) s predicate 0 ≡ x
+        → whole (length s) x ≡ tree t → ParseInv s t
     on-root a b (ok u q) ex e =
         let i = else-of (ltb q (length s)) (bad 7) (tree u) (tree t) (λ z. bad-not z) e in
         let et : u ≡ t = cc (i .1) in
@@ -84,7 +85,8 @@ head-bytes : (e : Sort) (g n : ℕ) (ts : List Ty) (k : ℕ) → HeadWf e g n ts
 unfolding encHead
 head-bytes e g n ts k w =
     bytes-append (encNumber 2 g) (encNumber (width (formOf g .layout)) (numberIn g n ts k) ++ encTys ts) (number-bytes 2 g (w .small))
-    (bytes-append (encNumber (width (formOf g .layout)) (numberIn g n ts k)) (encTys ts) (number-bytes (width (formOf g .layout)) (numberIn g n ts k) (w .fits)) (tys-bytes ts (w .types)))
+    (bytes-append (encNumber (width (formOf g .layout)) (numberIn g n ts k)) (encTys ts)
+          (number-bytes (width (formOf g .layout)) (numberIn g n ts k) (w .fits)) (tys-bytes ts (w .types)))
 
 mutual
   unfolding enc

@@ -11,7 +11,9 @@ use Rattle.frame.specs.Types.{Ty}
 use Rattle.frame.specs.Trees.{Head, head, Tree, node, Forest, nil, cons, count}
 use Rattle.frame.specs.Tags.{Sort, sameSort, Layout, Form, formOf, width, sortsOf}
 use Rattle.frame.specs.Encoding.{encNumber, encTys, encHead, enc, encs}
-use Rattle.frame.specs.Reading.{readTys, HeadRes, okH, withTys, withNumber, withForm, readHead, Res, ok, okF, consF, thenF, readMany, nodeOf, withKids, readNode}
+use Rattle.frame.specs.Reading.{
+  readTys, HeadRes, okH, withTys, withNumber, withForm, readHead, Res, ok, okF, consF, thenF, readMany, nodeOf, withKids, readNode
+}
 use Rattle.frame.specs.WellFormed.{numberIn, HeadWf, Wf, Wfs}
 use Rattle.frame.specs.Spans.{Spans}
 use Rattle.frame.proofs.Spans.{span-left, span-right}
@@ -50,7 +52,8 @@ abbrev NodeBack : Tree → Type 0
 NodeBack t = (f : ℕ) (s : List ℕ) (e : Sort) (at q : ℕ) → Spans s at q (enc t) → Wf t e → q < at + f → readNode f s e at ≡ ok t q
 
 abbrev ManyBack : Forest → Type 0
-ManyBack ks = (f : ℕ) (s : List ℕ) (es : List Sort) (at q : ℕ) → Spans s at q (encs ks) → Wfs ks es → q < at + f → readMany es (readNode f s) at ≡ okF ks q
+ManyBack ks = (f : ℕ) (s : List ℕ) (es : List Sort) (at q : ℕ) → Spans s at q (encs ks) → Wfs ks es → q < at + f
+    → readMany es (readNode f s) at ≡ okF ks q
 
 node-at : (g n : ℕ) (ts : List Ty) (ks : Forest) → ManyBack ks → NodeBack (node (head g n ts) ks)
 unfolding enc readNode

@@ -7,7 +7,9 @@ use native.Mathlib.Omega.{arith}
 use lib.ListN.{length}
 use Rattle.frame.specs.Types.{Ty}
 use Rattle.frame.specs.Trees.{Head, head, Tree, node, Forest, nil, count}
-use Rattle.frame.specs.Tags.{Sort, Layout, these, payload, counted, binding, formOf, width, inRange, numberOf, payloadOf, typesOf, repeat, sortsOf}
+use Rattle.frame.specs.Tags.{
+  Sort, Layout, these, payload, counted, binding, formOf, width, inRange, numberOf, payloadOf, typesOf, repeat, sortsOf
+}
 use Rattle.frame.specs.Encoding.{encNumber, encTys, encHead, enc, encs}
 use Rattle.frame.specs.Reading.{numberAt, okH, readHead, Res, ok, okF, readMany, readNode}
 use Rattle.frame.specs.WellFormed.{numberIn, HeadWf, Wf, Wfs}
@@ -29,7 +31,8 @@ no-width zero s p e = refl
 no-width (suc w) s p e = absurd (omega arith)
 
 -- x, of a node with as many types and children as x asks for
-pub said-again : (l : Layout) (c x m k : ℕ) → (width l ≡ 0 → x ≡ 0) → m ≡ typesOf l c x → k ≡ length (sortsOf l x) → numberOf l (payloadOf l x) m k ≡ x
+pub said-again : (l : Layout) (c x m k : ℕ) → (width l ≡ 0 → x ≡ 0) → m ≡ typesOf l c x → k ≡ length (sortsOf l x)
+    → numberOf l (payloadOf l x) m k ≡ x
 said-again (these es) c x m k z em ek = sym (z refl)
 said-again (payload w) c x m k z em ek = refl
 said-again (counted lo hi e) c x m k z em ek = ek ∙ repeat-length e x
@@ -70,7 +73,8 @@ head-read s bs at e h p es eq k ek =
       own = n;
       ts = ts;
       is = v .is;
-      span = rw (v .is) (subst (Spans s at p) (append-assoc (encNumber 2 g) (encNumber (width l) (numberIn g n ts k)) (encTys ts)) (span-join front back));
+      span = rw (v .is) (subst (Spans s at p) (append-assoc (encNumber 2 g) (encNumber (width l) (numberIn g n ts k))
+              (encTys ts)) (span-join front back));
       types = t .span;
       past = omega (arith, back .long);
       wf = record {

@@ -6,6 +6,7 @@ pub mod Encoding
 pub mod Reading
 pub mod At
 pub mod Lines
+pub mod Texts
 pub mod Places
 pub mod Sameness
 pub mod WellFormed

@@ -38,7 +38,8 @@ unfolding formAtCode
 past-950 g h =
     let z : formOf g ≡ formAtCode 0 = sym (form-code (classOf g)) ∙ ap formAtCode (beyond g (omega arith)) in
     ap (λ (f : Form). eqb (layoutKind (f .layout)) 3) z
-    ∙ sym (simp (ne-eqb g 801 (λ e. omega arith), ne-eqb g 802 (λ e. omega arith), ne-eqb g 803 (λ e. omega arith), ne-eqb g 851 (λ e. omega arith), ne-eqb g 852 (λ e. omega arith)))
+    ∙ sym (simp (ne-eqb g 801 (λ e. omega arith), ne-eqb g 802 (λ e. omega arith), ne-eqb g 803 (λ e. omega arith), ne-eqb g 851
+            (λ e. omega arith), ne-eqb g 852 (λ e. omega arith)))
 
 pub binder-kind : (g : ℕ) → eqb (layoutKind (formOf g .layout)) 3 ≡ isBinder g
 binder-kind g = go (ltb g 950) refl
@@ -103,7 +104,8 @@ module _ (s st : List ℕ) (k : ℕ) where
       go : (Γ : Ctx) (v : Tree) → find (p .t) [] k ≡ found Γ v → Somewhere
       go Γ (node (head g x us) ks) f = record { t = p .t; N = p .n; Γ = Γ; g = g; x = x; us = us; ks = ks; framed = p .framed; there = f }
 
-  module _ (t : Tree) (N : ℕ) (Γ : Ctx) (g x : ℕ) (us : List Ty) (ks : Forest) (fr : Framed s t st N) (f : find t [] k ≡ found Γ (node (head g x us) ks)) where
+  module _ (t : Tree) (N : ℕ) (Γ : Ctx) (g x : ℕ) (us : List Ty) (ks : Forest) (fr : Framed s t st N)
+      (f : find t [] k ≡ found Γ (node (head g x us) ks)) where
     numbers-at : Numbers s (getD st k 0) g x us (count ks)
     numbers-at =
         let o = place-sorted s t st N fr k Γ (node (head g x us) ks) f in

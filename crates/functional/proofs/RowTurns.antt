@@ -62,7 +62,8 @@ pub record First (nx : List ℕ) (t : Tree) (Γ : Ctx) (c : ℕ) (ks : Forest) :
   pub far : c < getD nx c 0
   pub near : c < nodes t
 
-first-of : (s st nx : List ℕ) (t : Tree) (N : ℕ) → Table s t st nx N → (Γ : Ctx) (c : ℕ) (ks : Forest) → InRow t Γ c ks → 0 < count ks → First nx t Γ c ks
+first-of : (s st nx : List ℕ) (t : Tree) (N : ℕ) → Table s t st nx N → (Γ : Ctx) (c : ℕ) (ks : Forest) → InRow t Γ c ks
+    → 0 < count ks → First nx t Γ c ks
 first-of s st nx t N tb Γ c nil kids h = absurd (omega arith)
 first-of s st nx t N tb Γ c (cons (node (head g x us) below) others) kids h =
     let v : Tree = node (head g x us) below in
@@ -126,7 +127,8 @@ module _ (s st nx : List ℕ) (c m : ℕ) (some : m ≡ 0 → ⊥) where
           many = others-count (h .t) (h .Γ) (h .ks) o (h .many);
         }
 
-    module _ (d n : ℕ) (all : Bool) (b r : ℕ) (pb : BindersPost s st c b) (pk : KidsPost s st c all r) (own below others : ℕ) (po : OwnPost s st c d n own)
+    module _ (d n : ℕ) (all : Bool) (b r : ℕ) (pb : BindersPost s st c b) (pk : KidsPost s st c all r) (own below others : ℕ)
+        (po : OwnPost s st c d n own)
         (pd : NamedPost s st nx (c + 1) r (d + b) n all below) (pr : NamedPost s st nx next (m - 1) d n all others) where
       three : (l x y z : Bool) → (((l && x) || (l && y)) || (l && z)) ≡ (l && ((x || y) || z))
       three true x y z = refl
@@ -151,7 +153,8 @@ module _ (s st nx : List ℕ) (c m : ℕ) (some : m ≡ 0 → ⊥) where
               bit-or (bitOr own below) others i
               ∙ ap₂ _||_ (bit-or own below i ∙ ap₂ _||_ u v) w
               ∙ three (ltb i n) _ _ _
-              ∙ ap (λ (q : Bool). ltb i n && q) (sym (ap (λ (f : Forest). named all f (i + d)) (o .is) ∙ named-step all (o .g) (o .x) (o .us) (o .below) (o .others) (i + d)))
+              ∙ ap (λ (q : Bool). ltb i n && q) (sym (ap (λ (f : Forest). named all f (i + d)) (o .is) ∙ named-step all (o .g) (o .x)
+                      (o .us) (o .below) (o .others) (i + d)))
 
 pub named-none : (s st nx : List ℕ) (c m d n : ℕ) (all : Bool) → m ≡ 0 → NamedPost s st nx c m d n all 0
 named-none s st nx c m d n all z = record { bits = λ t N Γ ks tb kids em i. bit-none i ∙ go ks (sym em ∙ z) i }
@@ -179,7 +182,8 @@ check-below v w zero = refl
 check-below v w (suc n) = ap (λ (b : Bool). (not (uses w n) || recovers v n) && b) (check-below v w n)
 
 -- the two masks say what the check says
-module _ (n u v : ℕ) (f h : ℕ → Bool) (used : (i : ℕ) → bit u i ≡ (ltb i n && (f (i + 0) || false))) (back : (i : ℕ) → bit v i ≡ (ltb i n && (h (i + 0) || false))) where
+module _ (n u v : ℕ) (f h : ℕ → Bool) (used : (i : ℕ) → bit u i ≡ (ltb i n && (f (i + 0) || false)))
+    (back : (i : ℕ) → bit v i ≡ (ltb i n && (h (i + 0) || false))) where
   at-zero : (i : ℕ) → i + 0 ≡ i
   at-zero i = omega arith
 
@@ -194,10 +198,12 @@ module _ (n u v : ℕ) (f h : ℕ → Bool) (used : (i : ℕ) → bit u i ≡ (l
 
 module _ (s st nx : List ℕ) (left right : ℕ) where
   pub row-right : Both s st nx left right → Row s st nx right 1
-  row-right h = record { t = h .t; N = h .N; table = h .table; Γ = h .Γ; ks = cons (h .w) nil; kids = one-row (h .t) right (h .Γ) (h .w) (h .at-right); many = refl }
+  row-right h = record { t = h .t; N = h .N; table = h .table; Γ = h .Γ; ks = cons (h .w) nil; kids = one-row (h .t) right (h .Γ) (h .w)
+        (h .at-right); many = refl }
 
   pub row-left : Both s st nx left right → Row s st nx left 1
-  row-left h = record { t = h .t; N = h .N; table = h .table; Γ = h .Γ; ks = cons (h .v) nil; kids = one-row (h .t) left (h .Γ) (h .v) (h .at-left); many = refl }
+  row-left h = record { t = h .t; N = h .N; table = h .table; Γ = h .Γ; ks = cons (h .v) nil; kids = one-row (h .t) left (h .Γ) (h .v)
+        (h .at-left); many = refl }
 
   module _ (n u v : ℕ) (pu : NamedPost s st nx right 1 0 n true u) (pv : NamedPost s st nx left 1 0 n false v) where
     pub check-done : n ≤ 32 → u < 4294967296 → v < 4294967296 → FunctionalPost s st nx left right n (eqb (bitAnd u (4294967295 - v)) 0)

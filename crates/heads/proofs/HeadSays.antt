@@ -43,7 +43,8 @@ yes-of from (noH d) g n tp p k a b e = let z : _≡_ {A = ℕ} 0 1 = cc in absur
 abbrev pub SaidThere : List ℕ → ℕ → Sort → (g n tp p k : ℕ) (a b : Bool) → Type 0
 SaidThere s at e = HeadSaid (typesAt s at) (readHead s at e)
 
-pub head-yes : (s : List ℕ) (at : ℕ) (e : Sort) (g n tp p k : ℕ) (a b : Bool) → H.Is g n tp p k a b ≡ headThere s at e → SaidThere s at e g n tp p k a b
+pub head-yes : (s : List ℕ) (at : ℕ) (e : Sort) (g n tp p k : ℕ) (a b : Bool) → H.Is g n tp p k a b ≡ headThere s at e
+    → SaidThere s at e g n tp p k a b
 head-yes s at e g n tp p k a b eq = yes-of (typesAt s at) (readHead s at e) g n tp p k a b eq
 
 -- the sorts of the children of a head that is read, by the first and the later ones

@@ -86,7 +86,8 @@ module _ (s : List ℕ) (at : ℕ) (e : Bool) (h : at + 2 ≤ length s) (tag : �
 
           found-of : (y : TysRes) (q : ℕ) (r : HeadAnswer) → Ty.Ends q ≡ typesAnswer y → HeadIs form tag x (at + 2 + w) q r
               → r ≡ headAnswer (at + 2 + w) (withTys (formAtCode form) tag x y)
-          found-of (okTs ts p) q r e₁ hr = let z : q ≡ p = cc in hr ts ∙ ap (λ (i : ℕ). headAnswer (at + 2 + w) (withTys (formAtCode form) tag x (okTs ts i))) z
+          found-of (okTs ts p) q r e₁ hr = let z : q ≡ p = cc in
+              hr ts ∙ ap (λ (i : ℕ). headAnswer (at + 2 + w) (withTys (formAtCode form) tag x (okTs ts i))) z
           found-of (noTs c) q r e₁ hr = ends-not (sym e₁)
 
           no-of : (y : TysRes) (c : ℕ) → Ty.Refused c ≡ typesAnswer y → Refused c ≡ headAnswer (at + 2 + w) (withTys (formAtCode form) tag x y)

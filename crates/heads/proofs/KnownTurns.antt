@@ -1,5 +1,5 @@
 -- The ways out of `skip_types` and `known_head`, on plain values.
--- Main results: stand-room, skip-end, hand-on, hand-back (types in a row, by the first byte); head-at, known-two, known-types, known-room,
+-- Main results: stand-room, after-first (types in a row, by the first byte), skip-end, hand-on, hand-back; head-at, known-two, known-types, known-room,
 -- known-range, known-found, known-end (a head that stands there).
 use mathlib.Core.Path.{_≡_, refl, sym, ap, ap₂, _∙_, subst}
 use mathlib.Core.Bool.{Bool, true, false}
@@ -8,7 +8,6 @@ use Prim.Native.Nat.{ℕ, zero, suc, _+_, _-_, _≤_, _<_}
 use native.Mathlib.Omega.{arith}
 use lib.ListN.{length, getD}
 use lib.Dec.{eqb}
-use borrow.Author.Tests.{ne-eqb, lt-ltb}
 use Rattle.frame.specs.Types.{Ty, bool, int, given, pow, prod}
 use Rattle.frame.specs.Trees.{Head, Tree}
 use Rattle.frame.specs.Tags.{pick, Sort, Form, width, inRange, typesOf, classOf, formOf}
@@ -31,27 +30,14 @@ use Rattle.heads.proofs.HeadTurns.{HeadIs}
 pub stand-room : (s : List ℕ) (at m : ℕ) → TypesStand s at m → at + m ≤ length s
 stand-room s at m h = let x = h .3 .long in let y = h .3 .within in let z = h .2 in omega (arith, tys-long (h .0))
 
--- what the first byte says of them
-data Next (s : List ℕ) (at m q : ℕ) : Type 0 where
-  leaf-next : (rest : List Ty) → getD s at 0 < 2 → length rest ≡ m - 1 → Spans s (at + 1) q (encTys rest) → Next s at m q
-  given-next : (rest : List Ty) → getD s at 0 ≡ 2 → length rest ≡ m - 1 → Spans s (at + 3) q (encTys rest) → Next s at m q
-  pow-next : (rest : List Ty) → getD s at 0 ≡ 3 → length rest ≡ m → Spans s (at + 1) q (encTys rest) → Next s at m q
-  prod-next : (rest : List Ty) → getD s at 0 ≡ 4 → length rest ≡ m + 1 → Spans s (at + 1) q (encTys rest) → Next s at m q
-
-next : (s : List ℕ) (at m : ℕ) → (m ≡ 0 → ⊥) → (us : List Ty) (q : ℕ) → length us ≡ m → Spans s at q (encTys us) → Next s at m q
-unfolding encTys encTy
-next s at m z [] q l a = absurd (z (sym l))
-next s at m z (bool ∷ us) q l a = let b = span-first a in let c = b .byte in leaf-next us (omega arith) (omega arith) (b .rest)
-next s at m z (int ∷ us) q l a = let b = span-first a in let c = b .byte in leaf-next us (omega arith) (omega arith) (b .rest)
-next s at m z (given n ∷ us) q l a =
-    let b = span-first a in
-    let e : at + 1 + 2 ≡ at + 3 = omega arith in
-    given-next us (b .byte) (omega arith) (subst (λ (i : ℕ). Spans s i q (encTys us)) (ap (λ (i : ℕ). at + 1 + i) (number-length 2 n) ∙ e) (span-right (encNumber 2 n) (encTys us) (b .rest)))
-next s at m z (pow t ∷ us) q l a = let b = span-first a in pow-next (t ∷ us) (b .byte) l (b .rest)
-next s at m z (prod t u ∷ us) q l a =
-    let b = span-first a in
-    let c : Spans s (at + 1) q (encTy t ++ (encTy u ++ encTys us)) = rw append-assoc at (b .rest) in
-    prod-next (t ∷ u ∷ us) (b .byte) (omega arith) c
+-- the types that are left behind the first byte of some
+abbrev pub afterFirst : List Ty → List Ty
+afterFirst [] = []
+afterFirst (bool ∷ us) = us
+afterFirst (int ∷ us) = us
+afterFirst (given k ∷ us) = us
+afterFirst (pow t ∷ us) = t ∷ us
+afterFirst (prod t u ∷ us) = t ∷ u ∷ us
 
 pub skip-end : (s : List ℕ) (at m : ℕ) → m ≡ 0 → SkipPost s at m at
 unfolding encTys
@@ -61,37 +47,38 @@ skip-end s at m z = record { ends = λ us q l a. none us q l a }
     none [] q l a = omega (arith, a .long)
     none (u ∷ us) q l a = absurd (omega arith)
 
--- the types that are left behind the first byte's
-leaf-lead : (b : ℕ) → b < 2 → (leadOf b ≡ 1) × (partsOf b ≡ 0)
-leaf-lead b h =
-    let z : b ≡ 2 → ⊥ = omega arith in
-    (ap (λ (x : Bool). pick x 3 1) (ne-eqb b 2 z), ap (λ (x : Bool). pick x 0 (b - 2)) (lt-ltb b 3 (omega arith)))
-
 module _ (s : List ℕ) (at m : ℕ) (z : m ≡ 0 → ⊥) (to n : ℕ) (et : to ≡ at + leadOf (getD s at 0)) (en : n ≡ m - 1 + partsOf (getD s at 0)) where
-  abbrev Left : ℕ → Type 0
-  Left q = (rest : List Ty) × (length rest ≡ n) × Spans s to q (encTys rest)
-
-  by-lead : (q b step parts : ℕ) → getD s at 0 ≡ b → leadOf b ≡ step → partsOf b ≡ parts → (rest : List Ty) → length rest ≡ m - 1 + parts → Spans s (at + step) q (encTys rest) → Left q
+  by-lead : (q b step parts : ℕ) → getD s at 0 ≡ b → leadOf b ≡ step → partsOf b ≡ parts → (rest : List Ty) → length rest ≡ m - 1 + parts
+      → Spans s (at + step) q (encTys rest) → (length rest ≡ n) × Spans s to q (encTys rest)
   by-lead q b step parts eb es ep rest l x =
       let zt : at + step ≡ to = sym (et ∙ ap (λ (i : ℕ). at + leadOf i) eb ∙ ap (λ (i : ℕ). at + i) es) in
       let zn : m - 1 + parts ≡ n = sym (en ∙ ap (λ (i : ℕ). m - 1 + partsOf i) eb ∙ ap (λ (i : ℕ). m - 1 + i) ep) in
-      (rest, l ∙ zn, subst (λ (i : ℕ). Spans s i q (encTys rest)) zt x)
+      (l ∙ zn, subst (λ (i : ℕ). Spans s i q (encTys rest)) zt x)
 
-  onward : (us : List Ty) (q : ℕ) → length us ≡ m → Spans s at q (encTys us) → Left q
-  onward us q l a = go (next s at m z us q l a)
-    where
-      go : Next s at m q → Left q
-      go (leaf-next rest e k x) = let w = leaf-lead (getD s at 0) e in by-lead q (getD s at 0) 1 0 refl (w .0) (w .1) rest (omega arith) x
-      go (given-next rest e k x) = by-lead q 2 3 0 e refl refl rest (omega arith) x
-      go (pow-next rest e k x) = by-lead q 3 1 1 e refl refl rest (omega arith) x
-      go (prod-next rest e k x) = by-lead q 4 1 2 e refl refl rest (omega arith) x
+  pub after-first : (us : List Ty) (q : ℕ) → length us ≡ m → Spans s at q (encTys us)
+      → (length (afterFirst us) ≡ n) × Spans s to q (encTys (afterFirst us))
+  unfolding encTys encTy
+  after-first [] q l a = absurd (z (sym l))
+  after-first (bool ∷ us) q l a = let b = span-first a in by-lead q 0 1 0 (b .byte) refl refl us (omega arith) (b .rest)
+  after-first (int ∷ us) q l a = let b = span-first a in by-lead q 1 1 0 (b .byte) refl refl us (omega arith) (b .rest)
+  after-first (given k ∷ us) q l a =
+      let b = span-first a in
+      let e : at + 1 + 2 ≡ at + 3 = omega arith in
+      by-lead q 2 3 0 (b .byte) refl refl us (omega arith)
+          (subst (λ (i : ℕ). Spans s i q (encTys us)) (ap (λ (i : ℕ). at + 1 + i) (number-length 2 k) ∙ e)
+            (span-right (encNumber 2 k) (encTys us) (b .rest)))
+  after-first (pow t ∷ us) q l a = let b = span-first a in by-lead q 3 1 1 (b .byte) refl refl (t ∷ us) (omega arith) (b .rest)
+  after-first (prod t u ∷ us) q l a =
+      let b = span-first a in
+      let c : Spans s (at + 1) q (encTy t ++ (encTy u ++ encTys us)) = rw append-assoc at (b .rest) in
+      by-lead q 4 1 2 (b .byte) refl refl (t ∷ u ∷ us) (omega arith) c
 
   -- what is handed on, and what is handed back
   pub hand-on : TypesStand s at m → TypesStand s to n
-  hand-on h = let x = onward (h .0) (h .1) (h .2) (h .3) in (x .0, h .1, x .1, x .2)
+  hand-on h = let x = after-first (h .0) (h .1) (h .2) (h .3) in (afterFirst (h .0), h .1, x .0, x .1)
 
   pub hand-back : (r : ℕ) → SkipPost s to n r → SkipPost s at m r
-  hand-back r p = record { ends = λ us q l a. (let x = onward us q l a in p .ends (x .0) q (x .1) (x .2)) }
+  hand-back r p = record { ends = λ us q l a. (let x = after-first us q l a in p .ends (afterFirst us) q (x .0) (x .1)) }
 
   pub further : TypesStand s at m → (at < to) × (to + n ≤ length s)
   further h = (by (getD s at 0) refl, stand-room s to n (hand-on h))
@@ -111,7 +98,8 @@ pub record Skipping (s : List ℕ) (at m p left : ℕ) : Type 0 where
 pub skip-begins : (s : List ℕ) (at m : ℕ) → TypesStand s at m → Skipping s at m at m
 skip-begins s at m h = record { stands = h; back = λ r p. p }
 
-module _ (s : List ℕ) (at m p left : ℕ) (w : Skipping s at m p left) (z : 0 < left) (x y : ℕ) (ex : x ≡ leadOf (getD s p 0)) (ey : y ≡ partsOf (getD s p 0)) where
+module _ (s : List ℕ) (at m p left : ℕ) (w : Skipping s at m p left) (z : 0 < left) (x y : ℕ) (ex : x ≡ leadOf (getD s p 0))
+    (ey : y ≡ partsOf (getD s p 0)) where
   some : left ≡ 0 → ⊥
   some e = omega arith
 
@@ -131,7 +119,8 @@ module _ (s : List ℕ) (at m p left : ℕ) (w : Skipping s at m p left) (z : 0 
       further s p left some (p + x) (left - 1 + y) et en (w .stands)
 
 -- the first byte alone: what it leads
-pub skip-lead : (s : List ℕ) (at m p left : ℕ) → Skipping s at m p left → 0 < left → (x : ℕ) → x ≡ leadOf (getD s p 0) → (p < p + x) × (p + x ≤ length s)
+pub skip-lead : (s : List ℕ) (at m p left : ℕ) → Skipping s at m p left → 0 < left → (x : ℕ) → x ≡ leadOf (getD s p 0)
+    → (p < p + x) × (p + x ≤ length s)
 skip-lead s at m p left w z x ex =
     let f = skip-further s at m p left w z x (partsOf (getD s p 0)) ex refl in
     (f .0, omega (arith, f .1))
@@ -165,7 +154,8 @@ pub known-two : (s : List ℕ) (at : ℕ) → HeadStands s at → at + 2 ≤ len
 known-two s at k = head-at s at (k .0) (k .1) (k .2) (k .3) .inv .two-ok
 
 -- the tag, its form, the width of its number, and the number
-module _ (s : List ℕ) (at tag : ℕ) (et : tag ≡ numberAt 2 s at) (form : ℕ) (ef : form ≡ formCode (classOf tag)) (w : ℕ) (ew : w ≡ width (layoutAt form)) where
+module _ (s : List ℕ) (at tag : ℕ) (et : tag ≡ numberAt 2 s at) (form : ℕ) (ef : form ≡ formCode (classOf tag)) (w : ℕ)
+    (ew : w ≡ width (layoutAt form)) where
   is-form : formAtCode form ≡ formOf (tagAt s at)
   is-form = code-form tag form ef ∙ ap formOf et
 
@@ -190,7 +180,8 @@ module _ (s : List ℕ) (at tag : ℕ) (et : tag ≡ numberAt 2 s at) (form : �
       is-many : m ≡ typesOf (formOf (tagAt s at) .layout) (formOf (tagAt s at) .carried) (behind s at)
       is-many = em ∙ ap₂ (λ (fm : Form) (i : ℕ). typesOf (fm .layout) (fm .carried) i) is-form is-behind
 
-      tys-of : Bytes s → (e : Sort) (t : Tree) (q : ℕ) → IsAt s e at t q → (us : List Ty) × (p : ℕ) × (length us ≡ m) × Spans s (at + 2 + w) p (encTys us)
+      tys-of : Bytes s → (e : Sort) (t : Tree) (q : ℕ) → IsAt s e at t q
+          → (us : List Ty) × (p : ℕ) × (length us ≡ m) × Spans s (at + 2 + w) p (encTys us)
       tys-of bs e t q a =
           let k = head-at s at e t q a in
           let v = k .inv in

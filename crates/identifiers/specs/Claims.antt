@@ -98,22 +98,27 @@ pub record TypesAt (s : List ℕ) (at m : ℕ) (us : List Ty) (q : ℕ) : Type 0
 pub record NamePost (s : List ℕ) (n p q : ℕ) (before after : List ℕ) (r : Bool) : Type 0 where
   pub by : (t : Ty) → TypeAt s p q t → Noted s before after (named n t ∷ []) r
 
--- a number has no entry: so the table is not one of all two-byte numbers
-abbrev pub Short : List ℕ → Type 0
-Short table = length table < 65536
+-- one of these claims has a number with no entry: so the table is not one of all two-byte numbers
+pub record Unlisted (table : List ℕ) (new : List Named) : Type 0 where
+  pub number : ℕ
+  pub type : Ty
+  pub claimed : In (named number type) new
+  pub beyond : length table ≤ number
+  pub low : number < 65536
 
 -- how claims were noted that stand in the bytes up to q
 abbrev pub NotedTo : List ℕ → List ℕ → List ℕ → List Named → ℕ → Noting → Type 0
 NotedTo s before after new q (Ends p) = (p ≡ q) × Noted s before after new true
 NotedTo s before after new q Clashed = Noted s before after new false
-NotedTo s before after new q Beyond = Short before
+NotedTo s before after new q Beyond = Unlisted before new
 
 pub record TypesPost (s : List ℕ) (at m : ℕ) (before after : List ℕ) (r : Noting) : Type 0 where
   pub by : (us : List Ty) (q : ℕ) → TypesAt s at m us q → NotedTo s before after (powers (givensTys us)) q r
 
 -- the node at `at`, of some that stand from there to the end
 pub record NodePost (s : List ℕ) (at : ℕ) (before after : List ℕ) (r : Noting) : Type 0 where
-  pub by : (h : Head) (ks later : Forest) (es : List Sort) → Rest s at (cons (node h ks) later) es → NotedTo s before after (claimsOf h) (at + length (encHead h (count ks))) r
+  pub by : (h : Head) (ks later : Forest) (es : List Sort) → Rest s at (cons (node h ks) later) es
+      → NotedTo s before after (claimsOf h) (at + length (encHead h (count ks))) r
 
 abbrev pub GivenPost : List ℕ → ℕ → List ℕ → List ℕ → Bool → Type 0
 GivenPost s n before after r = Noted s before after (named n (pow (given n)) ∷ []) r
@@ -122,7 +127,7 @@ GivenPost s n before after r = Noted s before after (named n (pow (given n)) ∷
 abbrev pub NamesAnswer : List ℕ → List ℕ → List ℕ → List Named → Names → Type 0
 NamesAnswer s before after new Agree = Noted s before after new true
 NamesAnswer s before after new Differ = Noted s before after new false
-NamesAnswer s before after new Undecided = Short before
+NamesAnswer s before after new Undecided = Unlisted before new
 
 pub record NamesPost (s : List ℕ) (at : ℕ) (before after : List ℕ) (r : Names) : Type 0 where
   pub by : (ts : Forest) (es : List Sort) → Rest s at ts es → NamesAnswer s before after (claimsIn ts) r

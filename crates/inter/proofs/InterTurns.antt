@@ -20,7 +20,10 @@ use Rattle.frame.proofs.Splices.{find-lt}
 use Rattle.nav.specs.PlaceTables.{Table, Placed, TagPost, ChildrenPost}
 use Rattle.nav.proofs.Hops.{Sorted, framed-few, place-sorted}
 use Rattle.rules.specs.Change.{to, same, when, joined}
-use Rattle.rules.specs.EqualsEmptySet.{Single, single, none, isSingle, singleOf, anySingle, Singled, singled, noneSingled, besides, orNext, firstSingle, interSingle, isMinus, minusOf, anyMinus, minuends, subtrahends, interEmpty}
+use Rattle.rules.specs.EqualsEmptySet.{
+  Single, single, none, isSingle, singleOf, anySingle, Singled, singled, noneSingled, besides, orNext, firstSingle, interSingle,
+  isMinus, minusOf, anyMinus, minuends, subtrahends, interEmpty
+}
 use Rattle.decision.proofs.Children.{Lefts, walk-first, walk-placed, walk-next, walk-stop, walk-end}
 use Rattle.decision.specs.Decision.{ApartMeans}
 use Rattle.inter.specs.Inter.{MinusPost, InterPre, AnyMinusPost, countSingles, CountPost, SingleAt, FirstPost, apartWhen, InterPost}
@@ -54,11 +57,12 @@ module _ (s st nx : List ℕ) (k : ℕ) where
   pub inter-placed : InterPre s st nx k → Placed s st k × (k < 2048)
   inter-placed pre =
       let b = find-lt (pre .t) [] k (pre .Γ) (node (head 302 (pre .x) (pre .us)) (pre .ks)) (pre .there) in
-      (record { t = pre .t; n = pre .n; framed = pre .table .framed; below = b }, omega (arith, framed-few s (pre .t) st (pre .n) (pre .table .framed)))
+      (record { t = pre .t; n = pre .n; framed = pre .table .framed; below = b },
+            omega (arith, framed-few s (pre .t) st (pre .n) (pre .table .framed)))
 
   -- a child that a loop has come to
-  pub inter-child : (P : Forest → ℕ → Forest → Type 0) (r : ℕ) → ChildrenPost s st k r → (c i : ℕ) → Lefts s st nx k P c i → i < r → InterPre s st nx k
-      → Placed s st c × (c < 2048)
+  pub inter-child : (P : Forest → ℕ → Forest → Type 0) (r : ℕ) → ChildrenPost s st k r → (c i : ℕ) → Lefts s st nx k P c i → i < r
+      → InterPre s st nx k → Placed s st c × (c < 2048)
   inter-child P r many c i ls h pre =
       walk-placed s st nx k P r many c i ls h (pre .t) (pre .n) (pre .Γ) 302 (pre .x) (pre .us) (pre .ks) (pre .table) (pre .there)
 
@@ -68,7 +72,8 @@ module _ (s st nx : List ℕ) (k : ℕ) where
 
   module _ (r : ℕ) (many : ChildrenPost s st k r) (c i : ℕ) (ls : Lefts s st nx k NoMinus c i) where
     module _ (h : i < r) (o : Bool) (post : MinusPost s st c o) where
-      goes-on : (ks : Forest) (w : Tree) (others : Forest) → o ≡ isMinus (minusOf w) → anyMinus ks ≡ anyMinus (cons w others) → anyMinus ks ≡ (o || anyMinus others)
+      goes-on : (ks : Forest) (w : Tree) (others : Forest) → o ≡ isMinus (minusOf w) → anyMinus ks ≡ anyMinus (cons w others)
+          → anyMinus ks ≡ (o || anyMinus others)
       unfolding anyMinus
       goes-on ks w others e p = p ∙ ap (λ (b : Bool). b || anyMinus others) (sym e)
 
@@ -121,21 +126,24 @@ apart-others n m =
     go true = refl
     go false = refl
 
-apart-when : (a : Tree) (rest ks : Forest) → Counted (singled a rest) ks → (eqb (count rest) 1 || not (anySingle rest)) ≡ apartWhen (count ks) (countSingles ks)
+apart-when : (a : Tree) (rest ks : Forest) → Counted (singled a rest) ks
+    → (eqb (count rest) 1 || not (anySingle rest)) ≡ apartWhen (count ks) (countSingles ks)
 apart-when a rest ks h = rw (none-counted rest, h .0, h .1) (sym (apart-others (count rest) (countSingles rest)))
 
 apart-not : (f : Singled) (ks : Forest) → Counted f ks → apartWhen (count ks) (countSingles ks) ≡ false → interSingle f ≡ same
 apart-not (singled a rest) ks h e = rw (apart-when a rest ks h ∙ e)
 apart-not noneSingled ks h e = refl
 
-first-at : (a : Tree) (left right : Forest) → anySingle left ≡ false → firstSingle (append left (cons (many #SetExt (sole a)) right)) ≡ singled a (append left right)
+first-at : (a : Tree) (left right : Forest) → anySingle left ≡ false
+    → firstSingle (append left (cons (many #SetExt (sole a)) right)) ≡ singled a (append left right)
 unfolding anySingle firstSingle
 first-at a nil right h = refl
 first-at a (cons k left) right h = go (singleOf k) h (first-at a left right)
   where
     go : (x : Single) → (isSingle x || anySingle left) ≡ false
         → (anySingle left ≡ false → firstSingle (append left (cons (many #SetExt (sole a)) right)) ≡ singled a (append left right))
-        → orNext x k (append left (cons (many #SetExt (sole a)) right)) (firstSingle (append left (cons (many #SetExt (sole a)) right))) ≡ singled a (cons k (append left right))
+        → orNext x k (append left (cons (many #SetExt (sole a)) right))
+            (firstSingle (append left (cons (many #SetExt (sole a)) right))) ≡ singled a (cons k (append left right))
     go (single b) e ih = let z : _≡_ {A = ℕ} 0 1 = cc in absurd (omega arith)
     go none e ih = ap (besides k) (ih e)
 
@@ -155,7 +163,8 @@ module _ (s st nx : List ℕ) (k r m : ℕ) (many : ChildrenPost s st k r) (sing
   }
     where
       go : (t : Tree) (n : ℕ) (Γ : Ctx) (x : ℕ) (us : List Ty) (ks : Forest) → Table s t st nx n → find t [] k ≡ found Γ (node (head 302 x us) ks)
-          → apartWhen (count ks) (countSingles ks) ≡ true → ((anySingle ks ≡ false) × (p ≡ k)) ⊎ SingleAt (k + 1) p ks → ApartMeans t k p (interEmpty ks)
+          → apartWhen (count ks) (countSingles ks) ≡ true → ((anySingle ks ≡ false) × (p ≡ k)) ⊎ SingleAt (k + 1) p ks
+              → ApartMeans t k p (interEmpty ks)
       go t n Γ x us ks tb f h (inl q) =
           let z : eqb (countSingles ks) 0 ≡ true = sym (none-counted ks) ∙ ap not (q .0) in
           let y : false ≡ true = rw z at h in

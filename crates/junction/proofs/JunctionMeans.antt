@@ -58,13 +58,17 @@ module _ (t : Tree) (k : ℕ) (Γ : Ctx) (g x : ℕ) (us : List Ty) (ks : Forest
   v = node (head g x us) ks
 
   -- a right side of one operand
-  fixed-means : (place pattern p : ℕ) → (ltb pattern 88 && not (takesBinders pattern)) ≡ true → (Δ : Ctx) (a new : Tree) (c : Change) → c ≡ to place new
-      → find t [] p ≡ found Δ a → enc new ≡ filled (template pattern) (filling Δ a a us) → FixedMeans t place pattern p p k c
+  fixed-means : (place pattern p : ℕ) → (ltb pattern 88 && not (takesBinders pattern)) ≡ true → (Δ : Ctx) (a new : Tree) (c : Change)
+      → c ≡ to place new → find t [] p ≡ found Δ a → enc new ≡ filled (template pattern) (filling Δ a a us)
+      → FixedMeans t place pattern p p k c
   fixed-means place pattern p plain Δ a new c e h b =
       fixed-at t place pattern c new e p p k Δ Γ a a v h h f (unbound pattern g plain) b
 
-  module _ (lay : formOf g .layout ≡ counted 2 255 predicate) (neutral determinant pn pd : ℕ) (ln : (ltb pn 88 && not (takesBinders pn)) ≡ true) (ld : (ltb pd 88 && not (takesBinders pd)) ≡ true) (en : (Δ : Ctx) (a b : Tree) → filled (template pn) (filling Δ a b us) ≡ enc (leaf neutral))
-      (ed : (Δ : Ctx) (a b : Tree) → filled (template pd) (filling Δ a b us) ≡ enc (leaf determinant)) (lent : List ℕ) (p : ℕ) (ep : p ≡ getD lent 0 0) where
+  module _ (lay : formOf g .layout ≡ counted 2 255 predicate) (neutral determinant pn pd : ℕ)
+      (ln : (ltb pn 88 && not (takesBinders pn)) ≡ true) (ld : (ltb pd 88 && not (takesBinders pd)) ≡ true)
+      (en : (Δ : Ctx) (a b : Tree) → filled (template pn) (filling Δ a b us) ≡ enc (leaf neutral))
+      (ed : (Δ : Ctx) (a b : Tree) → filled (template pd) (filling Δ a b us) ≡ enc (leaf determinant)) (lent : List ℕ) (p : ℕ)
+          (ep : p ≡ getD lent 0 0) where
     abbrev ends : Kept → Change
     ends c = finish g neutral determinant (count ks) c
 

@@ -65,8 +65,10 @@ count-more n k h e = on-side (leb (n + 1) digitLimit) refl
         on-edge (leb n digitLimit) refl
       where
         on-edge : (b : Bool) → leb n digitLimit ≡ b → k + 1 ≡ shortened (n + 1)
-        on-edge true ec = omega (arith, leb-true n digitLimit ec, leb-false (n + 1) digitLimit eb, e, count-low n (leb-true n digitLimit ec), count-high (n + 1) (leb-false (n + 1) digitLimit eb))
-        on-edge false ec = omega (arith, leb-false n digitLimit ec, e, count-high n (leb-false n digitLimit ec), count-high (n + 1) (leb-false (n + 1) digitLimit eb))
+        on-edge true ec = omega (arith, leb-true n digitLimit ec, leb-false (n + 1) digitLimit eb, e, count-low n
+              (leb-true n digitLimit ec), count-high (n + 1) (leb-false (n + 1) digitLimit eb))
+        on-edge false ec = omega (arith, leb-false n digitLimit ec, e, count-high n (leb-false n digitLimit ec), count-high (n + 1)
+              (leb-false (n + 1) digitLimit eb))
 
 pub count-turn : (n k : ℕ) → digitLimit + 1 < k → k ≡ shortened n → digitLimit + 1 ≡ shortened (n + 1)
 count-turn n k h e =
@@ -125,8 +127,9 @@ bad-pair : (d c : ℕ) → (allDigits (d ∷ []) && good c) ≡ false → lineBy
 unfolding lineBytes allDigits
 bad-pair d c h = let z : (good d && good c) ≡ false = ap (λ (b : Bool). b && good c) (sym (and-true (good d))) ∙ h in rw z
 
-bad-later : (d e : ℕ) (cs : List ℕ) (c : ℕ) (a b : Bool) → good d ≡ a → good e ≡ b → ((allDigits cs && good c) ≡ false → lineBytes (cs ++ (c ∷ [])) ≡ lineBytes cs)
-    → (allDigits (d ∷ e ∷ cs) && good c) ≡ false → lineBytes (d ∷ e ∷ (cs ++ (c ∷ []))) ≡ lineBytes (d ∷ e ∷ cs)
+bad-later : (d e : ℕ) (cs : List ℕ) (c : ℕ) (a b : Bool) → good d ≡ a → good e ≡ b
+    → ((allDigits cs && good c) ≡ false → lineBytes (cs ++ (c ∷ [])) ≡ lineBytes cs) → (allDigits (d ∷ e ∷ cs) && good c) ≡ false
+    → lineBytes (d ∷ e ∷ (cs ++ (c ∷ []))) ≡ lineBytes (d ∷ e ∷ cs)
 unfolding lineBytes allDigits
 bad-later d e cs c true true ea eb ih h =
     let z : (allDigits cs && good c) ≡ false = rw (ea, eb) at h in
@@ -215,7 +218,8 @@ no-digits st cs h es true ea =
     absurd (omega (arith, waiting-small cs ea))
 no-digits st cs h es false ea = ea
 
-digits : (st : LineState) (cs : List ℕ) → st .high ≤ 15 → st ≡ lineState cs → (a : Bool) → allDigits cs ≡ a → (allDigits cs ≡ true) × (st .high ≡ waiting cs)
+digits : (st : LineState) (cs : List ℕ) → st .high ≤ 15 → st ≡ lineState cs → (a : Bool) → allDigits cs ≡ a
+    → (allDigits cs ≡ true) × (st .high ≡ waiting cs)
 digits st cs h es true ea = let e : st .high ≡ pick (allDigits cs) (waiting cs) 16 = ap (λ (x : LineState). x .high) es in (ea, rw ea at e)
 digits st cs h es false ea =
     let e : st .high ≡ pick (allDigits cs) (waiting cs) 16 = ap (λ (x : LineState). x .high) es in
@@ -223,7 +227,8 @@ digits st cs h es false ea =
     absurd (omega arith)
 
 -- ---- state and buffer, after one character more
-module _ (st : LineState) (b : List ℕ) (c next low : ℕ) (en : (n : ℕ) → st .count ≡ shortened n → next ≡ shortened (n + 1)) (el : low ≡ digitOf c) where
+module _ (st : LineState) (b : List ℕ) (c next low : ℕ) (en : (n : ℕ) → st .count ≡ shortened n → next ≡ shortened (n + 1))
+    (el : low ≡ digitOf c) where
   state-is : (cs : List ℕ) (h : ℕ) → st ≡ lineState cs → h ≡ pick (allDigits (cs ++ (c ∷ []))) (waiting (cs ++ (c ∷ []))) 16
       → record { count = next; high = h } ≡ lineState (cs ++ (c ∷ []))
   state-is cs h es eh =
@@ -243,7 +248,8 @@ module _ (st : LineState) (b : List ℕ) (c next low : ℕ) (en : (n : ℕ) → 
   digit-after-bad h old cs es eb = goes-bad cs old (ap (λ (a : Bool). a && good c) (no-digits st cs h es (allDigits cs) refl)) es eb
 
   pub digit-bad : 15 < low → LineGoes st b (c ∷ []) (record { count = next; high = 16 }) b
-  digit-bad h old cs es eb = goes-bad cs old (ap (λ (b : Bool). allDigits cs && b) (lt-leb (digitOf c) 15 (omega arith)) ∙ and-false (allDigits cs)) es eb
+  digit-bad h old cs es eb = goes-bad cs old (ap (λ (b : Bool). allDigits cs && b)
+        (lt-leb (digitOf c) 15 (omega arith)) ∙ and-false (allDigits cs)) es eb
 
   module _ (hh : st .high ≤ 15) (hl : low ≤ 15) where
     gc : good c ≡ true
@@ -259,7 +265,8 @@ module _ (st : LineState) (b : List ℕ) (c next low : ℕ) (en : (n : ℕ) → 
         (state-is cs low es (rw (both cs es) (el ∙ sym (g .0))), eb ∙ ap (λ (x : List ℕ). sets old 0 (take frameLimit x)) (sym (g .1)))
 
     module _ (odd : st .count % 2 ≡ 0 → ⊥) where
-      grown : (cs : List ℕ) → st ≡ lineState cs → (waiting (cs ++ (c ∷ [])) ≡ 0) × (lineBytes (cs ++ (c ∷ [])) ≡ lineBytes cs ++ ((st .high * 16 + low) ∷ []))
+      grown : (cs : List ℕ) → st ≡ lineState cs → (waiting (cs ++ (c ∷ [])) ≡ 0)
+          × (lineBytes (cs ++ (c ∷ [])) ≡ lineBytes cs ++ ((st .high * 16 + low) ∷ []))
       grown cs es =
           let k = count-said (length cs) (st .count) (ap (λ (x : LineState). x .count) es) in
           let d = digits st cs hh es (allDigits cs) refl in
@@ -272,7 +279,8 @@ module _ (st : LineState) (b : List ℕ) (c next low : ℕ) (en : (n : ℕ) → 
       state-odd : (cs : List ℕ) → st ≡ lineState cs → record { count = next; high = 0 } ≡ lineState (cs ++ (c ∷ []))
       state-odd cs es = state-is cs 0 es (rw (both cs es) (sym (grown cs es .0)))
 
-      pub digit-odd : st .count < digitLimit → LineGoes st b (c ∷ []) (record { count = next; high = 0 }) (set b (st .count / 2) (st .high * 16 + low))
+      pub digit-odd : st .count < digitLimit → LineGoes st b (c ∷ []) (record { count = next; high = 0 })
+          (set b (st .count / 2) (st .high * 16 + low))
       digit-odd h old cs es eb =
           let k = count-said (length cs) (st .count) (ap (λ (x : LineState). x .count) es) in
           let bs : List ℕ = lineBytes cs in
@@ -304,7 +312,8 @@ module _ (st : LineState) (b : List ℕ) (c next low : ℕ) (en : (n : ℕ) → 
 pub goes-nil : (st : LineState) (b : List ℕ) → LineGoes st b [] st b
 goes-nil st b old cs es eb = (es ∙ ap lineState (sym (append-nil cs)), eb ∙ ap (λ (x : List ℕ). lineBuffer old x) (sym (append-nil cs)))
 
-pub goes-then : (st st' st'' : LineState) (b b' b'' xs ys : List ℕ) → LineGoes st b xs st' b' → LineGoes st' b' ys st'' b'' → LineGoes st b (xs ++ ys) st'' b''
+pub goes-then : (st st' st'' : LineState) (b b' b'' xs ys : List ℕ) → LineGoes st b xs st' b' → LineGoes st' b' ys st'' b''
+    → LineGoes st b (xs ++ ys) st'' b''
 goes-then st st' st'' b b' b'' xs ys p q old cs es eb =
     let u = p old cs es eb in
     let v = q old (cs ++ xs) (u .0) (u .1) in
@@ -317,7 +326,8 @@ goes-more st st' st'' b b' b'' piece i h p q =
     let e : take (i + 1) piece ≡ take i piece ++ (getD piece i 0 ∷ []) = rw add-one (take-suc piece i 0 h) in
     subst (λ (x : List ℕ). LineGoes st b x st'' b'') (sym e) (goes-then st st' st'' b b' b'' (take i piece) (getD piece i 0 ∷ []) p q)
 
-pub goes-all : (st st' : LineState) (b b' piece : List ℕ) (i : ℕ) → length piece ≤ i → LineGoes st b (take i piece) st' b' → LineGoes st b piece st' b'
+pub goes-all : (st st' : LineState) (b b' piece : List ℕ) (i : ℕ) → length piece ≤ i → LineGoes st b (take i piece) st' b'
+    → LineGoes st b piece st' b'
 goes-all st st' b b' piece i h p = subst (λ (x : List ℕ). LineGoes st b x st' b') (take-all i piece h) p
 
 -- ---- the end of a line

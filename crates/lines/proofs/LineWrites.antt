@@ -43,7 +43,8 @@ write-more s o i h x y ex ey =
 pub write-none : (s o : List ℕ) → length o / 2 < length s → WritePost s o o 0
 write-none s o h = record { wrote = λ l. absurd (omega (arith, write-length s)); short = λ l. (refl, refl) }
 
-pub write-all : (s o o' : List ℕ) (i r : ℕ) → length s ≤ length o / 2 → i ≡ length s → r ≡ 2 * i → o' ≡ sets o 0 (writeLine (take i s)) → WritePost s o o' r
+pub write-all : (s o o' : List ℕ) (i r : ℕ) → length s ≤ length o / 2 → i ≡ length s → r ≡ 2 * i
+    → o' ≡ sets o 0 (writeLine (take i s)) → WritePost s o o' r
 write-all s o o' i r h ei er eo =
     let n = write-length s in
     let z : 0 + length (writeLine s) ≡ length (writeLine s) = omega arith in

@@ -48,7 +48,8 @@ module _ (s st nx : List ℕ) (k tag : ℕ) (pt : TagPost s st k tag) where
   -- a rule for a quantifier g, by its body
   module _ (body : ℕ) (pb : TagPost s st (k + 1) body) (g : ℕ) (key : tag ≡ g) (tk : Takes g (predicate ∷ [])) (rule : Ctx → Tree → Change) where
     of-body : (r : Decision)
-        → ((t : Tree) (n : ℕ) (Γ : Ctx) (i : ℕ) (us : List Ty) (a : Tree) → Table s t st nx n → find t [] k ≡ found Γ (node (head g i us) (cons a nil))
+        → ((t : Tree) (n : ℕ) (Γ : Ctx) (i : ℕ) (us : List Ty) (a : Tree) → Table s t st nx n
+              → find t [] k ≡ found Γ (node (head g i us) (cons a nil))
         → find t [] (k + 1) ≡ found (under g us Γ) a → tagOf a ≡ body
         → (w : Tree) (Ξ : Ctx) (kept : List ℕ) → Means t w Ξ kept r (rule Γ (node (head g i us) (cons a nil))))
         → Decides rule s st nx k r
@@ -62,7 +63,8 @@ module _ (s st nx : List ℕ) (k tag : ℕ) (pt : TagPost s st k tag) where
         }
 
     -- no place answers
-    none-of-body : ((Γ : Ctx) (i : ℕ) (us : List Ty) (a : Tree) → tagOf a ≡ body → rule Γ (node (head g i us) (cons a nil)) ≡ same) → Decides rule s st nx k D.Rests
+    none-of-body : ((Γ : Ctx) (i : ℕ) (us : List Ty) (a : Tree) → tagOf a ≡ body → rule Γ (node (head g i us) (cons a nil)) ≡ same)
+        → Decides rule s st nx k D.Rests
     none-of-body go = of-body D.Rests (λ t n Γ i us a tb fx fa z w Ξ kept. go Γ i us a z)
 
     -- the quantifier goes to each operand of the body
@@ -88,7 +90,8 @@ module _ (s st nx : List ℕ) (k tag : ℕ) (pt : TagPost s st k tag) where
     pub out-85 : tag ≡ 851 → body ≡ 351 → (r : Decision) → r ≡ D.Each 85 (k + 1) k → Decides forallOf s st nx k r
     unfolding onTag lookup classOf formAt side
     out-85 key z =
-        each-of-body body pb 851 key (λ x. refl) forallOf 351 85 z (λ n us m. refl) and-bytes refl (λ Γ i us j vs ks. refl) (λ Δ us a. sym (right-side 85 refl Δ a a us))
+        each-of-body body pb 851 key (λ x. refl) forallOf 351 85 z (λ n us m. refl) and-bytes refl (λ Γ i us j vs ks. refl)
+            (λ Δ us a. sym (right-side 85 refl Δ a a us))
 
     pub forall-none : tag ≡ 851 → (body ≡ 351 → ⊥) → Decides forallOf s st nx k D.Rests
     unfolding onTag lookup classOf formAt
@@ -100,10 +103,11 @@ module _ (s st nx : List ℕ) (k tag : ℕ) (pt : TagPost s st k tag) where
     pub out-86 : tag ≡ 852 → body ≡ 352 → (r : Decision) → r ≡ D.Each 86 (k + 1) k → Decides existsOf s st nx k r
     unfolding onTag lookup classOf formAt side
     out-86 key z =
-        each-of-body body pb 852 key (λ x. refl) existsOf 352 86 z (λ n us m. refl) or-bytes refl (λ Γ i us j vs ks. refl) (λ Δ us a. sym (right-side 86 refl Δ a a us))
+        each-of-body body pb 852 key (λ x. refl) existsOf 352 86 z (λ n us m. refl) or-bytes refl (λ Γ i us j vs ks. refl)
+            (λ Δ us a. sym (right-side 86 refl Δ a a us))
 
-    pub out-87 : tag ≡ 852 → body ≡ 251 → (j : ℕ) → (k + 1 + 1 < 2048 → j ≡ getD nx (k + 1 + 1) 0) → (r : Decision) → r ≡ D.Fixed 87 87 (k + 1 + 1) j k
-        → Decides existsOf s st nx k r
+    pub out-87 : tag ≡ 852 → body ≡ 251 → (j : ℕ) → (k + 1 + 1 < 2048 → j ≡ getD nx (k + 1 + 1) 0) → (r : Decision)
+        → r ≡ D.Fixed 87 87 (k + 1 + 1) j k → Decides existsOf s st nx k r
     unfolding onTag lookup classOf formAt side
     out-87 key z j ej r er =
         of-body body pb 852 key (λ x. refl) existsOf r (λ t n Γ i us a tb fx fa e w Ξ kept.
@@ -114,7 +118,8 @@ module _ (s st nx : List ℕ) (k tag : ℕ) (pt : TagPost s st k tag) where
         let new : Tree = two #LImp (quantified #Forall us (y .a)) (quantified #Exists us (y .b)) in
         let b : Tree = node (head 852 i us) (cons a nil) in
         rw (er, ej (place-few tb (fs .0)))
-        (fixed-at t 87 87 (existsOf Γ b) new (ap (λ (q : Tree). existsOf Γ (node (head 852 i us) (cons q nil))) (y .is)) (k + 1 + 1) (getD nx (k + 1 + 1) 0) k Δ Γ (y .a) (y .b) b (fs .0) (fs .1) fx refl (sym (right-side 87 refl Δ (y .a) (y .b) us))))
+        (fixed-at t 87 87 (existsOf Γ b) new (ap (λ (q : Tree). existsOf Γ (node (head 852 i us) (cons q nil))) (y .is)) (k + 1 + 1)
+              (getD nx (k + 1 + 1) 0) k Δ Γ (y .a) (y .b) b (fs .0) (fs .1) fx refl (sym (right-side 87 refl Δ (y .a) (y .b) us))))
 
     pub exists-none : tag ≡ 852 → (body ≡ 352 → ⊥) → (body ≡ 251 → ⊥) → Decides existsOf s st nx k D.Rests
     unfolding onTag lookup classOf formAt

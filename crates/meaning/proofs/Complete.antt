@@ -54,7 +54,8 @@ module _ {A : Type 0} (eq : A → A → Bool) (so-eq : (a b : A) → So (eq a b)
   part-listed [] s = inl refl
   part-listed (a ∷ l) s =
       let ih = part-listed l s in
-      In-cond (s a) (including eq a (part l s)) (part l s) (subsets eq l) (map (including eq a) (subsets eq l)) (In-map (including eq a) (part l s) (subsets eq l) ih) ih
+      In-cond (s a) (including eq a (part l s)) (part l s) (subsets eq l) (map (including eq a) (subsets eq l))
+          (In-map (including eq a) (part l s) (subsets eq l) ih) ih
 
   so-part : (l : List A) (s : A → Bool) (x : A) → So (part l s x) ↔ (In x l × So (s x))
   unfolding part including
@@ -73,7 +74,8 @@ module _ {A : Type 0} (eq : A → A → Bool) (so-eq : (a b : A) → So (eq a b)
       pass e ih (inl p) h = let q : s x ≡ false = rw p e in cc
       pass e ih (inr i) h = ih .1 (i, h)
 
-      go : (b : Bool) → s a ≡ b → So (part l s x) ↔ (In x l × So (s x)) → So (cond b (including eq a (part l s)) (part l s) x) ↔ (In x (a ∷ l) × So (s x))
+      go : (b : Bool) → s a ≡ b → So (part l s x) ↔ (In x l × So (s x))
+          → So (cond b (including eq a (part l s)) (part l s) x) ↔ (In x (a ∷ l) × So (s x))
       go true e ih = simp so-or (λ h. put e ih h, λ h. take ih (h .0) (h .1))
       go false e ih = (λ h. let p = ih .0 h in (inr (p .0), p .1), λ h. pass e ih (h .0) (h .1))
 

@@ -100,8 +100,8 @@ module _ (I : Interpretation) (σ : ℕ → Ty) (Γ : Ctx) where
   -- ---- ¬ of an order
   module _ (a b : Tree) where
     -- h is the order that g is not
-    order-keeps : (g h : ℕ) → Formula (leaf h) → NoInter h → ((ρ : Vals I Γ) → not (Truth ρ (two g a b)) ≡ Truth ρ (two h a b)) → SingleIntegers (¬ᵖ (two g a b)) Γ
-        → Keeps I Γ (¬ᵖ (two g a b)) (two h a b)
+    order-keeps : (g h : ℕ) → Formula (leaf h) → NoInter h → ((ρ : Vals I Γ) → not (Truth ρ (two g a b)) ≡ Truth ρ (two h a b))
+        → SingleIntegers (¬ᵖ (two g a b)) Γ → Keeps I Γ (¬ᵖ (two g a b)) (two h a b)
     unfolding SingleIntegers NoInterOverNothing opOf opAt classOf lookup formAt
     order-keeps g h f n t s =
         keeps-truth I (¬ᵖ (two g a b)) (two h a b) Γ (refl, refl) f (kit.many-single I Γ h f (pair a b) (kit.kids-single I Γ g (pair a b) (s .3 .0)))
@@ -157,20 +157,26 @@ module _ (I : Interpretation) (σ : ℕ → Ty) (Γ : Ctx) where
     right-keeps a s =
         let h = a .kids .0 .fits in
         let k = f .type in
-        keeps-truth I (¬ᵖ (e ≐ x)) (e ≐ y) Γ (refl, refl) (refl, refl) (kit.two-single I Γ #Equal (refl, refl) e y (s .3 .0 .3 .0) (f .single)) (λ l. kit.two-alive I Γ #Equal (refl, refl) e y (l .2 .0 .2 .0) (f .alive))
+        keeps-truth I (¬ᵖ (e ≐ x)) (e ≐ y) Γ (refl, refl) (refl, refl)
+            (kit.two-single I Γ #Equal (refl, refl) e y (s .3 .0 .3 .0) (f .single))
+            (λ l. kit.two-alive I Γ #Equal (refl, refl) e y (l .2 .0 .2 .0) (f .alive))
         (λ l ρ. kit.not-truth I Γ (e ≐ x) ρ ∙ right-truth (cc) ρ)
 
     left-keeps : typeOf y Γ ≡ bool → SingleIntegers (¬ᵖ (x ≐ e)) Γ → Keeps I Γ (¬ᵖ (x ≐ e)) (y ≐ e)
     unfolding SingleIntegers NoInterOverNothing opOf opAt classOf lookup formAt
     left-keeps h s =
-        keeps-truth I (¬ᵖ (x ≐ e)) (y ≐ e) Γ (refl, refl) (refl, refl) (kit.two-single I Γ #Equal (refl, refl) y e (f .single) (s .3 .0 .3 .1 .0)) (λ l. kit.two-alive I Γ #Equal (refl, refl) y e (f .alive) (l .2 .0 .2 .1 .0))
+        keeps-truth I (¬ᵖ (x ≐ e)) (y ≐ e) Γ (refl, refl) (refl, refl)
+            (kit.two-single I Γ #Equal (refl, refl) y e (f .single) (s .3 .0 .3 .1 .0))
+            (λ l. kit.two-alive I Γ #Equal (refl, refl) y e (f .alive) (l .2 .0 .2 .1 .0))
         (λ l ρ. kit.not-truth I Γ (x ≐ e) ρ ∙ left-truth h ρ)
 
   module _ (e : Tree) where
-    pub not-false-right-keeps : Accepted σ (¬ᵖ (e ≐ leaf #False)) Γ predicate → SingleIntegers (¬ᵖ (e ≐ leaf #False)) Γ → Keeps I Γ (¬ᵖ (e ≐ leaf #False)) (e ≐ leaf #True)
+    pub not-false-right-keeps : Accepted σ (¬ᵖ (e ≐ leaf #False)) Γ predicate → SingleIntegers (¬ᵖ (e ≐ leaf #False)) Γ
+        → Keeps I Γ (¬ᵖ (e ≐ leaf #False)) (e ≐ leaf #True)
     not-false-right-keeps = right-keeps (leaf #False) (leaf #True) false-true e
 
-    pub not-true-right-keeps : Accepted σ (¬ᵖ (e ≐ leaf #True)) Γ predicate → SingleIntegers (¬ᵖ (e ≐ leaf #True)) Γ → Keeps I Γ (¬ᵖ (e ≐ leaf #True)) (e ≐ leaf #False)
+    pub not-true-right-keeps : Accepted σ (¬ᵖ (e ≐ leaf #True)) Γ predicate → SingleIntegers (¬ᵖ (e ≐ leaf #True)) Γ
+        → Keeps I Γ (¬ᵖ (e ≐ leaf #True)) (e ≐ leaf #False)
     not-true-right-keeps = right-keeps (leaf #True) (leaf #False) true-false e
 
     pub not-false-left-keeps : SingleIntegers (¬ᵖ (leaf #False ≐ e)) Γ → Keeps I Γ (¬ᵖ (leaf #False ≐ e)) (leaf #True ≐ e)
@@ -184,24 +190,29 @@ module _ (I : Interpretation) (σ : ℕ → Ty) (Γ : Ctx) where
   module _ (p : Tree) where
     pub imp-top-left-keeps : Accepted σ (⊤ ⇒ p) Γ predicate → SingleIntegers (⊤ ⇒ p) Γ → Keeps I Γ (⊤ ⇒ p) p
     unfolding Accepted SingleIntegers NoInterOverNothing means holds opOf opAt classOf lookup formAt
-    imp-top-left-keeps a s = keeps-truth I (⊤ ⇒ p) p Γ (refl, refl) (accepted-formula σ p Γ (a .kids .1 .0)) (s .3 .1 .0) (λ l. l .2 .1 .0) (λ l ρ. refl)
+    imp-top-left-keeps a s = keeps-truth I (⊤ ⇒ p) p Γ (refl, refl) (accepted-formula σ p Γ (a .kids .1 .0)) (s .3 .1 .0)
+        (λ l. l .2 .1 .0) (λ l ρ. refl)
 
     pub imp-bottom-left-keeps : Keeps I Γ (⊥ᵖ ⇒ p) ⊤
     unfolding means holds opOf opAt classOf lookup formAt
-    imp-bottom-left-keeps = keeps-truth I (⊥ᵖ ⇒ p) ⊤ Γ (refl, refl) (refl, refl) (kit.leaf-single I Γ #BTrue (refl, refl)) (λ l. kit.leaf-alive I Γ #BTrue (refl, refl)) (λ l ρ. refl)
+    imp-bottom-left-keeps = keeps-truth I (⊥ᵖ ⇒ p) ⊤ Γ (refl, refl) (refl, refl) (kit.leaf-single I Γ #BTrue (refl, refl))
+        (λ l. kit.leaf-alive I Γ #BTrue (refl, refl)) (λ l ρ. refl)
 
     pub imp-top-right-keeps : Keeps I Γ (p ⇒ ⊤) ⊤
     unfolding means holds opOf opAt classOf lookup formAt
-    imp-top-right-keeps = keeps-truth I (p ⇒ ⊤) ⊤ Γ (refl, refl) (refl, refl) (kit.leaf-single I Γ #BTrue (refl, refl)) (λ l. kit.leaf-alive I Γ #BTrue (refl, refl)) (λ l ρ. or-true (not (Truth ρ p)))
+    imp-top-right-keeps = keeps-truth I (p ⇒ ⊤) ⊤ Γ (refl, refl) (refl, refl) (kit.leaf-single I Γ #BTrue (refl, refl))
+        (λ l. kit.leaf-alive I Γ #BTrue (refl, refl)) (λ l ρ. or-true (not (Truth ρ p)))
 
     pub imp-self-keeps : Keeps I Γ (p ⇒ p) ⊤
     unfolding means holds opOf opAt classOf lookup formAt
-    imp-self-keeps = keeps-truth I (p ⇒ p) ⊤ Γ (refl, refl) (refl, refl) (kit.leaf-single I Γ #BTrue (refl, refl)) (λ l. kit.leaf-alive I Γ #BTrue (refl, refl)) (λ l ρ. imp-self (Truth ρ p))
+    imp-self-keeps = keeps-truth I (p ⇒ p) ⊤ Γ (refl, refl) (refl, refl) (kit.leaf-single I Γ #BTrue (refl, refl))
+        (λ l. kit.leaf-alive I Γ #BTrue (refl, refl)) (λ l ρ. imp-self (Truth ρ p))
 
     pub imp-not-left-keeps : Accepted σ (¬ᵖ p ⇒ p) Γ predicate → SingleIntegers (¬ᵖ p ⇒ p) Γ → Keeps I Γ (¬ᵖ p ⇒ p) p
     unfolding Accepted SingleIntegers NoInterOverNothing means holds opOf opAt classOf lookup formAt
     imp-not-left-keeps a s =
-        keeps-truth I (¬ᵖ p ⇒ p) p Γ (refl, refl) (accepted-formula σ p Γ (a .kids .1 .0)) (s .3 .1 .0) (λ l. l .2 .1 .0) (λ l ρ. imp-not-left (Truth ρ p))
+        keeps-truth I (¬ᵖ p ⇒ p) p Γ (refl, refl) (accepted-formula σ p Γ (a .kids .1 .0)) (s .3 .1 .0) (λ l. l .2 .1 .0)
+            (λ l ρ. imp-not-left (Truth ρ p))
 
     pub imp-not-right-keeps : SingleIntegers (p ⇒ ¬ᵖ p) Γ → Keeps I Γ (p ⇒ ¬ᵖ p) (¬ᵖ p)
     unfolding SingleIntegers NoInterOverNothing means holds opOf opAt classOf lookup formAt
@@ -231,36 +242,44 @@ module _ (I : Interpretation) (σ : ℕ → Ty) (Γ : Ctx) where
   pub imp-opposite-keeps : (ps : Forest) (q m : Tree) → Opposite q m → Among m ps → SingleIntegers (⋀ ps ⇒ q) Γ → Keeps I Γ (⋀ ps ⇒ q) (¬ᵖ (⋀ ps))
   unfolding SingleIntegers NoInterOverNothing opOf opAt classOf lookup formAt
   imp-opposite-keeps ps q m o i s =
-      keeps-truth I (⋀ ps ⇒ q) (¬ᵖ (⋀ ps)) Γ (refl, refl) (refl, refl) (kit.one-single I Γ #Not (refl, refl) (⋀ ps) (s .3 .0)) (λ l. kit.one-alive I Γ #Not (refl, refl) (⋀ ps) (l .2 .0))
-      (λ l ρ. kit.implies-truth I Γ (⋀ ps) q ρ ∙ imp-apart (Truth ρ (⋀ ps)) (Truth ρ q) (λ h. rw (opposite-truth o ρ) at (among-true ps m i ρ h)) ∙ sym (kit.not-truth I Γ (⋀ ps) ρ))
+      keeps-truth I (⋀ ps ⇒ q) (¬ᵖ (⋀ ps)) Γ (refl, refl) (refl, refl) (kit.one-single I Γ #Not (refl, refl) (⋀ ps) (s .3 .0))
+          (λ l. kit.one-alive I Γ #Not (refl, refl) (⋀ ps) (l .2 .0))
+      (λ l ρ. kit.implies-truth I Γ (⋀ ps) q ρ ∙ imp-apart (Truth ρ (⋀ ps)) (Truth ρ q)
+            (λ h. rw (opposite-truth o ρ) at (among-true ps m i ρ h)) ∙ sym (kit.not-truth I Γ (⋀ ps) ρ))
 
   -- ---- ⇔
   module _ (p : Tree) where
     pub eqv-top-right-keeps : Accepted σ (p ⇔ ⊤) Γ predicate → SingleIntegers (p ⇔ ⊤) Γ → Keeps I Γ (p ⇔ ⊤) p
     unfolding Accepted SingleIntegers NoInterOverNothing means holds opOf opAt classOf lookup formAt
-    eqv-top-right-keeps a s = keeps-truth I (p ⇔ ⊤) p Γ (refl, refl) (accepted-formula σ p Γ (a .kids .0)) (s .3 .0) (λ l. l .2 .0) (λ l ρ. beq-true (Truth ρ p))
+    eqv-top-right-keeps a s = keeps-truth I (p ⇔ ⊤) p Γ (refl, refl) (accepted-formula σ p Γ (a .kids .0)) (s .3 .0) (λ l. l .2 .0)
+        (λ l ρ. beq-true (Truth ρ p))
 
     pub eqv-top-left-keeps : Accepted σ (⊤ ⇔ p) Γ predicate → SingleIntegers (⊤ ⇔ p) Γ → Keeps I Γ (⊤ ⇔ p) p
     unfolding Accepted SingleIntegers NoInterOverNothing means holds opOf opAt classOf lookup formAt
-    eqv-top-left-keeps a s = keeps-truth I (⊤ ⇔ p) p Γ (refl, refl) (accepted-formula σ p Γ (a .kids .1 .0)) (s .3 .1 .0) (λ l. l .2 .1 .0) (λ l ρ. true-beq-is (Truth ρ p))
+    eqv-top-left-keeps a s = keeps-truth I (⊤ ⇔ p) p Γ (refl, refl) (accepted-formula σ p Γ (a .kids .1 .0)) (s .3 .1 .0) (λ l. l .2 .1 .0)
+        (λ l ρ. true-beq-is (Truth ρ p))
 
     pub eqv-self-keeps : Keeps I Γ (p ⇔ p) ⊤
     unfolding means holds opOf opAt classOf lookup formAt
-    eqv-self-keeps = keeps-truth I (p ⇔ p) ⊤ Γ (refl, refl) (refl, refl) (kit.leaf-single I Γ #BTrue (refl, refl)) (λ l. kit.leaf-alive I Γ #BTrue (refl, refl)) (λ l ρ. beq-self (Truth ρ p))
+    eqv-self-keeps = keeps-truth I (p ⇔ p) ⊤ Γ (refl, refl) (refl, refl) (kit.leaf-single I Γ #BTrue (refl, refl))
+        (λ l. kit.leaf-alive I Γ #BTrue (refl, refl)) (λ l ρ. beq-self (Truth ρ p))
 
     pub eqv-not-right-keeps : Keeps I Γ (p ⇔ ¬ᵖ p) ⊥ᵖ
     unfolding means holds opOf opAt classOf lookup formAt
-    eqv-not-right-keeps = keeps-truth I (p ⇔ ¬ᵖ p) ⊥ᵖ Γ (refl, refl) (refl, refl) (kit.leaf-single I Γ #BFalse (refl, refl)) (λ l. kit.leaf-alive I Γ #BFalse (refl, refl)) (λ l ρ. beq-not-right (Truth ρ p))
+    eqv-not-right-keeps = keeps-truth I (p ⇔ ¬ᵖ p) ⊥ᵖ Γ (refl, refl) (refl, refl) (kit.leaf-single I Γ #BFalse (refl, refl))
+        (λ l. kit.leaf-alive I Γ #BFalse (refl, refl)) (λ l ρ. beq-not-right (Truth ρ p))
 
     pub eqv-not-left-keeps : Keeps I Γ (¬ᵖ p ⇔ p) ⊥ᵖ
     unfolding means holds opOf opAt classOf lookup formAt
-    eqv-not-left-keeps = keeps-truth I (¬ᵖ p ⇔ p) ⊥ᵖ Γ (refl, refl) (refl, refl) (kit.leaf-single I Γ #BFalse (refl, refl)) (λ l. kit.leaf-alive I Γ #BFalse (refl, refl)) (λ l ρ. beq-not-left (Truth ρ p))
+    eqv-not-left-keeps = keeps-truth I (¬ᵖ p ⇔ p) ⊥ᵖ Γ (refl, refl) (refl, refl) (kit.leaf-single I Γ #BFalse (refl, refl))
+        (λ l. kit.leaf-alive I Γ #BFalse (refl, refl)) (λ l ρ. beq-not-left (Truth ρ p))
 
     -- ---- ¬
     pub not-not-keeps : Accepted σ (¬ᵖ (¬ᵖ p)) Γ predicate → SingleIntegers (¬ᵖ (¬ᵖ p)) Γ → Keeps I Γ (¬ᵖ (¬ᵖ p)) p
     unfolding Accepted SingleIntegers NoInterOverNothing means holds opOf opAt classOf lookup formAt
     not-not-keeps a s =
-        keeps-truth I (¬ᵖ (¬ᵖ p)) p Γ (refl, refl) (accepted-formula σ p Γ (a .kids .0 .kids .0)) (s .3 .0 .3 .0) (λ l. l .2 .0 .2 .0) (λ l ρ. not-not (Truth ρ p))
+        keeps-truth I (¬ᵖ (¬ᵖ p)) p Γ (refl, refl) (accepted-formula σ p Γ (a .kids .0 .kids .0)) (s .3 .0 .3 .0) (λ l. l .2 .0 .2 .0)
+            (λ l ρ. not-not (Truth ρ p))
 
   pub eqv-bottom-right-keeps : (p n : Tree) → Opposite p n → Accepted σ (p ⇔ ⊥ᵖ) Γ predicate → SingleIntegers (p ⇔ ⊥ᵖ) Γ → Keeps I Γ (p ⇔ ⊥ᵖ) n
   unfolding Accepted SingleIntegers NoInterOverNothing means holds opOf opAt classOf lookup formAt
@@ -271,13 +290,16 @@ module _ (I : Interpretation) (σ : ℕ → Ty) (Γ : Ctx) where
   pub eqv-bottom-left-keeps : (p n : Tree) → Opposite p n → Accepted σ (⊥ᵖ ⇔ p) Γ predicate → SingleIntegers (⊥ᵖ ⇔ p) Γ → Keeps I Γ (⊥ᵖ ⇔ p) n
   unfolding Accepted SingleIntegers NoInterOverNothing means holds opOf opAt classOf lookup formAt
   eqv-bottom-left-keeps p n o a s =
-      keeps-truth I (⊥ᵖ ⇔ p) n Γ (refl, refl) (opposite-formula o (a .kids .1 .0)) (opposite-single o (s .3 .1 .0)) (λ l. opposite-alive o (l .2 .1 .0))
+      keeps-truth I (⊥ᵖ ⇔ p) n Γ (refl, refl) (opposite-formula o (a .kids .1 .0)) (opposite-single o (s .3 .1 .0))
+          (λ l. opposite-alive o (l .2 .1 .0))
       (λ l ρ. false-beq-is (Truth ρ p) ∙ sym (opposite-truth o ρ))
 
   pub not-top-keeps : Keeps I Γ (¬ᵖ ⊤) ⊥ᵖ
   unfolding means holds opOf opAt classOf lookup formAt
-  not-top-keeps = keeps-truth I (¬ᵖ ⊤) ⊥ᵖ Γ (refl, refl) (refl, refl) (kit.leaf-single I Γ #BFalse (refl, refl)) (λ l. kit.leaf-alive I Γ #BFalse (refl, refl)) (λ l ρ. refl)
+  not-top-keeps = keeps-truth I (¬ᵖ ⊤) ⊥ᵖ Γ (refl, refl) (refl, refl) (kit.leaf-single I Γ #BFalse (refl, refl))
+      (λ l. kit.leaf-alive I Γ #BFalse (refl, refl)) (λ l ρ. refl)
 
   pub not-bottom-keeps : Keeps I Γ (¬ᵖ ⊥ᵖ) ⊤
   unfolding means holds opOf opAt classOf lookup formAt
-  not-bottom-keeps = keeps-truth I (¬ᵖ ⊥ᵖ) ⊤ Γ (refl, refl) (refl, refl) (kit.leaf-single I Γ #BTrue (refl, refl)) (λ l. kit.leaf-alive I Γ #BTrue (refl, refl)) (λ l ρ. refl)
+  not-bottom-keeps = keeps-truth I (¬ᵖ ⊥ᵖ) ⊤ Γ (refl, refl) (refl, refl) (kit.leaf-single I Γ #BTrue (refl, refl))
+      (λ l. kit.leaf-alive I Γ #BTrue (refl, refl)) (λ l ρ. refl)

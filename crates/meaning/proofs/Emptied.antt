@@ -39,7 +39,8 @@ module _ (I : Interpretation) (σ : ℕ → Ty) (Γ : Ctx) where
         → truth I (means I new Γ) ρ ≡ every I (element (typeOf e Γ)) (setOf I (means I e Γ) ρ (element (typeOf e Γ)))
 
   -- the same by the type u of the elements of E
-  module _ (e new : Tree) (u : Ty) (he : typeOf e Γ ≡ pow u) (f : Formula new) (s : SingleIntegers new Γ) (l : NoInterOverNothing I e Γ → NoInterOverNothing I new Γ) where
+  module _ (e new : Tree) (u : Ty) (he : typeOf e Γ ≡ pow u) (f : Formula new) (s : SingleIntegers new Γ)
+      (l : NoInterOverNothing I e Γ → NoInterOverNothing I new Γ) where
     pub emptied : (NoInterOverNothing I e Γ → (ρ : Vals I Γ) → truth I (means I new Γ) ρ ≡ not (some I u (setOf I (means I e Γ) ρ u))) → Emptied e new
     emptied k = record { formula = f; single = s; alive = l; says = rw he k }
 
@@ -47,8 +48,10 @@ module _ (I : Interpretation) (σ : ℕ → Ty) (Γ : Ctx) where
     filled k = record { formula = f; single = s; alive = l; says = rw he k }
 
   -- E = ∅ is F = ∅, and E = Ty is F = Ty; u and v are the types of the elements of E and F
-  module _ (e f : Tree) (u v : Ty) (he : typeOf e Γ ≡ pow u) (hf : typeOf f Γ ≡ pow v) (s : SingleIntegers f Γ) (l : NoInterOverNothing I e Γ → NoInterOverNothing I f Γ) where
-    pub emptied-by : (NoInterOverNothing I e Γ → (ρ : Vals I Γ) → some I v (setOf I (means I f Γ) ρ v) ≡ some I u (setOf I (means I e Γ) ρ u)) → Emptied e (_≐∅ Γ f)
+  module _ (e f : Tree) (u v : Ty) (he : typeOf e Γ ≡ pow u) (hf : typeOf f Γ ≡ pow v) (s : SingleIntegers f Γ)
+      (l : NoInterOverNothing I e Γ → NoInterOverNothing I f Γ) where
+    pub emptied-by : (NoInterOverNothing I e Γ → (ρ : Vals I Γ)
+          → some I v (setOf I (means I f Γ) ρ v) ≡ some I u (setOf I (means I e Γ) ρ u)) → Emptied e (_≐∅ Γ f)
     unfolding classOf lookup formAt
     emptied-by k = record {
       formula = (refl, refl);
@@ -57,7 +60,8 @@ module _ (I : Interpretation) (σ : ℕ → Ty) (Γ : Ctx) where
       says = λ a ρ. rw he (kit.empty-truth I Γ f v hf ρ ∙ ap not (k a ρ));
     }
 
-    pub filled-by : (NoInterOverNothing I e Γ → (ρ : Vals I Γ) → every I v (setOf I (means I f Γ) ρ v) ≡ every I u (setOf I (means I e Γ) ρ u)) → Filled e (_≐Ty Γ f)
+    pub filled-by : (NoInterOverNothing I e Γ → (ρ : Vals I Γ)
+          → every I v (setOf I (means I f Γ) ρ v) ≡ every I u (setOf I (means I e Γ) ρ u)) → Filled e (_≐Ty Γ f)
     unfolding classOf lookup formAt
     filled-by k = record {
       formula = (refl, refl);
@@ -114,7 +118,8 @@ module _ (I : Interpretation) (σ : ℕ → Ty) (Γ : Ctx) where
     unfolding u NoInterOverNothing opOf opAt classOf lookup formAt
     type-equal r =
         keeps-truth I (Ty-of Γ e ≐ e) new Γ (refl, refl) (r .formula) (r .single) (λ a. r .alive (a .2 .1 .0)) (λ a ρ.
-        kit.equal-truth I Γ (Ty-of Γ e) e (pow u) (express-type u Γ) ρ ∙ ap (λ x. equals I (pow u) x (setOf I (means I e Γ) ρ u)) (kit.type-full I u Γ ρ)
+        kit.equal-truth I Γ (Ty-of Γ e) e (pow u) (express-type u Γ) ρ ∙ ap
+            (λ x. equals I (pow u) x (setOf I (means I e Γ) ρ u)) (kit.type-full I u Γ ρ)
         ∙ full-is (I .size) u (setOf I (means I e Γ) ρ u) ∙ sym (r .says (a .2 .1 .0) ρ))
 
   pub emptiness-keeps : {e l new : Tree} → Emptiness e l → Accepted σ l Γ predicate → Emptied e new → Keeps I Γ l new

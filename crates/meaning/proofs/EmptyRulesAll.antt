@@ -10,11 +10,23 @@ use Rattle.frame.specs.Operators.{#UpTo, #BInter, #BUnion, #Ovr, #Natural, #Nat
 use Rattle.frame.specs.Places.{Ctx}
 use Rattle.typing.specs.Typing.{first, second, source, target, relation, ty, typeOf, typesIn}
 use Rattle.typing.specs.Accepted.{TysOk, Accepted}
-use Rattle.rules.specs.Equations.{⊥ᵖ, ¬ᵖ, ⋀, _∈ᵖ_, _⊆_, ext, ⋂, over, Subtracted, Empties, _≐∅, «SIMP_SETENUM_EQUAL_EMPTY», «SIMP_BINTER_SING_EQUAL_EMPTY», «SIMP_BINTER_SETMINUS_EQUAL_EMPTY», «SIMP_BUNION_EQUAL_EMPTY», «SIMP_SETMINUS_EQUAL_EMPTY», «SIMP_CPROD_EQUAL_EMPTY», «SIMP_UPTO_EQUAL_EMPTY», «SIMP_SREL_EQUAL_EMPTY», «SIMP_STREL_EQUAL_EMPTY», «SIMP_DOMRES_EQUAL_EMPTY», «SIMP_DOMSUB_EQUAL_EMPTY», «SIMP_RANRES_EQUAL_EMPTY», «SIMP_RANSUB_EQUAL_EMPTY», «SIMP_RELIMAGE_EQUAL_EMPTY», «SIMP_DPROD_EQUAL_EMPTY», «SIMP_PPROD_EQUAL_EMPTY», «SIMP_POW_EQUAL_EMPTY», «SIMP_POW1_EQUAL_EMPTY», «SIMP_KUNION_EQUAL_EMPTY», «SIMP_DOM_EQUAL_EMPTY», «SIMP_RAN_EQUAL_EMPTY», «SIMP_CONVERSE_EQUAL_EMPTY», «SIMP_FCOMP_EQUAL_EMPTY», «SIMP_BCOMP_EQUAL_EMPTY», «SIMP_OVERL_EQUAL_EMPTY», «SIMP_QUNION_EQUAL_EMPTY», «SIMP_NATURAL_EQUAL_EMPTY», «SIMP_NATURAL1_EQUAL_EMPTY», «SIMP_ID_EQUAL_EMPTY», «SIMP_PRJ1_EQUAL_EMPTY», «SIMP_PRJ2_EQUAL_EMPTY»}
+use Rattle.rules.specs.Equations.{
+  ⊥ᵖ, ¬ᵖ, ⋀, _∈ᵖ_, _⊆_, ext, ⋂, over, Subtracted, Empties, _≐∅, «SIMP_SETENUM_EQUAL_EMPTY», «SIMP_BINTER_SING_EQUAL_EMPTY»,
+  «SIMP_BINTER_SETMINUS_EQUAL_EMPTY», «SIMP_BUNION_EQUAL_EMPTY», «SIMP_SETMINUS_EQUAL_EMPTY», «SIMP_CPROD_EQUAL_EMPTY»,
+  «SIMP_UPTO_EQUAL_EMPTY», «SIMP_SREL_EQUAL_EMPTY», «SIMP_STREL_EQUAL_EMPTY», «SIMP_DOMRES_EQUAL_EMPTY»,
+  «SIMP_DOMSUB_EQUAL_EMPTY», «SIMP_RANRES_EQUAL_EMPTY», «SIMP_RANSUB_EQUAL_EMPTY», «SIMP_RELIMAGE_EQUAL_EMPTY»,
+  «SIMP_DPROD_EQUAL_EMPTY», «SIMP_PPROD_EQUAL_EMPTY», «SIMP_POW_EQUAL_EMPTY», «SIMP_POW1_EQUAL_EMPTY», «SIMP_KUNION_EQUAL_EMPTY»,
+  «SIMP_DOM_EQUAL_EMPTY», «SIMP_RAN_EQUAL_EMPTY», «SIMP_CONVERSE_EQUAL_EMPTY», «SIMP_FCOMP_EQUAL_EMPTY», «SIMP_BCOMP_EQUAL_EMPTY»,
+  «SIMP_OVERL_EQUAL_EMPTY», «SIMP_QUNION_EQUAL_EMPTY», «SIMP_NATURAL_EQUAL_EMPTY», «SIMP_NATURAL1_EQUAL_EMPTY»,
+  «SIMP_ID_EQUAL_EMPTY», «SIMP_PRJ1_EQUAL_EMPTY», «SIMP_PRJ2_EQUAL_EMPTY»
+}
 use Rattle.rules.proofs.Nodes.{Has, within, opened, top}
 use Rattle.rules.proofs.Nodes as nodes
 use Rattle.rules.proofs.NewNodes.{over-cap}
-use Rattle.rules.proofs.OldNodes.{Operands, of-pow, of-pow1, of-union, of-dom, of-ran, of-converse, of-single, of-minus, of-times, of-srel, of-strel, of-domres, of-domsub, of-ranres, of-ransub, of-image, of-dprod, of-pprod, of-fcomp, of-bcomp, of-cap, of-cup, of-ovr, of-qunion}
+use Rattle.rules.proofs.OldNodes.{
+  Operands, of-pow, of-pow1, of-union, of-dom, of-ran, of-converse, of-single, of-minus, of-times, of-srel, of-strel, of-domres,
+  of-domsub, of-ranres, of-ransub, of-image, of-dprod, of-pprod, of-fcomp, of-bcomp, of-cap, of-cup, of-ovr, of-qunion
+}
 use Rattle.rules.proofs.Operands.{subtracted-same, every-mid, minuends}
 use Rattle.meaning.specs.Meaning.{Interpretation}
 use Rattle.meaning.specs.Premises.{SingleIntegers}
@@ -40,14 +52,17 @@ module _ (I : Interpretation) (σ : ℕ → Ty) (Γ : Ctx) where
   unfolding classOf lookup formAt
   ext-rule as′ h s = many-rule.ext-emptied I σ Γ as′ (within 1 255 (count as′) (top h .formed .range) .0) s
 
-  single-rule : (a : Tree) (left right : Forest) {t : Ty} → Has σ Γ (⋂ (append left (cons (ext (sole a)) right))) t → SingleIntegers (⋂ (append left (cons (ext (sole a)) right))) Γ
+  single-rule : (a : Tree) (left right : Forest) {t : Ty} → Has σ Γ (⋂ (append left (cons (ext (sole a)) right))) t
+      → SingleIntegers (⋂ (append left (cons (ext (sole a)) right))) Γ
       → Emptied I σ Γ (⋂ (append left (cons (ext (sole a)) right))) (¬ᵖ (a ∈ᵖ over #BInter (append left right)))
   single-rule a left right h s =
       let ks = append left (cons (ext (sole a)) right) in
       let o = of-cap ks h in
-      cap-rule.single-emptied I σ Γ a left right (o .0) (cap-type ks (o .0) (o .1)) (of-single (every-mid (λ k. Has σ Γ k (pow (o .0))) left (ext (sole a)) right (o .1 .each) .0) .type) s
+      cap-rule.single-emptied I σ Γ a left right (o .0) (cap-type ks (o .0) (o .1))
+          (of-single (every-mid (λ k. Has σ Γ k (pow (o .0))) left (ext (sole a)) right (o .1 .each) .0) .type) s
 
-  subtracted-rule : (ks ls ms : Forest) → Subtracted ks ls ms → {t : Ty} → Has σ Γ (⋂ ks) t → SingleIntegers (⋂ ks) Γ → Emptied I σ Γ (⋂ ks) (over #BInter ls ⊆ over #BUnion ms)
+  subtracted-rule : (ks ls ms : Forest) → Subtracted ks ls ms → {t : Ty} → Has σ Γ (⋂ ks) t → SingleIntegers (⋂ ks) Γ
+      → Emptied I σ Γ (⋂ ks) (over #BInter ls ⊆ over #BUnion ms)
   subtracted-rule ks ls ms d h s =
       let o = of-cap ks h in
       let c = subtracted-same d in
@@ -56,18 +71,21 @@ module _ (I : Interpretation) (σ : ℕ → Ty) (Γ : Ctx) where
       cap-rule.subtracted-emptied I Γ σ ks ls ms (o .0) d (cap-type ks (o .0) (o .1))
       (over-cap ls (o .0) (omega arith) (omega arith) (minuends σ Γ (o .0) d (o .1 .each)) .type) s
 
-  cup-rule : (ks : Forest) {t : Ty} → Has σ Γ (many #BUnion ks) t → SingleIntegers (many #BUnion ks) Γ → Emptied I σ Γ (many #BUnion ks) (⋀ (mapF (_≐∅ Γ) ks))
+  cup-rule : (ks : Forest) {t : Ty} → Has σ Γ (many #BUnion ks) t → SingleIntegers (many #BUnion ks) Γ
+      → Emptied I σ Γ (many #BUnion ks) (⋀ (mapF (_≐∅ Γ) ks))
   cup-rule ks h s =
       let o = of-cup ks h in
       let l = o .1 .some in
       many-rule.cup-emptied I σ Γ ks (omega arith) (o .0) (types-of σ Γ expression (pow (o .0)) ks (o .1 .each)) s
 
-  override-rule : (ks : Forest) {t : Ty} → Has σ Γ (many #Ovr ks) t → SingleIntegers (many #Ovr ks) Γ → Emptied I σ Γ (many #Ovr ks) (⋀ (mapF (_≐∅ Γ) ks))
+  override-rule : (ks : Forest) {t : Ty} → Has σ Γ (many #Ovr ks) t → SingleIntegers (many #Ovr ks) Γ
+      → Emptied I σ Γ (many #Ovr ks) (⋀ (mapF (_≐∅ Γ) ks))
   unfolding classOf lookup formAt
   override-rule ks h s =
       let l = of-ovr ks h .1 .some in
       let w = ty 0 (typesIn ks Γ) in
-      many-rule.override-emptied I σ Γ ks (omega arith) (source w) (target w) (each-alike (relation (source w) (target w)) (typesIn ks Γ) (opened h .types)) s
+      many-rule.override-emptied I σ Γ ks (omega arith) (source w) (target w)
+          (each-alike (relation (source w) (target w)) (typesIn ks Γ) (opened h .types)) s
 
   -- ---- no sets of integers
   module _ {A : Type 0} where
@@ -99,16 +117,20 @@ module _ (I : Interpretation) (σ : ℕ → Ty) (Γ : Ctx) where
   rule-emptied («SIMP_RANRES_EQUAL_EMPTY» r q) h s = let x = of-ranres h in rule.ranres-emptied I σ Γ r q (x .0) (x .1) (x .2 .type) (x .3 .type) s
   rule-emptied («SIMP_RANSUB_EQUAL_EMPTY» r q) h s = let x = of-ransub h in rule.ransub-emptied I σ Γ r q (x .0) (x .1) (x .2 .type) (x .3 .type) s
   rule-emptied («SIMP_RELIMAGE_EQUAL_EMPTY» r q) h s = let x = of-image h in rule.image-emptied I σ Γ q r (x .0) (x .1) (x .3 .type) (x .2 .type) s
-  rule-emptied («SIMP_DPROD_EQUAL_EMPTY» p q) h s = let x = of-dprod h in rule.dprod-emptied I σ Γ p q (x .0) (x .1) (x .2) (x .3 .type) (x .4 .type) s
-  rule-emptied («SIMP_PPROD_EQUAL_EMPTY» p q) h s = let x = of-pprod h in rule.pprod-emptied I σ Γ p q (x .0) (x .1) (x .2) (x .3) (x .4 .type) (x .5 .type) s
+  rule-emptied («SIMP_DPROD_EQUAL_EMPTY» p q) h s = let x = of-dprod h in
+      rule.dprod-emptied I σ Γ p q (x .0) (x .1) (x .2) (x .3 .type) (x .4 .type) s
+  rule-emptied («SIMP_PPROD_EQUAL_EMPTY» p q) h s = let x = of-pprod h in
+      rule.pprod-emptied I σ Γ p q (x .0) (x .1) (x .2) (x .3) (x .4 .type) (x .5 .type) s
   rule-emptied («SIMP_POW_EQUAL_EMPTY» q) h s = let x = of-pow h in rule.pow-emptied I σ Γ q (x .0) (x .1 .type) s
   rule-emptied («SIMP_POW1_EQUAL_EMPTY» q) h s = let x = of-pow1 h in rule.pow1-emptied I σ Γ q (x .0) (x .1 .type) s
   rule-emptied («SIMP_KUNION_EQUAL_EMPTY» q) h s = let x = of-union h in rule.union-emptied I σ Γ q (x .0) (x .1 .type) s
   rule-emptied («SIMP_DOM_EQUAL_EMPTY» r) h s = let x = of-dom h in rule.dom-emptied I σ Γ r (x .0) (x .1) (x .2 .type) s
   rule-emptied («SIMP_RAN_EQUAL_EMPTY» r) h s = let x = of-ran h in rule.ran-emptied I σ Γ r (x .0) (x .1) (x .2 .type) s
   rule-emptied («SIMP_CONVERSE_EQUAL_EMPTY» r) h s = let x = of-converse h in rule.converse-emptied I σ Γ r (x .0) (x .1) (x .2 .type) s
-  rule-emptied («SIMP_FCOMP_EQUAL_EMPTY» p q) h s = let x = of-fcomp h in rule.forward-emptied I σ Γ p q (x .0) (x .1) (x .2) (x .3 .type) (x .4 .type) s
-  rule-emptied («SIMP_BCOMP_EQUAL_EMPTY» p q) h s = let x = of-bcomp h in rule.backward-emptied I σ Γ p q (x .0) (x .1) (x .2) (x .3 .type) (x .4 .type) s
+  rule-emptied («SIMP_FCOMP_EQUAL_EMPTY» p q) h s = let x = of-fcomp h in
+      rule.forward-emptied I σ Γ p q (x .0) (x .1) (x .2) (x .3 .type) (x .4 .type) s
+  rule-emptied («SIMP_BCOMP_EQUAL_EMPTY» p q) h s = let x = of-bcomp h in
+      rule.backward-emptied I σ Γ p q (x .0) (x .1) (x .2) (x .3 .type) (x .4 .type) s
   rule-emptied («SIMP_OVERL_EQUAL_EMPTY» ks) h s = override-rule ks h s
   rule-emptied («SIMP_QUNION_EQUAL_EMPTY» xs p e) h s = let x = of-qunion h in many-rule.qunion-emptied I σ Γ xs p e (x .0) (x .1 .expr .type) s
   rule-emptied «SIMP_NATURAL_EQUAL_EMPTY» h s = no-natural s
@@ -117,6 +139,6 @@ module _ (I : Interpretation) (σ : ℕ → Ty) (Γ : Ctx) where
   rule-emptied («SIMP_PRJ1_EQUAL_EMPTY» t) h s = many-rule.prj1-emptied I σ Γ t (first (source t)) (second (source t)) (top h .shaped) s
   rule-emptied («SIMP_PRJ2_EQUAL_EMPTY» t) h s = many-rule.prj2-emptied I σ Γ t (first (source t)) (second (source t)) (top h .shaped) s
 
-pub empties-emptied : (I : Interpretation) (σ : ℕ → Ty) (Γ : Ctx) (place : ℕ) (e new : Tree) → TysOk σ Γ → Empties Γ place e new → Accepted σ e Γ expression
-    → SingleIntegers e Γ → Emptied I σ Γ e new
+pub empties-emptied : (I : Interpretation) (σ : ℕ → Ty) (Γ : Ctx) (place : ℕ) (e new : Tree) → TysOk σ Γ → Empties Γ place e new
+    → Accepted σ e Γ expression → SingleIntegers e Γ → Emptied I σ Γ e new
 empties-emptied I σ Γ place e new ok d a s = rule-emptied I σ Γ d (record { accepted = a; type = refl }) s

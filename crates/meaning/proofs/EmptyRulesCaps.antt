@@ -24,7 +24,8 @@ use Rattle.meaning.proofs.Emptied.{Emptied, emptied}
 use Rattle.meaning.proofs.EmptyRulesKit.{within-emptied}
 
 -- ---- ∩ and ∪ over the operands that are left
-over-single : (Γ : Ctx) (g : ℕ) → ((ks : Forest) → typeOf (many g ks) Γ ≡ ty 0 (typesIn ks Γ)) → (ks : Forest) → SingleIntegersIn ks Γ → SingleIntegers (over g ks) Γ
+over-single : (Γ : Ctx) (g : ℕ) → ((ks : Forest) → typeOf (many g ks) Γ ≡ ty 0 (typesIn ks Γ)) → (ks : Forest) → SingleIntegersIn ks Γ
+    → SingleIntegers (over g ks) Γ
 unfolding SingleIntegers typeOf
 over-single Γ g h nil s = kit.node-single Γ g nil (rw (h nil) tt) tt
 over-single Γ g h (cons a nil) s = s .0
@@ -66,15 +67,18 @@ module _ (I : Interpretation) (σ : ℕ → Ty) (Γ : Ctx) (a : Tree) (left righ
   rest : Tree
   rest = over #BInter (append left right)
 
-  single-some : (u : Ty) → NoInt u → (ρ : Vals I Γ) → some I u (setOf I (means I (⋂ with-a) Γ) ρ u) ≡ setOf I (means I rest Γ) ρ u (val I (means I a Γ) ρ u)
+  single-some : (u : Ty) → NoInt u → (ρ : Vals I Γ) → some I u (setOf I (means I (⋂ with-a) Γ) ρ u) ≡ setOf I (means I rest Γ) ρ u
+      (val I (means I a Γ) ρ u)
   unfolding with-a rest means
   single-some u n ρ =
       let x = val I (means I a Γ) ρ u in
       ap (some I u) (fun-ext (λ y. cap-is I Γ ρ u y with-a ∙ ap (all (λ k. setOf I k ρ u y)) (append-means I Γ left (cons (ext (sole a)) right))))
-      ∙ more.cap-single (I .size) u n (λ k. setOf I k ρ u) (meansAll I left Γ) (meansAll I right Γ) (means I (ext (sole a)) Γ) x (λ y. alone-is I Γ ρ u y a)
+      ∙ more.cap-single (I .size) u n (λ k. setOf I k ρ u) (meansAll I left Γ) (meansAll I right Γ) (means I (ext (sole a)) Γ) x
+          (λ y. alone-is I Γ ρ u y a)
       ∙ ap (all (λ k. setOf I k ρ u x)) (sym (append-means I Γ left right)) ∙ sym (cap-over-is I Γ ρ u x (append left right))
 
-  pub single-emptied : (u : Ty) → typeOf (⋂ (append left (cons (ext (sole a)) right))) Γ ≡ pow u → typeOf a Γ ≡ u → SingleIntegers (⋂ (append left (cons (ext (sole a)) right))) Γ
+  pub single-emptied : (u : Ty) → typeOf (⋂ (append left (cons (ext (sole a)) right))) Γ ≡ pow u → typeOf a Γ ≡ u
+      → SingleIntegers (⋂ (append left (cons (ext (sole a)) right))) Γ
       → Emptied I σ Γ (⋂ (append left (cons (ext (sole a)) right))) (¬ᵖ (a ∈ᵖ over #BInter (append left right)))
   unfolding with-a rest SingleIntegers NoInterOverNothing typeOf opOf opAt classOf lookup formAt
   single-emptied u he ha s =
@@ -99,24 +103,34 @@ module _ (I : Interpretation) (Γ : Ctx) where
     abbrev has : Den I Γ → Bool
     has k = setOf I k ρ u x
 
-    subtracted-is : {ks ls ms : Forest} → Subtracted ks ls ms → all has (meansAll I ks Γ) ≡ (all has (meansAll I ls Γ) && not (any has (meansAll I ms Γ)))
+    subtracted-is : {ks ls ms : Forest} → Subtracted ks ls ms
+        → all has (meansAll I ks Γ) ≡ (all has (meansAll I ls Γ) && not (any has (meansAll I ms Γ)))
     unfolding means valueOf opOf opAt classOf lookup all any
     subtracted-is none = refl
     subtracted-is (minus a b ks ls ms d) =
         ap (λ c. (has (means I a Γ) && not (has (means I b Γ))) && c) (subtracted-is d)
         ∙ apart (has (means I a Γ)) (has (means I b Γ)) (all has (meansAll I ls Γ)) (any has (meansAll I ms Γ))
     subtracted-is (other k ks ls ms d) =
-        ap (λ c. has (means I k Γ) && c) (subtracted-is d) ∙ sym (and-assoc (has (means I k Γ)) (all has (meansAll I ls Γ)) (not (any has (meansAll I ms Γ))))
+        ap (λ c. has (means I k Γ) && c) (subtracted-is d) ∙ sym
+            (and-assoc (has (means I k Γ)) (all has (meansAll I ls Γ)) (not (any has (meansAll I ms Γ))))
 
-  pub subtracted-emptied : (σ : ℕ → Ty) (ks ls ms : Forest) (u : Ty) → Subtracted ks ls ms → typeOf (⋂ ks) Γ ≡ pow u → typeOf (over #BInter ls) Γ ≡ pow u → SingleIntegers (⋂ ks) Γ
-      → Emptied I σ Γ (⋂ ks) (over #BInter ls ⊆ over #BUnion ms)
+  pub subtracted-emptied : (σ : ℕ → Ty) (ks ls ms : Forest) (u : Ty) → Subtracted ks ls ms → typeOf (⋂ ks) Γ ≡ pow u
+      → typeOf (over #BInter ls) Γ ≡ pow u → SingleIntegers (⋂ ks) Γ → Emptied I σ Γ (⋂ ks) (over #BInter ls ⊆ over #BUnion ms)
   unfolding SingleIntegers NoInterOverNothing typeOf opOf opAt classOf lookup formAt
   subtracted-emptied σ ks ls ms u d he hl s =
       let a = over #BInter ls in
       let b = over #BUnion ms in
       let parts : (x y : Tree) → SingleIntegers (two #SetMinus x y) Γ → SingleIntegers x Γ × SingleIntegers y Γ = λ x y t. (t .3 .0, t .3 .1 .0) in
-      let lives : (x y : Tree) → NoInterOverNothing I (two #SetMinus x y) Γ → NoInterOverNothing I x Γ × NoInterOverNothing I y Γ = λ x y t. (t .2 .0, t .2 .1 .0) in
-      within-emptied I Γ σ (⋂ ks) u he a b u hl (over-single Γ #BInter (λ k. refl) ls (single-all Γ ls (minuends-every (λ k. SingleIntegers k Γ) parts d (single-each Γ ks (s .3))))) (over-single Γ #BUnion (λ k. refl) ms (single-all Γ ms (subtrahends-every (λ k. SingleIntegers k Γ) parts d (single-each Γ ks (s .3)))))
-      (λ l. over-alive I Γ #BInter (refl, refl) ls (alive-all I Γ ls (minuends-every (λ k. NoInterOverNothing I k Γ) lives d (alive-each I Γ ks (l .2))))) (λ l. over-alive I Γ #BUnion (refl, refl) ms (alive-all I Γ ms (subtrahends-every (λ k. NoInterOverNothing I k Γ) lives d (alive-each I Γ ks (l .2)))))
+      let lives : (x y : Tree) → NoInterOverNothing I (two #SetMinus x y) Γ
+          → NoInterOverNothing I x Γ × NoInterOverNothing I y Γ = λ x y t. (t .2 .0, t .2 .1 .0) in
+      within-emptied I Γ σ (⋂ ks) u he a b u hl (over-single Γ #BInter (λ k. refl) ls
+            (single-all Γ ls (minuends-every (λ k. SingleIntegers k Γ) parts d (single-each Γ ks (s .3)))))
+          (over-single Γ #BUnion (λ k. refl) ms (single-all Γ ms
+              (subtrahends-every (λ k. SingleIntegers k Γ) parts d (single-each Γ ks (s .3)))))
+      (λ l. over-alive I Γ #BInter (refl, refl) ls (alive-all I Γ ls
+              (minuends-every (λ k. NoInterOverNothing I k Γ) lives d (alive-each I Γ ks (l .2)))))
+          (λ l. over-alive I Γ #BUnion (refl, refl) ms (alive-all I Γ ms
+              (subtrahends-every (λ k. NoInterOverNothing I k Γ) lives d (alive-each I Γ ks (l .2)))))
       (λ ρ. within-is (I .size) u (setOf I (means I a Γ) ρ u) (setOf I (means I b Γ) ρ u)
-      ∙ ap (λ f. not (some I u f)) (fun-ext (λ x. ap₂ (λ c e. c && not e) (cap-over-is I Γ ρ u x ls) (cup-over-is I Γ ρ u x ms) ∙ sym (subtracted-is ρ u x d) ∙ sym (cap-is I Γ ρ u x ks))))
+      ∙ ap (λ f. not (some I u f)) (fun-ext (λ x. ap₂ (λ c e. c && not e) (cap-over-is I Γ ρ u x ls) (cup-over-is I Γ ρ u x ms) ∙ sym
+              (subtracted-is ρ u x d) ∙ sym (cap-is I Γ ρ u x ks))))

@@ -53,11 +53,14 @@ module _ (I : Interpretation) (Γ : Ctx) where
     ran-is = ap (λ f. f (pow v)) (one-at #KRan range refl)
 
     module _ (q : Tree) where
-      two-at : (g : ℕ) (o : Operator) → opOf g ≡ operator o → val I (means I (two g r q) Γ) ρ ≡ valueOf I o g 0 (relation u v ∷ typeOf q Γ ∷ []) (means I r Γ ∷ means I q Γ ∷ []) ρ
+      two-at : (g : ℕ) (o : Operator) → opOf g ≡ operator o
+          → val I (means I (two g r q) Γ) ρ ≡ valueOf I o g 0 (relation u v ∷ typeOf q Γ ∷ []) (means I r Γ ∷ means I q Γ ∷ []) ρ
       unfolding means typeOf
-      two-at g o e = ap (λ k. val I k ρ) (kit.means-at I Γ g (operator o) e (pair r q)) ∙ ap (λ x. valueOf I o g 0 (x ∷ typeOf q Γ ∷ []) (means I r Γ ∷ means I q Γ ∷ []) ρ) h
+      two-at g o e = ap (λ k. val I k ρ) (kit.means-at I Γ g (operator o) e (pair r q)) ∙ ap
+          (λ x. valueOf I o g 0 (x ∷ typeOf q Γ ∷ []) (means I r Γ ∷ means I q Γ ∷ []) ρ) h
 
-      pub image-is : setOf I (means I (two #RelImage r q) Γ) ρ v ≡ (λ y. some I u (λ x. setOf I (means I q Γ) ρ u x && relOf I (means I r Γ) ρ u v x y))
+      pub image-is : setOf I (means I (two #RelImage r q) Γ) ρ v ≡
+          (λ y. some I u (λ x. setOf I (means I q Γ) ρ u x && relOf I (means I r Γ) ρ u v x y))
       unfolding valueOf opOf opAt classOf lookup
       image-is = ap (λ f. f (pow v)) (two-at #RelImage image refl)
 
@@ -102,20 +105,23 @@ module _ (I : Interpretation) (Γ : Ctx) where
     unfolding SingleIntegers NoInterOverNothing means holds typeOf opOf opAt classOf lookup formAt
     false-emptied h = emptied I σ Γ e ⊥ᵖ w he (refl, refl) (tt, tt, tt, tt) (λ a. (tt, tt, tt)) (λ a ρ. sym (ap not (h ρ)))
 
-    module _ (a b : Tree) (u : Ty) (ha : typeOf a Γ ≡ pow u) (s : SingleIntegers a Γ) (r : SingleIntegers b Γ) (k : NoInterOverNothing I e Γ → NoInterOverNothing I a Γ) (l : NoInterOverNothing I e Γ → NoInterOverNothing I b Γ) where
+    module _ (a b : Tree) (u : Ty) (ha : typeOf a Γ ≡ pow u) (s : SingleIntegers a Γ) (r : SingleIntegers b Γ)
+        (k : NoInterOverNothing I e Γ → NoInterOverNothing I a Γ) (l : NoInterOverNothing I e Γ → NoInterOverNothing I b Γ) where
       -- A ∩ B = ∅
-      pub meet-emptied : ((ρ : Vals I Γ) → some I u (λ x. setOf I (means I a Γ) ρ u x && setOf I (means I b Γ) ρ u x) ≡ some I w (setOf I (means I e Γ) ρ w))
-          → Emptied I σ Γ e (_≐∅ Γ (⋂ (pair a b)))
+      pub meet-emptied : ((ρ : Vals I Γ) → some I u (λ x. setOf I (means I a Γ) ρ u x && setOf I (means I b Γ) ρ u x) ≡ some I w
+            (setOf I (means I e Γ) ρ w)) → Emptied I σ Γ e (_≐∅ Γ (⋂ (pair a b)))
       meet-emptied m =
-          emptied-by I σ Γ e (⋂ (pair a b)) w u he (meet-type a b u ha) (meet-single a b s r) (λ x. kit.two-alive I Γ #BInter (refl, refl) a b (k x) (l x))
+          emptied-by I σ Γ e (⋂ (pair a b)) w u he (meet-type a b u ha) (meet-single a b s r)
+              (λ x. kit.two-alive I Γ #BInter (refl, refl) a b (k x) (l x))
           (λ x ρ. ap (some I u) (meet-is a b u ρ) ∙ m ρ)
 
       -- A ⊆ B
-      pub within-emptied : ((ρ : Vals I Γ) → every I u (λ x. not (setOf I (means I a Γ) ρ u x) || setOf I (means I b Γ) ρ u x) ≡ not (some I w (setOf I (means I e Γ) ρ w)))
-          → Emptied I σ Γ e (a ⊆ b)
+      pub within-emptied : ((ρ : Vals I Γ) → every I u (λ x. not (setOf I (means I a Γ) ρ u x) || setOf I (means I b Γ) ρ u x) ≡ not
+            (some I w (setOf I (means I e Γ) ρ w))) → Emptied I σ Γ e (a ⊆ b)
       unfolding classOf lookup formAt
       within-emptied m =
-          emptied I σ Γ e (a ⊆ b) w he (refl, refl) (kit.two-single I Γ #SubsetEq (refl, refl) a b s r) (λ x. kit.two-alive I Γ #SubsetEq (refl, refl) a b (k x) (l x))
+          emptied I σ Γ e (a ⊆ b) w he (refl, refl) (kit.two-single I Γ #SubsetEq (refl, refl) a b s r)
+              (λ x. kit.two-alive I Γ #SubsetEq (refl, refl) a b (k x) (l x))
           (λ x ρ. kit.subset-truth I Γ a b u ha ρ ∙ m ρ)
 
       -- A = ∅ ∨ B = ∅
@@ -124,7 +130,8 @@ module _ (I : Interpretation) (Γ : Ctx) where
           → Emptied I σ Γ e (⋁ (pair (_≐∅ Γ a) (_≐∅ Γ b)))
       unfolding classOf lookup formAt
       either-emptied v hb m =
-          emptied I σ Γ e (⋁ (pair (_≐∅ Γ a) (_≐∅ Γ b))) w he (refl, refl) (kit.two-single I Γ #LOr (refl, refl) (_≐∅ Γ a) (_≐∅ Γ b) (kit.empty-single I Γ a s) (kit.empty-single I Γ b r))
+          emptied I σ Γ e (⋁ (pair (_≐∅ Γ a) (_≐∅ Γ b))) w he (refl, refl)
+              (kit.two-single I Γ #LOr (refl, refl) (_≐∅ Γ a) (_≐∅ Γ b) (kit.empty-single I Γ a s) (kit.empty-single I Γ b r))
           (λ x. kit.two-alive I Γ #LOr (refl, refl) (_≐∅ Γ a) (_≐∅ Γ b) (kit.empty-alive I Γ a (k x)) (kit.empty-alive I Γ b (l x)))
           (λ x ρ. or-two-truth (_≐∅ Γ a) (_≐∅ Γ b) ρ ∙ ap₂ _||_ (kit.empty-truth I Γ a u ha ρ) (kit.empty-truth I Γ b v hb ρ)
           ∙ sym (not-and (some I u (setOf I (means I a Γ) ρ u)) (some I v (setOf I (means I b Γ) ρ v))) ∙ ap not (sym (m ρ)))

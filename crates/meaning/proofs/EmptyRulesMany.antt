@@ -14,7 +14,9 @@ use Rattle.typing.specs.Typing.{relation, ty, typeOf, typesIn}
 use Rattle.rules.specs.Equations.{⊥ᵖ, _⇒_, ⋀, ∀ᵖ, ext, _≐∅}
 use Rattle.meaning.specs.Lists.{any, all}
 use Rattle.meaning.specs.Operations.{opAt, opOf}
-use Rattle.meaning.specs.Meaning.{Interpretation, Vals, Den, truth, val, setOf, some, equals, overridden, valueOf, boundSet, choices, means, meansAll}
+use Rattle.meaning.specs.Meaning.{
+  Interpretation, Vals, Den, truth, val, setOf, some, equals, overridden, valueOf, boundSet, choices, means, meansAll
+}
 use Rattle.meaning.specs.Premises.{NoInt, SingleIntegers, SingleIntegersIn, NoInterOverNothing, NoInterOverNothingIn}
 use Rattle.meaning.proofs.Sets.{some-false, some-any}
 use Rattle.meaning.proofs.EmptySets as set
@@ -47,12 +49,14 @@ module _ (I : Interpretation) (σ : ℕ → Ty) (Γ : Ctx) where
         → Emptied I σ Γ e (⋀ (mapF (_≐∅ Γ) ks))
     unfolding classOf lookup formAt
     each-emptied s l m =
-        emptied I σ Γ e (⋀ (mapF (_≐∅ Γ) ks)) u he (refl, refl) (kit.many-single I Γ #LAnd (refl, refl) (mapF (_≐∅ Γ) ks) (map-single (_≐∅ Γ) Γ Γ (λ k. kit.empty-single I Γ k) ks s))
+        emptied I σ Γ e (⋀ (mapF (_≐∅ Γ) ks)) u he (refl, refl)
+            (kit.many-single I Γ #LAnd (refl, refl) (mapF (_≐∅ Γ) ks) (map-single (_≐∅ Γ) Γ Γ (λ k. kit.empty-single I Γ k) ks s))
         (λ a. kit.many-alive I Γ #LAnd (refl, refl) (mapF (_≐∅ Γ) ks) (map-alive I (_≐∅ Γ) Γ Γ (λ k. kit.empty-alive I Γ k) ks (l a)))
         (λ a ρ. kit.and-truth I Γ (mapF (_≐∅ Γ) ks) ρ ∙ empties-all I Γ u ρ ks h ∙ ap not (sym (m ρ)))
 
   module _ (ks : Forest) (few : 1 ≤ count ks) where
-    pub cup-emptied : (u : Ty) → Each (pow u) (typesIn ks Γ) → SingleIntegers (many #BUnion ks) Γ → Emptied I σ Γ (many #BUnion ks) (⋀ (mapF (_≐∅ Γ) ks))
+    pub cup-emptied : (u : Ty) → Each (pow u) (typesIn ks Γ) → SingleIntegers (many #BUnion ks) Γ
+        → Emptied I σ Γ (many #BUnion ks) (⋀ (mapF (_≐∅ Γ) ks))
     unfolding SingleIntegers NoInterOverNothing means valueOf typeOf opOf opAt classOf lookup formAt
     cup-emptied u h s =
         let e : typeOf (many #BUnion ks) Γ ≡ pow u = head-type (pow u) ks Γ few h in
@@ -67,7 +71,8 @@ module _ (I : Interpretation) (σ : ℕ → Ty) (Γ : Ctx) where
         more.ovr-some (I .size) u v n m (setOf I d ρ (prod u v)) (λ a. overridden I ds ρ u v (a .0) (a .1))
         ∙ ap (λ b. some I (prod u v) (setOf I d ρ (prod u v)) || b) (overrides u v n m ρ ds)
 
-    pub override-emptied : (u v : Ty) → Each (relation u v) (typesIn ks Γ) → SingleIntegers (many #Ovr ks) Γ → Emptied I σ Γ (many #Ovr ks) (⋀ (mapF (_≐∅ Γ) ks))
+    pub override-emptied : (u v : Ty) → Each (relation u v) (typesIn ks Γ) → SingleIntegers (many #Ovr ks) Γ
+        → Emptied I σ Γ (many #Ovr ks) (⋀ (mapF (_≐∅ Γ) ks))
     unfolding SingleIntegers NoInterOverNothing means valueOf typeOf opOf opAt classOf lookup formAt
     override-emptied u v h s =
         let e : typeOf (many #Ovr ks) Γ ≡ relation u v = head-type (relation u v) ks Γ few h in
@@ -81,16 +86,20 @@ module _ (I : Interpretation) (σ : ℕ → Ty) (Γ : Ctx) where
   qunion-emptied xs p e u h s =
       let Δ = push xs Γ in
       emptied I σ Γ (bodied #QUnion xs p e) (∀ᵖ xs (p ⇒ _≐∅ Δ e)) u h (refl, refl)
-      (kit.bound-single I Γ #Forall (refl, refl) (λ us. refl) xs (p ⇒ _≐∅ Δ e) (s .0) (s .2) (kit.two-single I Δ #LImp (refl, refl) p (_≐∅ Δ e) (s .3 .0) (kit.empty-single I Δ e (s .3 .1 .0))))
-      (λ a. kit.bound-alive I Γ #Forall (refl, refl) (λ us. refl) xs (p ⇒ _≐∅ Δ e) (refl, refl) (kit.two-alive I Δ #LImp (refl, refl) p (_≐∅ Δ e) (a .2 .0) (kit.empty-alive I Δ e (a .2 .1 .0))))
+      (kit.bound-single I Γ #Forall (refl, refl) (λ us. refl) xs (p ⇒ _≐∅ Δ e) (s .0) (s .2)
+            (kit.two-single I Δ #LImp (refl, refl) p (_≐∅ Δ e) (s .3 .0) (kit.empty-single I Δ e (s .3 .1 .0))))
+      (λ a. kit.bound-alive I Γ #Forall (refl, refl) (λ us. refl) xs (p ⇒ _≐∅ Δ e) (refl, refl)
+            (kit.two-alive I Δ #LImp (refl, refl) p (_≐∅ Δ e) (a .2 .0) (kit.empty-alive I Δ e (a .2 .1 .0))))
       (λ a ρ. kit.forall-truth I Γ xs (p ⇒ _≐∅ Δ e) ρ
-      ∙ ap (λ g. all g (choices I xs Γ ρ)) (fun-ext (λ τ. kit.implies-truth I Δ p (_≐∅ Δ e) τ ∙ ap (λ b. not (truth I (means I p Δ) τ) || b) (kit.empty-truth I Δ e u h τ)))
+      ∙ ap (λ g. all g (choices I xs Γ ρ)) (fun-ext (λ τ. kit.implies-truth I Δ p (_≐∅ Δ e) τ ∙ ap (λ b. not (truth I (means I p Δ) τ) || b)
+              (kit.empty-truth I Δ e u h τ)))
       ∙ set.qunion-none (I .size) u (kit.no-int e Δ u (s .3 .1 .0) h) (truth I (means I p Δ)) (λ τ. setOf I (means I e Δ) τ u) (choices I xs Γ ρ))
 
   -- ---- id, prj1, prj2
   pub id-emptied : (t u : Ty) → t ≡ relation u u → SingleIntegers (typed #KIdGen t) Γ → Emptied I σ Γ (typed #KIdGen t) ⊥ᵖ
   unfolding means valueOf typeOf opOf opAt classOf lookup formAt
-  id-emptied t u h s = false-emptied I Γ σ (typed #KIdGen t) (prod u u) h (λ ρ. set.id-some (I .size) u (kit.no-int (typed #KIdGen t) Γ (prod u u) s h .0))
+  id-emptied t u h s = false-emptied I Γ σ (typed #KIdGen t) (prod u u) h
+      (λ ρ. set.id-some (I .size) u (kit.no-int (typed #KIdGen t) Γ (prod u u) s h .0))
 
   module _ (t u v : Ty) where
     pub prj1-emptied : t ≡ relation (prod u v) u → SingleIntegers (typed #KPrj1Gen t) Γ → Emptied I σ Γ (typed #KPrj1Gen t) ⊥ᵖ

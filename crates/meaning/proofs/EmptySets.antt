@@ -17,7 +17,8 @@ use Rattle.meaning.proofs.Sets.{is-empty, within-is}
 module _ (size : ℕ → ℕ) where
   -- ---- two sets, a set and a relation
   module _ (t u : Ty) (nt : NoInt t) (nu : NoInt u) where
-    pub times-some : (s : Value size t → Bool) (r : Value size u → Bool) → someOf size (prod t u) (λ p. s (p .0) && r (p .1)) ≡ (someOf size t s && someOf size u r)
+    pub times-some : (s : Value size t → Bool) (r : Value size u → Bool)
+        → someOf size (prod t u) (λ p. s (p .0) && r (p .1)) ≡ (someOf size t s && someOf size u r)
     times-some s r =
         iff (simp (so-and, so-some size t nt, so-some size u nu, so-some size (prod t u) (nt, nu))
         (λ h. ((h .0 .0, h .1 .0), (h .0 .1, h .1 .1)), λ h. ((h .0 .0, h .1 .0), (h .0 .1, h .1 .1))))
@@ -94,9 +95,11 @@ module _ (size : ℕ → ℕ) where
           (λ h. ((h .1 .0 .0, h .1 .1 .0), (h .0, (h .1 .0 .1, h .1 .1 .1))), λ h. (h .1 .0, ((h .0 .0, h .1 .1 .0), (h .0 .1, h .1 .1 .1)))))
 
   pub pprod-some : (t u v w : Ty) → NoInt t → NoInt u → NoInt v → NoInt w → (p : Value size (prod t v) → Bool) (q : Value size (prod u w) → Bool)
-      → someOf size (prod (prod t u) (prod v w)) (λ a. p (a .0 .0, a .1 .0) && q (a .0 .1, a .1 .1)) ≡ (someOf size (prod t v) p && someOf size (prod u w) q)
+      → someOf size (prod (prod t u) (prod v w)) (λ a. p (a .0 .0, a .1 .0) && q (a .0 .1, a .1 .1)) ≡
+          (someOf size (prod t v) p && someOf size (prod u w) q)
   pprod-some t u v w nt nu nv nw p q =
-      iff (simp (so-and, so-some size (prod t v) (nt, nv), so-some size (prod u w) (nu, nw), so-some size (prod (prod t u) (prod v w)) ((nt, nu), (nv, nw))) (
+      iff (simp (so-and, so-some size (prod t v) (nt, nv), so-some size (prod u w) (nu, nw), so-some size
+              (prod (prod t u) (prod v w)) ((nt, nu), (nv, nw))) (
         λ h. (((h .0 .0 .0, h .0 .1 .0), h .1 .0), ((h .0 .0 .1, h .0 .1 .1), h .1 .1)),
         λ h. (((h .0 .0 .0, h .1 .0 .0), (h .0 .0 .1, h .1 .0 .1)), (h .0 .1, h .1 .1)),
       ))

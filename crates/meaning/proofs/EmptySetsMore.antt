@@ -20,11 +20,13 @@ module _ (size : ℕ → ℕ) where
 
     -- S <->> T has a member if T = ∅ or S ≠ ∅
     pub srel-some : someOf size (pow (prod t u)) (λ r.
-        everyOf size t (λ x. everyOf size u (λ y. not (r (x, y)) || (a x && b y))) && everyOf size u (λ y. not (b y) || someOf size t (λ x. r (x, y))))
+        everyOf size t (λ x. everyOf size u (λ y. not (r (x, y)) || (a x && b y))) && everyOf size u
+            (λ y. not (b y) || someOf size t (λ x. r (x, y))))
         ≡ (not (someOf size u b) || someOf size t a)
     unfolding product
     srel-some =
-        iff (simp (so-imp, so-and, so-every size t nt, so-every size u nu, so-some size t nt, so-some size u nu, so-some size (pow (prod t u)) (nt, nu)) (
+        iff (simp (so-imp, so-and, so-every size t nt, so-every size u nu, so-some size t nt, so-some size u nu, so-some size
+                (pow (prod t u)) (nt, nu)) (
           λ h m. (let x = h .1 .1 (m .0) (m .1) in (x .0, h .1 .0 (x .0) (m .0) (x .1) .0)),
           λ h. (product, ((λ x y k. so-and (a x) (b y) .0 k), λ y k. (let x = h (y, k) in (x .0, so-and (a (x .0)) (b y) .1 (x .1, k))))),
         ))
@@ -36,7 +38,8 @@ module _ (size : ℕ → ℕ) where
         ≡ Bool·beq (someOf size t a) (someOf size u b)
     unfolding product
     strel-some =
-        iff (simp (so-beq-iff, so-imp, so-and, so-every size t nt, so-every size u nu, so-some size t nt, so-some size u nu, so-some size (pow (prod t u)) (nt, nu)) (
+        iff (simp (so-beq-iff, so-imp, so-and, so-every size t nt, so-every size u nu, so-some size t nt, so-some size u nu, so-some size
+                (pow (prod t u)) (nt, nu)) (
           λ h. (
             (λ m. (let y = h .1 .1 .0 (m .0) (m .1) in (y .0, h .1 .0 (m .0) (y .0) (y .1) .1))),
             λ m. (let x = h .1 .1 .1 (m .0) (m .1) in (x .0, h .1 .0 (x .0) (m .0) (x .1) .0)),
@@ -67,7 +70,8 @@ module _ (size : ℕ → ℕ) where
     keep a h true e = let z = so-some size u nu (λ z. s (a .0, z)) .0 e in ((a .0, z .0), rw (z .1))
     keep a h false e = (a, so-or (s a) (r a && not (from (a .0))) .1 (inr (so-and (r a) (not (from (a .0))) .1 (h, rw e))))
 
-    pub ovr-some : someOf size (prod t u) (λ a. s a || (r a && not (someOf size u (λ z. s (a .0, z))))) ≡ (someOf size (prod t u) r || someOf size (prod t u) s)
+    pub ovr-some : someOf size (prod t u) (λ a. s a || (r a && not (someOf size u (λ z. s (a .0, z))))) ≡
+        (someOf size (prod t u) r || someOf size (prod t u) s)
     unfolding over from
     ovr-some =
         iff (simp (so-some size (prod t u) (nt, nu)) (
@@ -77,15 +81,16 @@ module _ (size : ℕ → ℕ) where
       where
         there : (a : Value size (prod t u)) → So (s a) ⊎ So (r a && not (from (a .0))) → So (someOf size (prod t u) r || someOf size (prod t u) s)
         there a (inl h) = so-or (someOf size (prod t u) r) (someOf size (prod t u) s) .1 (inr (so-some size (prod t u) (nt, nu) s .1 (a, h)))
-        there a (inr h) = so-or (someOf size (prod t u) r) (someOf size (prod t u) s) .1 (inl (so-some size (prod t u) (nt, nu) r .1 (a, so-and (r a) (not (from (a .0))) .0 h .0)))
+        there a (inr h) = so-or (someOf size (prod t u) r) (someOf size (prod t u) s) .1
+            (inl (so-some size (prod t u) (nt, nu) r .1 (a, so-and (r a) (not (from (a .0))) .0 h .0)))
 
         back : So (someOf size (prod t u) r) ⊎ So (someOf size (prod t u) s) → (a : Value size (prod t u)) × So (over a)
         back (inl h) = let a = so-some size (prod t u) (nt, nu) r .0 h in keep (a .0) (a .1) (from (a .0 .0)) refl
         back (inr h) = let a = so-some size (prod t u) (nt, nu) s .0 h in (a .0, so-or (s (a .0)) (r (a .0) && not (from (a .0 .0))) .1 (inl (a .1)))
 
   -- ---- A ∩ {a} ∩ B has a member if a is in A ∩ B
-  pub cap-single : {A : Type 0} (t : Ty) → NoInt t → (f : A → Value size t → Bool) (l m : List A) (k : A) (a : Value size t) → ((x : Value size t) → f k x ≡ same size t x a)
-      → someOf size t (λ x. all (λ k. f k x) (l ++ (k ∷ m))) ≡ all (λ k. f k a) (l ++ m)
+  pub cap-single : {A : Type 0} (t : Ty) → NoInt t → (f : A → Value size t → Bool) (l m : List A) (k : A) (a : Value size t)
+      → ((x : Value size t) → f k x ≡ same size t x a) → someOf size t (λ x. all (λ k. f k x) (l ++ (k ∷ m))) ≡ all (λ k. f k a) (l ++ m)
   cap-single t n f l m k a h =
       iff (simp (all-mid, so-and, so-some size t n, h, so-eq size t n)
       (λ g. rw (← (g .1 .0)) (g .1 .1), λ g. (a, (refl, g))))

@@ -7,7 +7,21 @@ use Rattle.frame.specs.Tags.{predicate}
 use Rattle.frame.specs.Operators.{#Bool, #Pow, #Converse, #DomRes, #UpTo, #KIdGen, #KPrj1Gen, #KPrj2Gen}
 use Rattle.frame.specs.Places.{Ctx}
 use Rattle.typing.specs.Accepted.{TysOk, Accepted}
-use Rattle.rules.specs.Equations.{∅, ext, Equation, equal-type, equal-empty, «SIMP_SPECIAL_FINITE», «SIMP_FINITE_NATURAL», «SIMP_FINITE_NATURAL1», «SIMP_FINITE_INTEGER», «SIMP_FINITE_BOOL», «SIMP_FINITE_ID», «SIMP_FINITE_SETENUM», «SIMP_FINITE_BUNION», «SIMP_FINITE_POW», «DERIV_FINITE_CPROD», «SIMP_FINITE_CONVERSE», «SIMP_FINITE_UPTO», «SIMP_FINITE_LAMBDA», «SIMP_FINITE_ID_DOMRES», «SIMP_FINITE_PRJ1_DOMRES», «SIMP_FINITE_PRJ2_DOMRES», «SIMP_FINITE_PRJ1», «SIMP_FINITE_PRJ2», «SIMP_EMPTY_PARTITION», «SIMP_SINGLE_PARTITION», «SIMP_NOT_LE», «SIMP_NOT_GE», «SIMP_NOT_GT», «SIMP_NOT_LT», «SIMP_SPECIAL_NOT_EQUAL_FALSE_R», «SIMP_SPECIAL_NOT_EQUAL_TRUE_R», «SIMP_SPECIAL_NOT_EQUAL_FALSE_L», «SIMP_SPECIAL_NOT_EQUAL_TRUE_L», «SIMP_SPECIAL_AND_BFALSE/OR_BTRUE», «SIMP_MULTI_AND_NOT/OR_NOT», «SIMP_SPECIAL_AND_BTRUE/OR_BFALSE/MULTI_AND/OR/none», «SIMP_SPECIAL_AND_BTRUE/OR_BFALSE/MULTI_AND/OR/one», «SIMP_SPECIAL_AND_BTRUE/OR_BFALSE/MULTI_AND/OR», «SIMP_SPECIAL_IMP_BTRUE_L», «SIMP_SPECIAL_IMP_BFALSE_L», «SIMP_SPECIAL_IMP_BTRUE_R», «SIMP_SPECIAL_IMP_BFALSE_R», «SIMP_MULTI_IMP», «SIMP_MULTI_IMP_AND», «SIMP_MULTI_IMP_AND_NOT_R/L», «SIMP_MULTI_IMP_NOT_L», «SIMP_MULTI_IMP_NOT_R», «SIMP_SPECIAL_EQV_BTRUE/right», «SIMP_SPECIAL_EQV_BTRUE/left», «SIMP_MULTI_EQV», «SIMP_SPECIAL_EQV_BFALSE/right», «SIMP_SPECIAL_EQV_BFALSE/left», «SIMP_MULTI_EQV_NOT/right», «SIMP_MULTI_EQV_NOT/left», «SIMP_SPECIAL_NOT_BTRUE», «SIMP_SPECIAL_NOT_BFALSE», «SIMP_NOT_NOT», «SIMP_FORALL_AND», «SIMP_EXISTS_OR», «SIMP_EXISTS_IMP»}
+use Rattle.rules.specs.Equations.{
+  ∅, ext, Equation, equal-type, equal-empty, «SIMP_SPECIAL_FINITE», «SIMP_FINITE_NATURAL», «SIMP_FINITE_NATURAL1»,
+  «SIMP_FINITE_INTEGER», «SIMP_FINITE_BOOL», «SIMP_FINITE_ID», «SIMP_FINITE_SETENUM», «SIMP_FINITE_BUNION», «SIMP_FINITE_POW»,
+  «DERIV_FINITE_CPROD», «SIMP_FINITE_CONVERSE», «SIMP_FINITE_UPTO», «SIMP_FINITE_LAMBDA», «SIMP_FINITE_ID_DOMRES»,
+  «SIMP_FINITE_PRJ1_DOMRES», «SIMP_FINITE_PRJ2_DOMRES», «SIMP_FINITE_PRJ1», «SIMP_FINITE_PRJ2», «SIMP_EMPTY_PARTITION»,
+  «SIMP_SINGLE_PARTITION», «SIMP_NOT_LE», «SIMP_NOT_GE», «SIMP_NOT_GT», «SIMP_NOT_LT», «SIMP_SPECIAL_NOT_EQUAL_FALSE_R»,
+  «SIMP_SPECIAL_NOT_EQUAL_TRUE_R», «SIMP_SPECIAL_NOT_EQUAL_FALSE_L», «SIMP_SPECIAL_NOT_EQUAL_TRUE_L»,
+  «SIMP_SPECIAL_AND_BFALSE/OR_BTRUE», «SIMP_MULTI_AND_NOT/OR_NOT», «SIMP_SPECIAL_AND_BTRUE/OR_BFALSE/MULTI_AND/OR/none»,
+  «SIMP_SPECIAL_AND_BTRUE/OR_BFALSE/MULTI_AND/OR/one», «SIMP_SPECIAL_AND_BTRUE/OR_BFALSE/MULTI_AND/OR»,
+  «SIMP_SPECIAL_IMP_BTRUE_L», «SIMP_SPECIAL_IMP_BFALSE_L», «SIMP_SPECIAL_IMP_BTRUE_R», «SIMP_SPECIAL_IMP_BFALSE_R»,
+  «SIMP_MULTI_IMP», «SIMP_MULTI_IMP_AND», «SIMP_MULTI_IMP_AND_NOT_R/L», «SIMP_MULTI_IMP_NOT_L», «SIMP_MULTI_IMP_NOT_R»,
+  «SIMP_SPECIAL_EQV_BTRUE/right», «SIMP_SPECIAL_EQV_BTRUE/left», «SIMP_MULTI_EQV», «SIMP_SPECIAL_EQV_BFALSE/right»,
+  «SIMP_SPECIAL_EQV_BFALSE/left», «SIMP_MULTI_EQV_NOT/right», «SIMP_MULTI_EQV_NOT/left», «SIMP_SPECIAL_NOT_BTRUE»,
+  «SIMP_SPECIAL_NOT_BFALSE», «SIMP_NOT_NOT», «SIMP_FORALL_AND», «SIMP_EXISTS_OR», «SIMP_EXISTS_IMP»
+}
 use Rattle.rules.proofs.LogicAccepted.{emptiness-accepted, fullness-accepted}
 use Rattle.meaning.specs.Meaning.{Interpretation}
 use Rattle.meaning.specs.Premises.{SingleIntegers}
@@ -50,13 +64,17 @@ equation-keeps I σ Γ z l r k («SIMP_SPECIAL_NOT_EQUAL_FALSE_R» e) a s = con.
 equation-keeps I σ Γ z l r k («SIMP_SPECIAL_NOT_EQUAL_TRUE_R» e) a s = con.not-true-right-keeps I σ Γ e a s
 equation-keeps I σ Γ z l r k («SIMP_SPECIAL_NOT_EQUAL_FALSE_L» e) a s = con.not-false-left-keeps I σ Γ e s
 equation-keeps I σ Γ z l r k («SIMP_SPECIAL_NOT_EQUAL_TRUE_L» e) a s = con.not-true-left-keeps I σ Γ e s
-equation-keeps I σ Γ z x y k (equal-type {place} {e} {l} {r} i f) a s = fullness-keeps I σ Γ i a (fills-filled I σ Γ place e r k f (fullness-accepted σ Γ i a) (fullness-single I σ Γ i s))
-equation-keeps I σ Γ z x y k (equal-empty {place} {e} {l} {r} i f) a s = emptiness-keeps I σ Γ i a (empties-emptied I σ Γ place e r k f (emptiness-accepted σ Γ i a) (emptiness-single I σ Γ i s))
+equation-keeps I σ Γ z x y k (equal-type {place} {e} {l} {r} i f) a s = fullness-keeps I σ Γ i a
+    (fills-filled I σ Γ place e r k f (fullness-accepted σ Γ i a) (fullness-single I σ Γ i s))
+equation-keeps I σ Γ z x y k (equal-empty {place} {e} {l} {r} i f) a s = emptiness-keeps I σ Γ i a
+    (empties-emptied I σ Γ place e r k f (emptiness-accepted σ Γ i a) (emptiness-single I σ Γ i s))
 equation-keeps I σ Γ z l r k («SIMP_SPECIAL_AND_BFALSE/OR_BTRUE» g n d ps j i) a s = jun.junction-decided-keeps I σ Γ g n d ps j i
 equation-keeps I σ Γ z l r k («SIMP_MULTI_AND_NOT/OR_NOT» g n d ps q j i h) a s = jun.junction-opposite-keeps I σ Γ g n d ps j q i h
 equation-keeps I σ Γ z l r k («SIMP_SPECIAL_AND_BTRUE/OR_BFALSE/MULTI_AND/OR/none» g n d ps j h) a s = jun.junction-none-keeps I σ Γ g n d ps j h
-equation-keeps I σ Γ z l r k («SIMP_SPECIAL_AND_BTRUE/OR_BFALSE/MULTI_AND/OR/one» g n d ps p j h) a s = jun.junction-one-keeps I σ Γ g n d ps j p h a s
-equation-keeps I σ Γ z l r k («SIMP_SPECIAL_AND_BTRUE/OR_BFALSE/MULTI_AND/OR» g n d ps p q qs j h c) a s = jun.junction-fewer-keeps I σ Γ g n d ps j (cons p (cons q qs)) h s
+equation-keeps I σ Γ z l r k («SIMP_SPECIAL_AND_BTRUE/OR_BFALSE/MULTI_AND/OR/one» g n d ps p j h) a
+    s = jun.junction-one-keeps I σ Γ g n d ps j p h a s
+equation-keeps I σ Γ z l r k («SIMP_SPECIAL_AND_BTRUE/OR_BFALSE/MULTI_AND/OR» g n d ps p q qs j h c) a s = jun.junction-fewer-keeps I σ Γ g
+    n d ps j (cons p (cons q qs)) h s
 equation-keeps I σ Γ z l r k («SIMP_SPECIAL_IMP_BTRUE_L» p) a s = con.imp-top-left-keeps I σ Γ p a s
 equation-keeps I σ Γ z l r k («SIMP_SPECIAL_IMP_BFALSE_L» p) a s = con.imp-bottom-left-keeps I σ Γ p
 equation-keeps I σ Γ z l r k («SIMP_SPECIAL_IMP_BTRUE_R» p) a s = con.imp-top-right-keeps I σ Γ p

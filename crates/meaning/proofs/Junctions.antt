@@ -130,7 +130,8 @@ module _ (I : Interpretation) (σ : ℕ → Ty) (Γ : Ctx) where
     unfolding means
     drop-neutral h =
         ap (joined b p) (many.append-means I Γ left (cons q right)) ∙ joined-mid p b (meansAll I left Γ) (means I q Γ) (meansAll I right Γ)
-        ∙ ap (λ c. both b c (joined b p (meansAll I left Γ ++ meansAll I right Γ))) h ∙ both-neutral b (joined b p (meansAll I left Γ ++ meansAll I right Γ))
+        ∙ ap (λ c. both b c (joined b p (meansAll I left Γ ++ meansAll I right Γ))) h ∙ both-neutral b
+            (joined b p (meansAll I left Γ ++ meansAll I right Γ))
         ∙ ap (joined b p) (sym (many.append-means I Γ left right))
 
     drop-repeated : Among q left → says b ρ (append left (cons q right)) ≡ says b ρ (append left right)
@@ -140,7 +141,8 @@ module _ (I : Interpretation) (σ : ℕ → Ty) (Γ : Ctx) where
         ∙ joined-repeated p b (meansAll I left Γ) (means I q Γ) (meansAll I right Γ) (many.among-means I Γ q left i)
         ∙ ap (joined b p) (sym (many.append-means I Γ left right))
 
-  dropped-says : (n : ℕ) (b : Bool) (ρ : Vals I Γ) → truth I (means I (leaf n) Γ) ρ ≡ not b → {ks ls : Forest} → Dropped n ks ls → says b ρ ks ≡ says b ρ ls
+  dropped-says : (n : ℕ) (b : Bool) (ρ : Vals I Γ) → truth I (means I (leaf n) Γ) ρ ≡ not b → {ks ls : Forest} → Dropped n ks ls
+      → says b ρ ks ≡ says b ρ ls
   dropped-says n b ρ h (done ks) = refl
   dropped-says n b ρ h (literal ks ls left right e r) = ap (says b ρ) e ∙ drop-neutral b ρ left (leaf n) right h ∙ dropped-says n b ρ h r
   dropped-says n b ρ h (repeated ks ls left right q e i r) = ap (says b ρ) e ∙ drop-repeated b ρ left q right i ∙ dropped-says n b ρ h r
@@ -162,12 +164,14 @@ module _ (I : Interpretation) (σ : ℕ → Ty) (Γ : Ctx) where
 
     decided-by : ((ρ : Vals I Γ) → says (f .by) ρ ps ≡ f .by) → Keeps I Γ (many g ps) (leaf d)
     decided-by h =
-        keeps-truth I (many g ps) (leaf d) Γ (f .joins .formula) (f .decides .formula) (kit.leaf-single I Γ d (f .decides .formula)) (λ a. kit.leaf-alive I Γ d (f .decides .other))
+        keeps-truth I (many g ps) (leaf d) Γ (f .joins .formula) (f .decides .formula) (kit.leaf-single I Γ d (f .decides .formula))
+            (λ a. kit.leaf-alive I Γ d (f .decides .other))
         (λ a ρ. f .joins .truly ps ρ ∙ h ρ ∙ sym (f .decides .truly ρ))
 
     pub junction-decided-keeps : Among (leaf d) ps → Keeps I Γ (many g ps) (leaf d)
     junction-decided-keeps i =
-        decided-by (λ ρ. joined-decided (λ k. truth I k ρ) (f .by) (meansAll I ps Γ) (means I (leaf d) Γ) (many.among-means I Γ (leaf d) ps i) (f .decides .truly ρ))
+        decided-by (λ ρ. joined-decided (λ k. truth I k ρ) (f .by) (meansAll I ps Γ) (means I (leaf d) Γ)
+              (many.among-means I Γ (leaf d) ps i) (f .decides .truly ρ))
 
     pub junction-opposite-keeps : (q : Tree) → Among q ps → Among (¬ᵖ q) ps → Keeps I Γ (many g ps) (leaf d)
     junction-opposite-keeps q i k =
@@ -176,7 +180,8 @@ module _ (I : Interpretation) (σ : ℕ → Ty) (Γ : Ctx) where
 
     pub junction-none-keeps : Dropped n ps nil → Keeps I Γ (many g ps) (leaf n)
     junction-none-keeps r =
-        keeps-truth I (many g ps) (leaf n) Γ (f .joins .formula) (f .neutral .formula) (kit.leaf-single I Γ n (f .neutral .formula)) (λ a. kit.leaf-alive I Γ n (f .neutral .other))
+        keeps-truth I (many g ps) (leaf n) Γ (f .joins .formula) (f .neutral .formula) (kit.leaf-single I Γ n (f .neutral .formula))
+            (λ a. kit.leaf-alive I Γ n (f .neutral .other))
         (λ a ρ. f .joins .truly ps ρ ∙ dropped-says n (f .by) ρ (f .neutral .truly ρ) r ∙ none-says (f .by) ρ ∙ sym (f .neutral .truly ρ))
 
     left-single : (ls : Forest) → Dropped n ps ls → SingleIntegers (many g ps) Γ → Every (λ k. SingleIntegers k Γ) ls
@@ -185,13 +190,16 @@ module _ (I : Interpretation) (σ : ℕ → Ty) (Γ : Ctx) where
     left-alive : (ls : Forest) → Dropped n ps ls → NoInterOverNothing I (many g ps) Γ → Every (λ k. NoInterOverNothing I k Γ) ls
     left-alive ls r a = dropped-every (λ k. NoInterOverNothing I k Γ) r (alive-each I Γ ps (kit.kids-alive I Γ g ps a))
 
-    pub junction-one-keeps : (q : Tree) → Dropped n ps (sole q) → Accepted σ (many g ps) Γ predicate → SingleIntegers (many g ps) Γ → Keeps I Γ (many g ps) q
+    pub junction-one-keeps : (q : Tree) → Dropped n ps (sole q) → Accepted σ (many g ps) Γ predicate → SingleIntegers (many g ps) Γ
+        → Keeps I Γ (many g ps) q
     junction-one-keeps q r a s =
-        keeps-truth I (many g ps) q Γ (f .joins .formula) (dropped-every Formula r (f .joins .kids-formula ps a) .0) (left-single (sole q) r s .0) (λ l. left-alive (sole q) r l .0)
+        keeps-truth I (many g ps) q Γ (f .joins .formula) (dropped-every Formula r (f .joins .kids-formula ps a) .0)
+            (left-single (sole q) r s .0) (λ l. left-alive (sole q) r l .0)
         (λ l ρ. f .joins .truly ps ρ ∙ dropped-says n (f .by) ρ (f .neutral .truly ρ) r ∙ one-says (f .by) ρ q)
 
     pub junction-fewer-keeps : (ls : Forest) → Dropped n ps ls → SingleIntegers (many g ps) Γ → Keeps I Γ (many g ps) (many g ls)
     junction-fewer-keeps ls r s =
-        keeps-truth I (many g ps) (many g ls) Γ (f .joins .formula) (f .joins .formula) (kit.many-single I Γ g (f .joins .formula) ls (single-all Γ ls (left-single ls r s)))
+        keeps-truth I (many g ps) (many g ls) Γ (f .joins .formula) (f .joins .formula)
+            (kit.many-single I Γ g (f .joins .formula) ls (single-all Γ ls (left-single ls r s)))
         (λ a. kit.many-alive I Γ g (f .joins .other) ls (alive-all I Γ ls (left-alive ls r a)))
         (λ a ρ. f .joins .truly ps ρ ∙ dropped-says n (f .by) ρ (f .neutral .truly ρ) r ∙ sym (f .joins .truly ls ρ))

@@ -21,8 +21,13 @@ use Rattle.typing.proofs.TypeExpression.{express-type}
 use Rattle.rules.specs.Equations.{¬ᵖ, _⇒_, _⇔_, ⋀, ∀ᵖ, ∃ᵖ, _≐_, _∈ᵖ_, _⊆_, ∅, Ty-of, _≐∅, _≐Ty}
 use Rattle.meaning.specs.Lists.{any, all}
 use Rattle.meaning.specs.Operations.{Logic, Op, logic, equal, subset, member, opAt, opOf}
-use Rattle.meaning.specs.Meaning.{Interpretation, Vals, truth, val, setOf, some, every, equals, choices, bindersIn, nodeMeans, identifierValue, holds, valueOf, quantified, means, meansAll}
-use Rattle.meaning.specs.Premises.{NoInt, Single, AllNoInt, AllSingle, SingleIntegers, SingleIntegersIn, NoInterOverNothing, NoInterOverNothingIn}
+use Rattle.meaning.specs.Meaning.{
+  Interpretation, Vals, truth, val, setOf, some, every, equals, choices, bindersIn, nodeMeans, identifierValue, holds, valueOf,
+  quantified, means, meansAll
+}
+use Rattle.meaning.specs.Premises.{
+  NoInt, Single, AllNoInt, AllSingle, SingleIntegers, SingleIntegersIn, NoInterOverNothing, NoInterOverNothingIn
+}
 use Rattle.meaning.proofs.Sound.{Formula, formula-type, binders-agree}
 use Rattle.meaning.proofs.Sets.{is-empty, is-full, every-true}
 
@@ -117,7 +122,8 @@ module _ (I : Interpretation) (Γ : Ctx) (g : ℕ) (f : NoInter g) where
   two-alive p q a b = many-alive (pair p q) (a, (b, tt))
 
 -- ---- a quantifier
-module _ (I : Interpretation) (Γ : Ctx) (g : ℕ) (f : Formula (leaf g)) (b : (us : List Ty) → bindersOf (formOf g .layout) us ≡ us) (xs : List Ty) (p : Tree) where
+module _ (I : Interpretation) (Γ : Ctx) (g : ℕ) (f : Formula (leaf g)) (b : (us : List Ty) → bindersOf (formOf g .layout) us ≡ us)
+    (xs : List Ty) (p : Tree) where
   pub bound-single : AllSingle xs → AllNoInt xs → SingleIntegers p (push xs Γ) → SingleIntegers (node (head g 0 xs) (sole p)) Γ
   unfolding SingleIntegers
   bound-single s n r = rw (formula-type I (node (head g 0 xs) (sole p)) Γ f, b xs) (s, tt, n, (r, tt))
@@ -178,13 +184,16 @@ module _ (I : Interpretation) (Γ : Ctx) where
     shut : (g : ℕ) (o : Logic) → opOf g ≡ logic o → (t : Ty) → typeOf a Γ ≡ t → (ρ : Vals I Γ)
         → truth I (means I (two g a b) Γ) ρ ≡ holds I o g (t ∷ typeOf b Γ ∷ []) (means I a Γ ∷ means I b Γ ∷ []) ρ
     unfolding means typeOf
-    shut g o e t h ρ = ap (λ k. truth I k ρ) (means-at g (logic o) e (pair a b)) ∙ ap (λ x. holds I o g (x ∷ typeOf b Γ ∷ []) (means I a Γ ∷ means I b Γ ∷ []) ρ) h
+    shut g o e t h ρ = ap (λ k. truth I k ρ) (means-at g (logic o) e (pair a b)) ∙ ap
+        (λ x. holds I o g (x ∷ typeOf b Γ ∷ []) (means I a Γ ∷ means I b Γ ∷ []) ρ) h
 
-    pub equal-truth : (t : Ty) → typeOf a Γ ≡ t → (ρ : Vals I Γ) → truth I (means I (a ≐ b) Γ) ρ ≡ equals I t (val I (means I a Γ) ρ t) (val I (means I b Γ) ρ t)
+    pub equal-truth : (t : Ty) → typeOf a Γ ≡ t → (ρ : Vals I Γ)
+        → truth I (means I (a ≐ b) Γ) ρ ≡ equals I t (val I (means I a Γ) ρ t) (val I (means I b Γ) ρ t)
     unfolding holds opOf opAt classOf lookup
     equal-truth t h ρ = shut #Equal equal refl t h ρ
 
-    pub member-truth : (t : Ty) → typeOf a Γ ≡ t → (ρ : Vals I Γ) → truth I (means I (a ∈ᵖ b) Γ) ρ ≡ setOf I (means I b Γ) ρ t (val I (means I a Γ) ρ t)
+    pub member-truth : (t : Ty) → typeOf a Γ ≡ t → (ρ : Vals I Γ)
+        → truth I (means I (a ∈ᵖ b) Γ) ρ ≡ setOf I (means I b Γ) ρ t (val I (means I a Γ) ρ t)
     unfolding holds opOf opAt classOf lookup
     member-truth t h ρ = shut #In member refl t h ρ
 
@@ -214,7 +223,8 @@ module _ (I : Interpretation) (Γ : Ctx) where
 
     pub full-single : SingleIntegers e Γ → SingleIntegers (_≐Ty Γ e) Γ
     unfolding classOf lookup formAt
-    full-single s = two-single I Γ #Equal (refl, refl) e (Ty-of Γ e) s (type-single (element (typeOf e Γ)) Γ (single-element (typeOf e Γ) (single-type e Γ s)))
+    full-single s = two-single I Γ #Equal (refl, refl) e (Ty-of Γ e) s
+        (type-single (element (typeOf e Γ)) Γ (single-element (typeOf e Γ) (single-type e Γ s)))
 
     pub full-alive : NoInterOverNothing I e Γ → NoInterOverNothing I (_≐Ty Γ e) Γ
     full-alive a = two-alive I Γ #Equal (refl, refl) e (Ty-of Γ e) a (type-alive I (element (typeOf e Γ)) Γ)

@@ -59,7 +59,8 @@ module _ (f : Tree → Tree) (Γ Δ : Ctx) where
   map-single h (cons k ks) s = (h k (s .0), map-single h ks (s .1))
 
 module _ (I : Interpretation) (f : Tree → Tree) (Γ Δ : Ctx) where
-  pub map-alive : ((k : Tree) → NoInterOverNothing I k Γ → NoInterOverNothing I (f k) Δ) → (ks : Forest) → NoInterOverNothingIn I ks Γ → NoInterOverNothingIn I (mapF f ks) Δ
+  pub map-alive : ((k : Tree) → NoInterOverNothing I k Γ → NoInterOverNothing I (f k) Δ) → (ks : Forest) → NoInterOverNothingIn I ks Γ
+      → NoInterOverNothingIn I (mapF f ks) Δ
   unfolding NoInterOverNothing
   map-alive h nil s = tt
   map-alive h (cons k ks) s = (h k (s .0), map-alive h ks (s .1))

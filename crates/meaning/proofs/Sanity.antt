@@ -28,7 +28,10 @@ use Rattle.rules.specs.Equations.{⊤, ¬ᵖ, ⋀, ∀ᵖ, ∃ᵖ, _≐_, _⊆_
 use Rattle.meaning.specs.Lists.{any, all}
 use Rattle.meaning.specs.Values.{listOf, sameElement, pairs, including, subsets, Value, default, values, same, someOf, everyOf, asType}
 use Rattle.meaning.specs.Operations.{opAt, opOf}
-use Rattle.meaning.specs.Meaning.{Interpretation, Val, leInt, valueAt, choices, identifierValue, setOf, equals, holds, valueOf, quantified, boundSet, means, isTrue}
+use Rattle.meaning.specs.Meaning.{
+  Interpretation, Val, leInt, valueAt, choices, identifierValue, setOf, equals, holds, valueOf, quantified, boundSet, means,
+  isTrue
+}
 use Rattle.meaning.specs.Premises.{NoInt, SingleIntegers, NoInterOverNothing}
 use Rattle.meaning.proofs.Lists.{so-imp, so-any}
 use Rattle.meaning.proofs.Complete.{listed, so-eq, so-some, so-every, as-type-refl}
@@ -109,7 +112,8 @@ only-one size t n s =
     so-sets size t n (λ x. everyOf size (pow t) (λ a. not (same size (pow t) a s || false) || a x)) s .1
     (λ x. simp (or-false, so-imp, so-every size (pow t) n, so-eq size (pow t) n) (λ h. h s refl, λ h a e. rw e h))
 
-pub inter-single : (I : Interpretation) (n : ℕ) (t : Ty) → NoInt t → isTrue I (one #KInter (ext (sole (identifier n (pow t)))) ≐ identifier n (pow t)) ≡ true
+pub inter-single : (I : Interpretation) (n : ℕ) (t : Ty) → NoInt t
+    → isTrue I (one #KInter (ext (sole (identifier n (pow t)))) ≐ identifier n (pow t)) ≡ true
 unfolding isTrue means valueOf any typeOf opOf opAt classOf lookup formAt
 inter-single I n t h =
     kit.equal-truth I [] (one #KInter (ext (sole (identifier n (pow t))))) (identifier n (pow t)) (pow t) refl tt
@@ -121,12 +125,14 @@ unfolding NoInterOverNothing means valueOf typeOf someOf values subsets any opOf
 over-nothing I a = false≢true (a .2 .0 .0 tt)
 
 -- without that premise inter(S) = Ty would not be S = {Ty}: inter(∅) is everything here, and ∅ is not {BOOL}
-pub premise-needed : (I : Interpretation) → isTrue I (one #KInter (∅ (pow (pow bool))) ≐ leaf #Bool) ≡ isTrue I (∅ (pow (pow bool)) ≐ ext (sole (leaf #Bool))) → ⊥
+pub premise-needed : (I : Interpretation) → isTrue I (one #KInter (∅ (pow (pow bool))) ≐ leaf #Bool) ≡ isTrue I
+    (∅ (pow (pow bool)) ≐ ext (sole (leaf #Bool))) → ⊥
 unfolding isTrue means holds valueOf same values subsets including someOf everyOf any all typeOf opOf opAt classOf lookup
 premise-needed I e = true≢false e
 
 -- the premise holds of inter({S}) = S
-pub over-one : (I : Interpretation) (n : ℕ) (t : Ty) → NoInt t → NoInterOverNothing I (one #KInter (ext (sole (identifier n (pow t)))) ≐ identifier n (pow t)) []
+pub over-one : (I : Interpretation) (n : ℕ) (t : Ty) → NoInt t
+    → NoInterOverNothing I (one #KInter (ext (sole (identifier n (pow t)))) ≐ identifier n (pow t)) []
 unfolding NoInterOverNothing means valueOf any typeOf opOf opAt classOf lookup
 over-one I n t h = (
   tt,
@@ -169,7 +175,8 @@ no-sets-of-integers s = s .3 .0 .1
 
 -- ---- equations with a slip: the two sides differ in some interpretation
 -- ¬(a ≤ b) is not a ≥ b: both are 0
-pub not-le-slip : isTrue (allBe true) (¬ᵖ (two #Le (identifier 1 int) (identifier 2 int))) ≡ isTrue (allBe true) (two #Ge (identifier 1 int) (identifier 2 int)) → ⊥
+pub not-le-slip : isTrue (allBe true) (¬ᵖ (two #Le (identifier 1 int) (identifier 2 int))) ≡ isTrue (allBe true)
+    (two #Ge (identifier 1 int) (identifier 2 int)) → ⊥
 unfolding valued isTrue means holds valueOf identifierValue leInt typeOf opOf opAt classOf lookup
 not-le-slip e = false≢true e
 
@@ -214,5 +221,7 @@ samples =
     ∷ []
 
 pub samples-accepted : map (λ t. check (enc t)) samples ≡ map accepted samples
-unfolding lookup classOf formAt encNumber encTy encTys encHead enc numberAt tyCase readTy readTys withNumber withForm readHead readMany readNode parse sameTy sameTys typeAt typeOf nodeTyped typedTree closedTree givensTy givensTys idents givens agrees spares consistent namesAgree checkTree check
+unfolding lookup classOf formAt encNumber encTy encTys encHead enc numberAt tyCase readTy readTys withNumber withForm readHead readMany
+    readNode parse sameTy sameTys typeAt typeOf nodeTyped typedTree closedTree givensTy givensTys idents givens agrees spares consistent
+    namesAgree checkTree check
 samples-accepted = refl

@@ -56,7 +56,8 @@ module _ (size : ℕ → ℕ) where
   so-sets t n s r = simp (so-same size (pow t) n) (λ e x. (λ h. rw (← e) h, λ h. rw e h), λ f. fun-ext (λ x. iff (f x)))
 
   -- A ∪ … ∪ B has a member if one of them has
-  pub some-any : {A : Type 0} (t : Ty) → NoInt t → (f : A → Value size t → Bool) (l : List A) → someOf size t (λ x. any (λ k. f k x) l) ≡ any (λ k. someOf size t (f k)) l
+  pub some-any : {A : Type 0} (t : Ty) → NoInt t → (f : A → Value size t → Bool) (l : List A)
+      → someOf size t (λ x. any (λ k. f k x) l) ≡ any (λ k. someOf size t (f k)) l
   some-any t n f l =
       iff (simp (so-any, so-some size t n)
       (λ h. (h .1 .0, h .1 .1, (h .0, h .1 .2)), λ h. (h .2 .0, (h .0, h .1, h .2 .1))))

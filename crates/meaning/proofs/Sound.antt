@@ -103,8 +103,9 @@ module _ (I : Interpretation) where
   under-agree g us Γ = ap (λ bs. push bs Γ) (binders-agree g us)
 
   -- ---- what predicates and expressions mean
-  suits-pred : (b : Bool) (e : Sort) (o : Op) (t : Ty) (g n : ℕ) (us : List Ty) (Γ : Ctx) (ts : List Ty) (ks : List (Den I (push (bindersIn I o us) Γ)))
-      → b ≡ true → e ≡ predicate → Suits b e o t → (pred (truth I (nodeMeans I o g n us Γ ts ks)) ≡ nodeMeans I o g n us Γ ts ks) × (t ≡ bool)
+  suits-pred : (b : Bool) (e : Sort) (o : Op) (t : Ty) (g n : ℕ) (us : List Ty) (Γ : Ctx) (ts : List Ty)
+      (ks : List (Den I (push (bindersIn I o us) Γ))) → b ≡ true → e ≡ predicate → Suits b e o t
+      → (pred (truth I (nodeMeans I o g n us Γ ts ks)) ≡ nodeMeans I o g n us Γ ts ks) × (t ≡ bool)
   suits-pred false e o t g n us Γ ts ks p q s = let z : _≡_ {A = ℕ} 0 1 = cc in absurd (omega arith)
   suits-pred true predicate (logic o) t g n us Γ ts ks p q s = (refl, s)
   suits-pred true predicate (quantifier o) t g n us Γ ts ks p q s = (refl, s)
@@ -114,10 +115,12 @@ module _ (I : Interpretation) where
 
   -- ts are the types of the operands
   pred-node : (g n : ℕ) (us : List Ty) (ks : Forest) (Γ : Ctx) (ts : List Ty) → Formula (node (head g n us) ks)
-      → let k = nodeMeans I (opOf g) g n us Γ ts (meansAll I ks (push (bindersIn I (opOf g) us) Γ)) in (pred (truth I k) ≡ k) × (result (classOf g) n us Γ ts ≡ bool)
+      → let k = nodeMeans I (opOf g) g n us Γ ts (meansAll I ks (push (bindersIn I (opOf g) us) Γ)) in
+          (pred (truth I k) ≡ k) × (result (classOf g) n us Γ ts ≡ bool)
   unfolding opOf
   pred-node g n us ks Γ ts f =
-      suits-pred (formOf g .listed) (formOf g .sort) (opOf g) (result (classOf g) n us Γ ts) g n us Γ ts (meansAll I ks (push (bindersIn I (opOf g) us) Γ)) (f .0) (f .1)
+      suits-pred (formOf g .listed) (formOf g .sort) (opOf g) (result (classOf g) n us Γ ts) g n us Γ ts
+          (meansAll I ks (push (bindersIn I (opOf g) us) Γ)) (f .0) (f .1)
       (class-op (classOf g) g n us Γ ts .1)
 
   pub is-pred : (t : Tree) (Γ : Ctx) → Formula t → pred (truth I (means I t Γ)) ≡ means I t Γ
@@ -129,7 +132,8 @@ module _ (I : Interpretation) where
   formula-type (node (head g n us) ks) Γ f = pred-node g n us ks Γ (typesIn ks (under g us Γ)) f .1
 
   -- two predicates that are true alike mean the same
-  pub by-truth : (s t : Tree) (Γ : Ctx) → Formula s → Formula t → ((ρ : Vals I Γ) → truth I (means I s Γ) ρ ≡ truth I (means I t Γ) ρ) → means I s Γ ≡ means I t Γ
+  pub by-truth : (s t : Tree) (Γ : Ctx) → Formula s → Formula t → ((ρ : Vals I Γ) → truth I (means I s Γ) ρ ≡ truth I (means I t Γ) ρ)
+      → means I s Γ ≡ means I t Γ
   by-truth s t Γ f h e = sym (is-pred s Γ f) ∙ ap pred (fun-ext e) ∙ is-pred t Γ h
 
   -- ---- r may stand for l, ls for ks
@@ -170,13 +174,15 @@ module _ (I : Interpretation) where
   unfolding SingleIntegers
   at-node g n us ks ls Γ k t = in-node g n us ks ls Γ t (k (t .3)) (rw (under-agree g us Γ) at (k (t .3)))
 
-  at-first : (t u : Tree) (ks : Forest) (Γ : Ctx) → (SingleIntegers t Γ → Keeps Γ t u) → SingleIntegersIn (cons t ks) Γ → KeepsAll Γ (cons t ks) (cons u ks)
+  at-first : (t u : Tree) (ks : Forest) (Γ : Ctx) → (SingleIntegers t Γ → Keeps Γ t u) → SingleIntegersIn (cons t ks) Γ
+      → KeepsAll Γ (cons t ks) (cons u ks)
   unfolding SingleIntegers NoInterOverNothing typeOf means
   at-first t u ks Γ k f =
       let s : Keeps Γ t u = k (f .0) in
       record { single = (s .single, f .1); types = rw (s .types); alive = λ a. (s .alive (a .0), a .1); same = λ a. rw (s .same (a .0)) }
 
-  at-rest : (t : Tree) (ks ls : Forest) (Γ : Ctx) → (SingleIntegersIn ks Γ → KeepsAll Γ ks ls) → SingleIntegersIn (cons t ks) Γ → KeepsAll Γ (cons t ks) (cons t ls)
+  at-rest : (t : Tree) (ks ls : Forest) (Γ : Ctx) → (SingleIntegersIn ks Γ → KeepsAll Γ ks ls) → SingleIntegersIn (cons t ks) Γ
+      → KeepsAll Γ (cons t ks) (cons t ls)
   unfolding SingleIntegers NoInterOverNothing typeOf means
   at-rest t ks ls Γ k f =
       let s : KeepsAll Γ ks ls = k (f .1) in
@@ -185,4 +191,5 @@ module _ (I : Interpretation) where
   pub keeps-at-place : (t : Tree) (Γ : Ctx) (k : ℕ) (Δ : Ctx) (v u : Tree) → find t Γ k ≡ found Δ v → SingleIntegers t Γ
       → (SingleIntegers v Δ → Keeps Δ v u) → Keeps Γ t (replace t k u)
   keeps-at-place t Γ k Δ v u e f h =
-      at-place (λ Γ a b. SingleIntegers a Γ → Keeps Γ a b) (λ Γ ks ls. SingleIntegersIn ks Γ → KeepsAll Γ ks ls) at-node at-first at-rest t Γ k Δ v u e h f
+      at-place (λ Γ a b. SingleIntegers a Γ → Keeps Γ a b) (λ Γ ks ls. SingleIntegersIn ks Γ → KeepsAll Γ ks ls) at-node at-first
+          at-rest t Γ k Δ v u e h f

@@ -7,15 +7,25 @@ use Prim.Native.Nat.{ℕ}
 use Rattle.frame.specs.Types.{Ty, pow, prod}
 use Rattle.frame.specs.Trees.{Tree, Forest, one, two, sole, pair, bodied, mapF}
 use Rattle.frame.specs.Tags.{expression, classOf, lookup, formAt}
-use Rattle.frame.specs.Operators.{#SetMinus, #CProd, #DProd, #PProd, #DomRes, #DomSub, #RanRes, #RanSub, #UpTo, #KInter, #Converse, #QInter, #Equal, #Forall, #LAnd, #LImp}
+use Rattle.frame.specs.Operators.{
+  #SetMinus, #CProd, #DProd, #PProd, #DomRes, #DomSub, #RanRes, #RanSub, #UpTo, #KInter, #Converse, #QInter, #Equal, #Forall,
+  #LAnd, #LImp
+}
 use Rattle.frame.specs.Places.{Ctx, push}
 use Rattle.typing.specs.Typing.{element, relation, typeOf, typesIn}
 use Rattle.typing.specs.TypeExpression.{toExpression}
 use Rattle.typing.specs.Accepted.{Accepted, TysOk}
 use Rattle.typing.proofs.TypeExpression.{express-type}
-use Rattle.rules.specs.Equations.{_⇒_, ⋀, ∀ᵖ, _≐_, ext, ⋂, Fills, _≐∅, _≐Ty, «SIMP_BINTER_EQUAL_TYPE», «SIMP_SETMINUS_EQUAL_TYPE», «SIMP_CPROD_EQUAL_TYPE», «SIMP_UPTO_EQUAL_INTEGER», «SIMP_DOMRES_EQUAL_TYPE», «SIMP_DOMSUB_EQUAL_TYPE», «SIMP_RANRES_EQUAL_TYPE», «SIMP_RANSUB_EQUAL_TYPE», «SIMP_DPROD_EQUAL_TYPE», «SIMP_PPROD_EQUAL_TYPE», «SIMP_KINTER_EQUAL_TYPE», «SIMP_CONVERSE_EQUAL_TYPE», «SIMP_QINTER_EQUAL_TYPE»}
+use Rattle.rules.specs.Equations.{
+  _⇒_, ⋀, ∀ᵖ, _≐_, ext, ⋂, Fills, _≐∅, _≐Ty, «SIMP_BINTER_EQUAL_TYPE», «SIMP_SETMINUS_EQUAL_TYPE», «SIMP_CPROD_EQUAL_TYPE»,
+  «SIMP_UPTO_EQUAL_INTEGER», «SIMP_DOMRES_EQUAL_TYPE», «SIMP_DOMSUB_EQUAL_TYPE», «SIMP_RANRES_EQUAL_TYPE»,
+  «SIMP_RANSUB_EQUAL_TYPE», «SIMP_DPROD_EQUAL_TYPE», «SIMP_PPROD_EQUAL_TYPE», «SIMP_KINTER_EQUAL_TYPE»,
+  «SIMP_CONVERSE_EQUAL_TYPE», «SIMP_QINTER_EQUAL_TYPE»
+}
 use Rattle.rules.proofs.Nodes.{Has}
-use Rattle.rules.proofs.OldNodes.{of-inter, of-converse, of-minus, of-times, of-domres, of-domsub, of-ranres, of-ransub, of-dprod, of-pprod, of-qinter}
+use Rattle.rules.proofs.OldNodes.{
+  of-inter, of-converse, of-minus, of-times, of-domres, of-domsub, of-ranres, of-ransub, of-dprod, of-pprod, of-qinter
+}
 use Rattle.meaning.specs.Lists.{any, all}
 use Rattle.meaning.specs.Operations.{opAt, opOf}
 use Rattle.meaning.specs.Meaning.{Interpretation, Vals, truth, setOf, some, every, equals, choices, valueOf, boundSet, means, meansAll}
@@ -27,7 +37,8 @@ use Rattle.meaning.proofs.Many.{Each, each-alike, map-single, map-alive
 
 module _ (I : Interpretation) (σ : ℕ → Ty) (Γ : Ctx) where
   -- ---- E = Ty is p ∧ q, where p and q say that a set is full or empty
-  both : (e p q : Tree) (u : Ty) → typeOf e Γ ≡ pow u → SingleIntegers p Γ → SingleIntegers q Γ → (NoInterOverNothing I e Γ → NoInterOverNothing I p Γ × NoInterOverNothing I q Γ)
+  both : (e p q : Tree) (u : Ty) → typeOf e Γ ≡ pow u → SingleIntegers p Γ → SingleIntegers q Γ
+      → (NoInterOverNothing I e Γ → NoInterOverNothing I p Γ × NoInterOverNothing I q Γ)
       → ((ρ : Vals I Γ) → (truth I (means I p Γ) ρ && (truth I (means I q Γ) ρ && true)) ≡ every I u (setOf I (means I e Γ) ρ u))
       → Filled I σ Γ e (⋀ (pair p q))
   unfolding SingleIntegers NoInterOverNothing means classOf lookup formAt all
@@ -47,25 +58,26 @@ module _ (I : Interpretation) (σ : ℕ → Ty) (Γ : Ctx) where
   none-says : (a : Tree) (u : Ty) → typeOf a Γ ≡ pow u → Says a (_≐∅ Γ a) (λ ρ. not (some I u (setOf I (means I a Γ) ρ u)))
   none-says a u h = record { single = kit.empty-single I Γ a; alive = kit.empty-alive I Γ a; truly = kit.empty-truth I Γ a u h }
 
-  module _ (e a b : Tree) (t : Ty) (he : typeOf e Γ ≡ pow t) (s : SingleIntegers a Γ × SingleIntegers b Γ) (l : NoInterOverNothing I e Γ → NoInterOverNothing I a Γ × NoInterOverNothing I b Γ) where
-    both-say : {p q : Tree} {f g : Vals I Γ → Bool} → Says a p f → Says b q g → ((ρ : Vals I Γ) → (f ρ && (g ρ && true)) ≡ every I t (setOf I (means I e Γ) ρ t))
-        → Filled I σ Γ e (⋀ (pair p q))
+  module _ (e a b : Tree) (t : Ty) (he : typeOf e Γ ≡ pow t) (s : SingleIntegers a Γ × SingleIntegers b Γ)
+      (l : NoInterOverNothing I e Γ → NoInterOverNothing I a Γ × NoInterOverNothing I b Γ) where
+    both-say : {p q : Tree} {f g : Vals I Γ → Bool} → Says a p f → Says b q g
+        → ((ρ : Vals I Γ) → (f ρ && (g ρ && true)) ≡ every I t (setOf I (means I e Γ) ρ t)) → Filled I σ Γ e (⋀ (pair p q))
     both-say {p} {q} x y k =
         both e p q t he (x .single (s .0)) (y .single (s .1)) (λ z. (x .alive (l z .0), y .alive (l z .1)))
         (λ ρ. ap₂ (λ c d. c && (d && true)) (x .truly ρ) (y .truly ρ) ∙ k ρ)
 
   module _ (e a b : Tree) (t u v : Ty) (he : typeOf e Γ ≡ pow t) (ha : typeOf a Γ ≡ pow u) (hb : typeOf b Γ ≡ pow v)
       (s : SingleIntegers a Γ × SingleIntegers b Γ) (l : NoInterOverNothing I e Γ → NoInterOverNothing I a Γ × NoInterOverNothing I b Γ) where
-    full-full : ((ρ : Vals I Γ) → (every I u (setOf I (means I a Γ) ρ u) && (every I v (setOf I (means I b Γ) ρ v) && true)) ≡ every I t (setOf I (means I e Γ) ρ t))
-        → Filled I σ Γ e (⋀ (pair (_≐Ty Γ a) (_≐Ty Γ b)))
+    full-full : ((ρ : Vals I Γ) → (every I u (setOf I (means I a Γ) ρ u) && (every I v (setOf I (means I b Γ) ρ v) && true)) ≡ every I t
+          (setOf I (means I e Γ) ρ t)) → Filled I σ Γ e (⋀ (pair (_≐Ty Γ a) (_≐Ty Γ b)))
     full-full = both-say e a b t he s l (full-says a u ha) (full-says b v hb)
 
-    full-none : ((ρ : Vals I Γ) → (every I u (setOf I (means I a Γ) ρ u) && (not (some I v (setOf I (means I b Γ) ρ v)) && true)) ≡ every I t (setOf I (means I e Γ) ρ t))
-        → Filled I σ Γ e (⋀ (pair (_≐Ty Γ a) (_≐∅ Γ b)))
+    full-none : ((ρ : Vals I Γ) → (every I u (setOf I (means I a Γ) ρ u) && (not (some I v (setOf I (means I b Γ) ρ v)) && true)) ≡ every I
+          t (setOf I (means I e Γ) ρ t)) → Filled I σ Γ e (⋀ (pair (_≐Ty Γ a) (_≐∅ Γ b)))
     full-none = both-say e a b t he s l (full-says a u ha) (none-says b v hb)
 
-    none-full : ((ρ : Vals I Γ) → (not (some I u (setOf I (means I a Γ) ρ u)) && (every I v (setOf I (means I b Γ) ρ v) && true)) ≡ every I t (setOf I (means I e Γ) ρ t))
-        → Filled I σ Γ e (⋀ (pair (_≐∅ Γ a) (_≐Ty Γ b)))
+    none-full : ((ρ : Vals I Γ) → (not (some I u (setOf I (means I a Γ) ρ u)) && (every I v (setOf I (means I b Γ) ρ v) && true)) ≡ every I
+          t (setOf I (means I e Γ) ρ t)) → Filled I σ Γ e (⋀ (pair (_≐∅ Γ a) (_≐Ty Γ b)))
     none-full = both-say e a b t he s l (none-says a u ha) (full-says b v hb)
 
   -- ---- A ∖ B, S × T
@@ -81,7 +93,8 @@ module _ (I : Interpretation) (σ : ℕ → Ty) (Γ : Ctx) where
   unfolding SingleIntegers NoInterOverNothing typeOf means valueOf opOf opAt classOf lookup formAt
   times-filled a b u v ha hb s =
       full-full (two #CProd a b) a b (prod u v) u v (rw (ha, hb)) ha hb (s .3 .0, s .3 .1 .0) (λ l. (l .2 .0, l .2 .1 .0))
-      (λ ρ. set.times-full (I .size) u v (kit.no-int a Γ u (s .3 .0) ha) (kit.no-int b Γ v (s .3 .1 .0) hb) (setOf I (means I a Γ) ρ u) (setOf I (means I b Γ) ρ v))
+      (λ ρ. set.times-full (I .size) u v (kit.no-int a Γ u (s .3 .0) ha) (kit.no-int b Γ v (s .3 .1 .0) hb) (setOf I (means I a Γ) ρ u)
+            (setOf I (means I b Γ) ρ v))
 
   -- ---- S ◁ r, S ⩤ r
   module _ (a r : Tree) (u v : Ty) (ha : typeOf a Γ ≡ pow u) (hr : typeOf r Γ ≡ relation u v) where
@@ -131,7 +144,8 @@ module _ (I : Interpretation) (σ : ℕ → Ty) (Γ : Ctx) where
   pprod-filled p q u v w x hp hq s =
       let n = kit.no-int p Γ (prod u v) (s .3 .0) hp in
       let m = kit.no-int q Γ (prod w x) (s .3 .1 .0) hq in
-      full-full (two #PProd p q) p q (prod (prod u w) (prod v x)) (prod u v) (prod w x) (rw (hp, hq)) hp hq (s .3 .0, s .3 .1 .0) (λ l. (l .2 .0, l .2 .1 .0))
+      full-full (two #PProd p q) p q (prod (prod u w) (prod v x)) (prod u v) (prod w x) (rw (hp, hq)) hp hq (s .3 .0, s .3 .1 .0)
+          (λ l. (l .2 .0, l .2 .1 .0))
       (λ ρ. set.pprod-full (I .size) u v w x (n .0) (n .1) (m .0) (m .1) (setOf I (means I p Γ) ρ (prod u v)) (setOf I (means I q Γ) ρ (prod w x)))
 
   -- ---- r∼
@@ -148,7 +162,8 @@ module _ (I : Interpretation) (σ : ℕ → Ty) (Γ : Ctx) where
   upto-filled i j new s = absurd (s .1)
 
   -- ---- A ∩ … ∩ B
-  cap-filled : (ks : Forest) → Each (pow (element (typeOf (⋂ ks) Γ))) (typesIn ks Γ) → SingleIntegers (⋂ ks) Γ → Filled I σ Γ (⋂ ks) (⋀ (mapF (_≐Ty Γ) ks))
+  cap-filled : (ks : Forest) → Each (pow (element (typeOf (⋂ ks) Γ))) (typesIn ks Γ) → SingleIntegers (⋂ ks) Γ
+      → Filled I σ Γ (⋂ ks) (⋀ (mapF (_≐Ty Γ) ks))
   unfolding SingleIntegers NoInterOverNothing typeOf means valueOf opOf opAt classOf lookup formAt
   cap-filled ks h s =
       let u = element (typeOf (⋂ ks) Γ) in
@@ -203,10 +218,13 @@ module _ (I : Interpretation) (σ : ℕ → Ty) (Γ : Ctx) where
   qinter-filled xs p e u he s =
       let Δ = push xs Γ in
       filled I σ Γ (bodied #QInter xs p e) (∀ᵖ xs (p ⇒ _≐Ty Δ e)) u he (refl, refl)
-      (kit.bound-single I Γ #Forall (refl, refl) (λ us. refl) xs (p ⇒ _≐Ty Δ e) (s .0) (s .2) (kit.two-single I Δ #LImp (refl, refl) p (_≐Ty Δ e) (s .3 .0) (kit.full-single I Δ e (s .3 .1 .0))))
-      (λ a. kit.bound-alive I Γ #Forall (refl, refl) (λ us. refl) xs (p ⇒ _≐Ty Δ e) (refl, refl) (kit.two-alive I Δ #LImp (refl, refl) p (_≐Ty Δ e) (a .2 .0) (kit.full-alive I Δ e (a .2 .1 .0))))
+      (kit.bound-single I Γ #Forall (refl, refl) (λ us. refl) xs (p ⇒ _≐Ty Δ e) (s .0) (s .2)
+            (kit.two-single I Δ #LImp (refl, refl) p (_≐Ty Δ e) (s .3 .0) (kit.full-single I Δ e (s .3 .1 .0))))
+      (λ a. kit.bound-alive I Γ #Forall (refl, refl) (λ us. refl) xs (p ⇒ _≐Ty Δ e) (refl, refl)
+            (kit.two-alive I Δ #LImp (refl, refl) p (_≐Ty Δ e) (a .2 .0) (kit.full-alive I Δ e (a .2 .1 .0))))
       (λ a ρ. kit.forall-truth I Γ xs (p ⇒ _≐Ty Δ e) ρ
-      ∙ ap (λ f. all f (choices I xs Γ ρ)) (fun-ext (λ τ. kit.implies-truth I Δ p (_≐Ty Δ e) τ ∙ ap (λ b. not (truth I (means I p Δ) τ) || b) (kit.full-truth I Δ e u he τ)))
+      ∙ ap (λ f. all f (choices I xs Γ ρ)) (fun-ext (λ τ. kit.implies-truth I Δ p (_≐Ty Δ e) τ ∙ ap
+              (λ b. not (truth I (means I p Δ) τ) || b) (kit.full-truth I Δ e u he τ)))
       ∙ set.qinter-full (I .size) u (kit.no-int e Δ u (s .3 .1 .0) he) (truth I (means I p Δ)) (λ τ. setOf I (means I e Δ) τ u) (choices I xs Γ ρ))
 
   -- ---- every equation
@@ -214,7 +232,8 @@ module _ (I : Interpretation) (σ : ℕ → Ty) (Γ : Ctx) where
   unfolding Accepted typeOf classOf lookup formAt
   capped ks a = each-alike (pow (element (typeOf (⋂ ks) Γ))) (typesIn ks Γ) (a .fits)
 
-  filled-of : {place : ℕ} {e new : Tree} → Fills Γ place e new → Accepted σ e Γ expression → SingleIntegers e Γ → Has σ Γ e (typeOf e Γ) → Filled I σ Γ e new
+  filled-of : {place : ℕ} {e new : Tree} → Fills Γ place e new → Accepted σ e Γ expression → SingleIntegers e Γ
+      → Has σ Γ e (typeOf e Γ) → Filled I σ Γ e new
   filled-of («SIMP_BINTER_EQUAL_TYPE» ks) a s h = cap-filled ks (capped ks a) s
   filled-of («SIMP_SETMINUS_EQUAL_TYPE» a b) _ s h = let x = of-minus h in minus-filled a b (x .0) (x .1 .type) (x .2 .type) s
   filled-of («SIMP_CPROD_EQUAL_TYPE» a b) _ s h = let x = of-times h in times-filled a b (x .0) (x .1) (x .2 .type) (x .3 .type) s

@@ -13,7 +13,14 @@ use Rattle.frame.specs.Places.{Ctx, push}
 use Rattle.typing.specs.Typing.{element, source, target, ty, typesIn}
 use Rattle.meaning.specs.Lists.{any, all}
 use Rattle.meaning.specs.Values.{Value, default, values, same, someOf, everyOf, asType}
-use Rattle.meaning.specs.Operations.{Logic, true′, false′, not′, and′, or′, implies, equiv, equal, less, lessEqual, greater, greaterEqual, member, subset, finite, partition, unnamed, Quantifier, forall, exists, Operator, identifier, bound, literal, extension, maplet, surjective, totalSurjective, minus, times, directProduct, parallelProduct, domainRestriction, domainSubtraction, rangeRestriction, rangeSubtraction, upTo, image, union, intersection, backward, forward, override, integers, naturals, positives, booleans, yes′, no′, empty, projection1, projection2, identity, powerset, powerset1, generalUnion, generalIntersection, domain, range, converse, others, Binding, quantifiedUnion, quantifiedIntersection, comprehension, Op, logic, quantifier, operator, binding, opOf}
+use Rattle.meaning.specs.Operations.{
+  Logic, true′, false′, not′, and′, or′, implies, equiv, equal, less, lessEqual, greater, greaterEqual, member, subset, finite,
+  partition, unnamed, Quantifier, forall, exists, Operator, identifier, bound, literal, extension, maplet, surjective,
+  totalSurjective, minus, times, directProduct, parallelProduct, domainRestriction, domainSubtraction, rangeRestriction,
+  rangeSubtraction, upTo, image, union, intersection, backward, forward, override, integers, naturals, positives, booleans, yes′,
+  no′, empty, projection1, projection2, identity, powerset, powerset1, generalUnion, generalIntersection, domain, range, converse,
+  others, Binding, quantifiedUnion, quantifiedIntersection, comprehension, Op, logic, quantifier, operator, binding, opOf
+}
 
 -- ---- whole numbers: "Literals and order have their usual meaning."
 -- "Tag 4: eight bytes in two's complement, any signed 64-bit number." "`BigInt` becomes the signed 64-bit literal."
@@ -258,7 +265,8 @@ module _ (I : Interpretation) where
     valueOf rangeRestriction g n ts ks ρ = aRelation (λ u v x y. relOf (kid 0 ks) ρ u v x y && setOf (kid 1 ks) ρ v y)
     valueOf rangeSubtraction g n ts ks ρ = aRelation (λ u v x y. relOf (kid 0 ks) ρ u v x y && not (setOf (kid 1 ks) ρ v y))
     valueOf upTo g n ts ks ρ = aSet (onNumber (λ x. leInt (val (kid 0 ks) ρ int) x && leInt x (val (kid 1 ks) ρ int)))
-    valueOf image g n ts ks ρ = aSet (λ v y. some (source (ty 0 ts)) (λ x. setOf (kid 1 ks) ρ (source (ty 0 ts)) x && relOf (kid 0 ks) ρ (source (ty 0 ts)) v x y))
+    valueOf image g n ts ks ρ = aSet (λ v y. some (source (ty 0 ts))
+          (λ x. setOf (kid 1 ks) ρ (source (ty 0 ts)) x && relOf (kid 0 ks) ρ (source (ty 0 ts)) v x y))
     valueOf union g n ts ks ρ = aSet (λ u x. any (λ k. setOf k ρ u x) ks)
     valueOf intersection g n ts ks ρ = aSet (λ u x. all (λ k. setOf k ρ u x) ks)
     valueOf backward g n ts ks ρ = aRelation (backwards ts ks ρ)

@@ -88,7 +88,8 @@ module _ (t : Tree) (l : List ℕ) where
         (f, rw (nx .next c Θ w h f) (kid-next t [] c Θ w ks kids))
 
     module _ (few : nodes t ≤ 2048) where
-      pub hops-kids : (ks : Forest) (c : ℕ) (Θ : Ctx) → i ≤ c → KidsAtPlace t [] c Θ ks → HopsIn l (count ks) c × (hops l (count ks) c ≡ c + nodesIn ks)
+      pub hops-kids : (ks : Forest) (c : ℕ) (Θ : Ctx) → i ≤ c → KidsAtPlace t [] c Θ ks
+          → HopsIn l (count ks) c × (hops l (count ks) c ≡ c + nodesIn ks)
       unfolding hops HopsIn nodes
       hops-kids nil c Θ h kids = (tt, omega arith)
       hops-kids (cons w ks) c Θ h kids =
@@ -119,7 +120,8 @@ abbrev Next : Tree → ℕ → Tree → Type 0
 Next t k v = (p : ℕ) (l : List ℕ) → getD (starts t p ++ ((p + length (enc t)) ∷ l)) (k + nodes v) 0 ≡ getD (starts t p) k 0 + length (enc v)
 
 abbrev NextIn : Forest → ℕ → Tree → Type 0
-NextIn ks k v = (p : ℕ) (l : List ℕ) → getD (startsIn ks p ++ ((p + length (encs ks)) ∷ l)) (k + nodes v) 0 ≡ getD (startsIn ks p) k 0 + length (enc v)
+NextIn ks k v = (p : ℕ) (l : List ℕ) → getD (startsIn ks p ++ ((p + length (encs ks)) ∷ l)) (k + nodes v) 0 ≡ getD
+    (startsIn ks p) k 0 + length (enc v)
 
 next-root : (h : Head) (ks : Forest) (Γ Δ : Ctx) (v : Tree) → found Γ (node h ks) ≡ found Δ v → Next (node h ks) 0 v
 unfolding starts
@@ -167,7 +169,8 @@ mutual
       → getD (startsIn ks p ++ ((p + length (encs ks)) ∷ l)) (k + nodes v) 0 ≡ getD (startsIn ks p) k 0 + length (enc v)
   next-in nil Γ k Δ v f = absent-not Δ v f
   next-in (cons t ks) Γ k Δ v f =
-      next-cons t ks k Δ v (find t Γ k) (findIn ks Γ (k - nodes t)) (ltb k (nodes t)) refl f (λ h. next-start t Γ k Δ v h) (λ h. next-in ks Γ (k - nodes t) Δ v h)
+      next-cons t ks k Δ v (find t Γ k) (findIn ks Γ (k - nodes t)) (ltb k (nodes t)) refl f (λ h. next-start t Γ k Δ v h)
+          (λ h. next-in ks Γ (k - nodes t) Δ v h)
 
 module _ (s : List ℕ) (t : Tree) (st : List ℕ) (n : ℕ) (fr : Framed s t st n) (k : ℕ) (Γ : Ctx) (v : Tree) (f : find t [] k ≡ found Γ v) where
   -- the subtree at place k ends where the next place after it starts

@@ -26,7 +26,10 @@ use Rattle.frame.proofs.Numbers.{number-back}
 use Rattle.tags.proofs.TagTables.{code-form}
 use Rattle.frame.proofs.Splices.{find-some, find-lt}
 use Rattle.sameness.specs.Stands.{Stands}
-use Rattle.nav.specs.PlaceTables.{arity, Framed, NextsFrom, Table, Rooted, ArityPost, hops, HopsIn, NextsPre, NextsPost, Placed, PlacedIn, TagPost, ChildrenPost, EndAtPost}
+use Rattle.nav.specs.PlaceTables.{
+  arity, Framed, NextsFrom, Table, Rooted, ArityPost, hops, HopsIn, NextsPre, NextsPost, Placed, PlacedIn, TagPost, ChildrenPost,
+  EndAtPost
+}
 use Rattle.sameness.proofs.View.{all-count}
 use Rattle.nav.proofs.Hops.{framed-few, place-stands, place-sorted, place-end, hops-node, ends-inside, ends-last}
 
@@ -36,7 +39,8 @@ pub record Numbers (s : List ℕ) (at : ℕ) (g n : ℕ) (us : List Ty) (k : ℕ
   pub within : at + 2 + width (formOf g .layout) ≤ length s
   pub number : numberAt (width (formOf g .layout)) s (at + 2) ≡ numberIn g n us k
 
-pub numbers : (s : List ℕ) (at : ℕ) (e : Sort) (g n : ℕ) (us : List Ty) (ks : Forest) → Stands s at e (node (head g n us) ks) → Numbers s at g n us (count ks)
+pub numbers : (s : List ℕ) (at : ℕ) (e : Sort) (g n : ℕ) (us : List Ty) (ks : Forest) → Stands s at e (node (head g n us) ks)
+    → Numbers s at g n us (count ks)
 unfolding enc encHead
 numbers s at e g n us ks st =
     let w : ℕ = width (formOf g .layout) in
@@ -50,7 +54,8 @@ pub tag-there : (s : List ℕ) (at : ℕ) (e : Sort) (t : Tree) → Stands s at 
 tag-there s at e (node (head g n us) ks) st = numbers s at e g n us ks st .tag
 
 -- what the code reads: the tag, its form, the number behind it
-module _ (s : List ℕ) (at tag form w : ℕ) (et : tag ≡ numberAt 2 s at) (ef : form ≡ formCode (classOf tag)) (ew : w ≡ width (formAtCode form .layout)) where
+module _ (s : List ℕ) (at tag form w : ℕ) (et : tag ≡ numberAt 2 s at) (ef : form ≡ formCode (classOf tag))
+    (ew : w ≡ width (formAtCode form .layout)) where
   same-form : (g : ℕ) → numberAt 2 s at ≡ g → formAtCode form ≡ formOf g
   same-form g z = code-form tag form ef ∙ ap formOf (et ∙ z)
 
@@ -139,9 +144,11 @@ module _ (s : List ℕ) (n : ℕ) (st : List ℕ) where
           (p .0, omega (arith, p .1, place-end t [] (k - 1) (v .0) (v .1) (v .2), framed-few s t st n fr))
 
       pub fill-turn : k - 1 < 2048 → (c : ℕ) → c ≡ hops l m (k - 1 + 1) → Filled s n st (k - 1) (set l (k - 1) c)
-      fill-turn h c ec = record { below = omega (arith, fl .below); long = length-set l (k - 1) c ∙ fl .long; filled = λ t fr. record { next = next t fr } }
+      fill-turn h c ec = record { below = omega (arith, fl .below); long = length-set l
+            (k - 1) c ∙ fl .long; filled = λ t fr. record { next = next t fr } }
         where
-          next : (t : Tree) → Framed s t st n → (j : ℕ) (Γ : Ctx) (v : Tree) → k - 1 ≤ j → find t [] j ≡ found Γ v → getD (set l (k - 1) c) j 0 ≡ j + nodes v
+          next : (t : Tree) → Framed s t st n → (j : ℕ) (Γ : Ctx) (v : Tree) → k - 1 ≤ j → find t [] j ≡ found Γ v
+              → getD (set l (k - 1) c) j 0 ≡ j + nodes v
           next t fr j Γ v g e = go (eqb j (k - 1)) refl
             where
               go : (b : Bool) → eqb j (k - 1) ≡ b → getD (set l (k - 1) c) j 0 ≡ j + nodes v

@@ -71,7 +71,8 @@ same-no v w d = go (sameTree v w) refl
 
 module _ (s st : List ℕ) (a b x y : ℕ) (ex : x ≡ getD st a 0) (ey : y ≡ getD st b 0) where
   -- the tag at a place
-  tag-at : (k i : ℕ) → i ≡ getD st k 0 → (t : Tree) (n : ℕ) (Γ : Ctx) (v : Tree) → Framed s t st n → find t [] k ≡ found Γ v → numberAt 2 s i ≡ tagOf v
+  tag-at : (k i : ℕ) → i ≡ getD st k 0 → (t : Tree) (n : ℕ) (Γ : Ctx) (v : Tree) → Framed s t st n → find t [] k ≡ found Γ v
+      → numberAt 2 s i ≡ tagOf v
   tag-at k i ei t n Γ v fr f =
       let o = place-sorted s t st n fr k Γ v f in
       rw ei (tag-there s (getD st k 0) (o .0) v (place-stands s t st n fr k Γ v f (o .0) (o .1)))
@@ -82,7 +83,8 @@ module _ (s st : List ℕ) (a b x y : ℕ) (ex : x ≡ getD st a 0) (ey : y ≡ 
   }
 
   -- what stands at a place
-  stands-at : (k i : ℕ) → i ≡ getD st k 0 → (t : Tree) (n : ℕ) (Γ : Ctx) (v : Tree) → Framed s t st n → find t [] k ≡ found Γ v → (e : Sort) × Stands s i e v
+  stands-at : (k i : ℕ) → i ≡ getD st k 0 → (t : Tree) (n : ℕ) (Γ : Ctx) (v : Tree) → Framed s t st n → find t [] k ≡ found Γ v
+      → (e : Sort) × Stands s i e v
   stands-at k i ei t n Γ v fr f = let o = place-sorted s t st n fr k Γ v f in (o .0, rw ei (place-stands s t st n fr k Γ v f (o .0) (o .1)))
 
   pub early-differ : (r : Bool) → EarlyPost s x y r → r ≡ true → SameAtPost s st a b false
@@ -91,7 +93,8 @@ module _ (s st : List ℕ) (a b x y : ℕ) (ex : x ≡ getD st a 0) (ey : y ≡ 
         same-no v w (λ q. post .differ z (l .0) (m .0) v w (l .1) (m .1) q));
   }
 
-  module _ (tag form : ℕ) (ta : tag ≡ numberAt 2 s x) (tb : tag ≡ numberAt 2 s y) (ef : form ≡ formCode (classOf tag)) (e : Bool) (ee : e ≡ sameSort (formAtCode form .sort) expression) where
+  module _ (tag form : ℕ) (ta : tag ≡ numberAt 2 s x) (tb : tag ≡ numberAt 2 s y) (ef : form ≡ formCode (classOf tag)) (e : Bool)
+      (ee : e ≡ sameSort (formAtCode form .sort) expression) where
     there : (k i : ℕ) → i ≡ getD st k 0 → tag ≡ numberAt 2 s i → (t : Tree) (n : ℕ) (Γ : Ctx) (v : Tree) → Framed s t st n → find t [] k ≡ found Γ v
         → Stands s i (sortFor e) v
     there k i ei ti t n Γ v fr f =

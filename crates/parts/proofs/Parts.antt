@@ -13,7 +13,10 @@ use Rattle.put.specs.Out.{Puts}
 use Rattle.put.specs.Copied.{between}
 use Rattle.templates.specs.Template.{Mode, whole, Part, tag, byte, operand, type, expression, binders, Filling, operandAt, typeAt, partBytes, filled}
 use Rattle.templates.specs.Programs.{modeCode, opOf, code, program}
-use Rattle.parts.specs.Holds.{fromOf, endOf, typeOfOperand, MadeFrom, CanMake, MadeType, MadeExpression, HoldsPart, Holds, CodeAt, PartReady, PartPut, sizeOf, ProgramAt, Ready, Ran}
+use Rattle.parts.specs.Holds.{
+  fromOf, endOf, typeOfOperand, MadeFrom, CanMake, MadeType, MadeExpression, HoldsPart, Holds, CodeAt, PartReady, PartPut, sizeOf,
+  ProgramAt, Ready, Ran
+}
 use Rattle.parts.specs.declared.Ranges.{Ranges}
 use Rattle.put.proofs.Puts.{puts-nil, puts-then, puts-as, between-span}
 
@@ -34,7 +37,8 @@ module _ (r : Ranges) where
     pub first-put : (i : ℕ) → i ≡ 0 → Puts o n p m (between s (r .first) (r .«first_end»)) → Puts o n p m (between s (fromOf r i) (endOf r i))
     first-put i e h = subst (λ (j : ℕ). Puts o n p m (between s (fromOf r j) (endOf r j))) (sym e) h
 
-    pub second-put : (i : ℕ) → (i ≡ 0 → ⊥) → Puts o n p m (between s (r .second) (r .«second_end»)) → Puts o n p m (between s (fromOf r i) (endOf r i))
+    pub second-put : (i : ℕ) → (i ≡ 0 → ⊥) → Puts o n p m (between s (r .second) (r .«second_end»))
+        → Puts o n p m (between s (fromOf r i) (endOf r i))
     second-put zero e h = absurd (e refl)
     second-put (suc i) e h = h
 
@@ -111,7 +115,8 @@ module _ (g : List ℕ) (at : ℕ) where
   tag-code x h =
       let l = number-length 2 x in
       let z : at + length (code (tag x)) ≡ at + 3 = omega arith in
-      (omega (arith, h .within), between-span g (at + 1) (at + 3) (encNumber 2 x) (subst (λ (q : ℕ). Spans g (at + 1) q (encNumber 2 x)) z (span-first h .rest)))
+      (omega (arith, h .within), between-span g (at + 1) (at + 3) (encNumber 2 x)
+            (subst (λ (q : ℕ). Spans g (at + 1) q (encNumber 2 x)) z (span-first h .rest)))
 
   byte-code : (x : ℕ) → CodeAt g at (byte x) → (at + 2 ≤ length g) × (between g (at + 1) (at + 2) ≡ x ∷ [])
   unfolding code
@@ -132,7 +137,8 @@ module _ (g : List ℕ) (at : ℕ) where
   unfolding code
   type-code m i h = made-code _ _ _ _ h
 
-  expression-code : (m : Mode) (i : ℕ) → CodeAt g at (expression m i) → (at + 3 ≤ length g) × (getD g (at + 1) 0 ≡ modeCode m) × (getD g (at + 2) 0 ≡ i)
+  expression-code : (m : Mode) (i : ℕ) → CodeAt g at (expression m i)
+      → (at + 3 ≤ length g) × (getD g (at + 1) 0 ≡ modeCode m) × (getD g (at + 2) 0 ≡ i)
   unfolding code
   expression-code m i h = made-code _ _ _ _ h
 
@@ -181,25 +187,29 @@ module _ (g : List ℕ) (at : ℕ) (s types : List ℕ) (r : Ranges) where
   made-ready : (m : Mode) (i b c : ℕ) (f : Filling) → b ≡ modeCode m → c ≡ i → HoldsPart s types r f (type m i) → CanMake types (typeOfOperand r c) b
   made-ready m i b c f e d h = (m, typeAt i (f .types), e, made-from (typeOfOperand r c) c i (typeAt i (f .types)) refl d h)
 
-  pub type-ready : PartReady g at s types r → getD g at 0 ≡ 4 → (at + 3 ≤ length g) × CanMake types (typeOfOperand r (getD g (at + 2) 0)) (getD g (at + 1) 0)
+  pub type-ready : PartReady g at s types r → getD g at 0 ≡ 4
+      → (at + 3 ≤ length g) × CanMake types (typeOfOperand r (getD g (at + 2) 0)) (getD g (at + 1) 0)
   type-ready h e =
       let v = is-by (h .0) 4 (op-of (h .0) (h .2) 4 e) in
       let w = as-part (h .0) _ (h .1) (v .2) (h .2) (h .3) in
       let u = type-code g at (v .0) (v .1) (w .0) in
       (u .0, made-ready (v .0) (v .1) _ _ (h .1) (u .1) (u .2) (w .1))
 
-  pub expression-ready : PartReady g at s types r → getD g at 0 ≡ 5 → (at + 3 ≤ length g) × CanMake types (typeOfOperand r (getD g (at + 2) 0)) (getD g (at + 1) 0)
+  pub expression-ready : PartReady g at s types r → getD g at 0 ≡ 5
+      → (at + 3 ≤ length g) × CanMake types (typeOfOperand r (getD g (at + 2) 0)) (getD g (at + 1) 0)
   expression-ready h e =
       let v = is-by (h .0) 5 (op-of (h .0) (h .2) 5 e) in
       let w = as-part (h .0) _ (h .1) (v .2) (h .2) (h .3) in
       let u = expression-code g at (v .0) (v .1) (w .0) in
       (u .0, made-ready (v .0) (v .1) _ _ (h .1) (u .1) (u .2) (w .1))
 
-  binders-is : (p : Part) → CodeAt g at p → (getD g at 0 ≡ 1 → ⊥) → (getD g at 0 ≡ 2 → ⊥) → (getD g at 0 ≡ 3 → ⊥) → (getD g at 0 ≡ 4 → ⊥) → (getD g at 0 ≡ 5 → ⊥) → p ≡ binders
-  binders-is p h a b c d e = let k = op-is g at p h .0 in is-binders p (λ z. a (k ∙ z)) (λ z. b (k ∙ z)) (λ z. c (k ∙ z)) (λ z. d (k ∙ z)) (λ z. e (k ∙ z))
+  binders-is : (p : Part) → CodeAt g at p → (getD g at 0 ≡ 1 → ⊥) → (getD g at 0 ≡ 2 → ⊥) → (getD g at 0 ≡ 3 → ⊥) → (getD g at 0 ≡ 4 → ⊥)
+      → (getD g at 0 ≡ 5 → ⊥) → p ≡ binders
+  binders-is p h a b c d e = let k = op-is g at p h .0 in
+      is-binders p (λ z. a (k ∙ z)) (λ z. b (k ∙ z)) (λ z. c (k ∙ z)) (λ z. d (k ∙ z)) (λ z. e (k ∙ z))
 
-  pub binders-ready : PartReady g at s types r → (getD g at 0 ≡ 1 → ⊥) → (getD g at 0 ≡ 2 → ⊥) → (getD g at 0 ≡ 3 → ⊥) → (getD g at 0 ≡ 4 → ⊥) → (getD g at 0 ≡ 5 → ⊥)
-      → (r .binders ≤ r .«binders_end») × (r .«binders_end» ≤ length s)
+  pub binders-ready : PartReady g at s types r → (getD g at 0 ≡ 1 → ⊥) → (getD g at 0 ≡ 2 → ⊥) → (getD g at 0 ≡ 3 → ⊥)
+      → (getD g at 0 ≡ 4 → ⊥) → (getD g at 0 ≡ 5 → ⊥) → (r .binders ≤ r .«binders_end») × (r .«binders_end» ≤ length s)
   binders-ready h a b c d e =
       let z = as-part (h .0) binders (h .1) (binders-is (h .0) (h .2) a b c d e) (h .2) (h .3) .1 in
       (omega (arith, z .long), z .within)
@@ -221,17 +231,20 @@ module _ (g : List ℕ) (at : ℕ) (s types : List ℕ) (r : Ranges) where
           as-bytes p _ f (v .1) (puts-as o n q k _ _ (byte-code g at (v .0) (as-part p _ f (v .1) h a .0) .1) w));
     }
 
-    pub operand-put : getD g at 0 ≡ 3 → Puts o n q k (between s (fromOf r (getD g (at + 1) 0)) (endOf r (getD g (at + 1) 0))) → PartPut g at s types r o n q k
+    pub operand-put : getD g at 0 ≡ 3 → Puts o n q k (between s (fromOf r (getD g (at + 1) 0)) (endOf r (getD g (at + 1) 0)))
+        → PartPut g at s types r o n q k
     operand-put e w = record {
       puts = λ p f h a. (let v = is-by p 3 (op-of p h 3 e) in
           let b = as-part p _ f (v .1) h a in
           let i = operand-code g at (v .0) (b .0) .1 in
           as-bytes p _ f (v .1)
           (puts-as o n q k _ _
-          (ap (λ (j : ℕ). between s (fromOf r j) (endOf r j)) i ∙ between-span s (fromOf r (v .0)) (endOf r (v .0)) (enc (operandAt (v .0) (f .operands))) (b .1)) w));
+          (ap (λ (j : ℕ). between s (fromOf r j) (endOf r j)) i ∙ between-span s (fromOf r (v .0)) (endOf r (v .0))
+                (enc (operandAt (v .0) (f .operands))) (b .1)) w));
     }
 
-    pub type-put : (at′ : ℕ) → at′ ≡ typeOfOperand r (getD g (at + 2) 0) → getD g at 0 ≡ 4 → MadeType types at′ (getD g (at + 1) 0) o n q k → PartPut g at s types r o n q k
+    pub type-put : (at′ : ℕ) → at′ ≡ typeOfOperand r (getD g (at + 2) 0) → getD g at 0 ≡ 4 → MadeType types at′ (getD g (at + 1) 0) o n q k
+        → PartPut g at s types r o n q k
     type-put at′ y e w = record {
       puts = λ p f h a. (let v = is-by p 4 (op-of p h 4 e) in
           let b = as-part p _ f (v .2) h a in
@@ -240,7 +253,8 @@ module _ (g : List ℕ) (at : ℕ) (s types : List ℕ) (r : Ranges) where
           as-bytes p _ f (v .2) (w .puts (v .0) t (u .1) (made-from at′ _ (v .1) t y (u .2) (b .1))));
     }
 
-    pub expression-put : (at′ : ℕ) → at′ ≡ typeOfOperand r (getD g (at + 2) 0) → getD g at 0 ≡ 5 → MadeExpression types at′ (getD g (at + 1) 0) o n q k → PartPut g at s types r o n q k
+    pub expression-put : (at′ : ℕ) → at′ ≡ typeOfOperand r (getD g (at + 2) 0) → getD g at 0 ≡ 5
+        → MadeExpression types at′ (getD g (at + 1) 0) o n q k → PartPut g at s types r o n q k
     expression-put at′ y e w = record {
       puts = λ p f h a. (let v = is-by p 5 (op-of p h 5 e) in
           let b = as-part p _ f (v .2) h a in
@@ -299,7 +313,8 @@ program-next g at p ps h =
     let a = span-right (code p) (program ps) h in
     (span-left (code p) (program ps) h, subst (λ (q : ℕ). Spans g (at + length (code p)) q (program ps)) (sym (a .long)) a)
 
-holds-next : (s types : List ℕ) (r : Ranges) (f : Filling) (p : Part) (ps : List Part) → Holds s types r f (p ∷ ps) → HoldsPart s types r f p × Holds s types r f ps
+holds-next : (s types : List ℕ) (r : Ranges) (f : Filling) (p : Part) (ps : List Part) → Holds s types r f (p ∷ ps)
+    → HoldsPart s types r f p × Holds s types r f ps
 unfolding Holds
 holds-next s types r f (tag g) ps h = (tt, h)
 holds-next s types r f (byte c) ps h = (tt, h)
@@ -328,7 +343,8 @@ module _ (g : List ℕ) (start : ℕ) (s types : List ℕ) (r : Ranges) (o : Lis
 
     -- the part that comes next
     next : (ps : List Part) (f : Filling) (v : Left g s types r o n ps f at q k) → (getD g at 0 ≡ 0 → ⊥)
-        → (p : Part) × (qs : List Part) × (v .left ≡ p ∷ qs) × CodeAt g at p × HoldsPart s types r f p × ProgramAt g (at + length (code p)) qs × Holds s types r f qs
+        → (p : Part) × (qs : List Part) × (v .left ≡ p ∷ qs) × CodeAt g at p × HoldsPart s types r f p
+            × ProgramAt g (at + length (code p)) qs × Holds s types r f qs
     next ps f v e =
         let x = program-op g at (v .left) (v .here) e in
         let a = program-next g at (x .0) (x .1) (subst (λ (l : List Part). ProgramAt g at l) (x .2) (v .here)) in
@@ -368,6 +384,7 @@ module _ (g : List ℕ) (start : ℕ) (s types : List ℕ) (r : Ranges) (o : Lis
       puts = λ ps f h a. (let v = w .goes ps f h a in
           let z = program-end g at (v .left) (v .here) e in
           puts-as o n q k _ _
-          (sym (append-nil (v .done)) ∙ ap (λ (l : List ℕ). v .done ++ l) (sym (filled-none f) ∙ ap (λ (l : List Part). filled l f) (sym z)) ∙ v .whole)
+          (sym (append-nil (v .done)) ∙ ap (λ (l : List ℕ). v .done ++ l)
+                (sym (filled-none f) ∙ ap (λ (l : List Part). filled l f) (sym z)) ∙ v .whole)
           (v .puts));
     }

@@ -44,7 +44,8 @@ kept-then : (o p q : List ℕ) (m n : ℕ) → m ≤ n → Kept o p m → Kept p
 kept-then o p q m n h a b = record { long = b .long ∙ a .long; low = λ j k. b .low j (omega arith) ∙ a .low j k }
 
 -- xs has been written, and then ys is
-then-fill : (t : Bool) (o p q : List ℕ) (m n : ℕ) (xs ys : List ℕ) (r : Filled) → Spans p m n xs → Kept o p m → Filling t ys p n q r → Filling t (xs ++ ys) o m q r
+then-fill : (t : Bool) (o p q : List ℕ) (m n : ℕ) (xs ys : List ℕ) (r : Filled) → Spans p m n xs → Kept o p m → Filling t ys p n q r
+    → Filling t (xs ++ ys) o m q r
 then-fill true o p q m n xs ys r a kept f =
     let l = length-append xs ys in
     let z : n + length ys ≡ m + length (xs ++ ys) = omega (arith, a .long) in
@@ -64,25 +65,29 @@ module _ (p : ℕ) (o : List ℕ) (m limit : ℕ) (s e : List ℕ) (k : ℕ) (ro
       (ap L.To (sym y), subst (λ (j : ℕ). Spans o m j []) (sym y) (span-nil (omega arith)), record { long = refl; low = λ j h. refl }) in
       record {
         answer = λ ρ env c.
-            subst (λ (qs : List ℕ). Filling (allBound qs ρ && leb (m + length (filled qs ρ)) limit) (filled qs ρ) o m o (L.To m)) (sym (packed-end ps p pk z))
+            subst (λ (qs : List ℕ). Filling (allBound qs ρ && leb (m + length (filled qs ρ)) limit) (filled qs ρ) o m o (L.To m))
+                (sym (packed-end ps p pk z))
             (subst (λ (b : Bool). Filling b [] o m o (L.To m)) (sym (le-leb (m + 0) limit (omega arith))) d);
       }
 
   module _ (b : ℕ) (eb : b ≡ p % 16) (z : b ≡ 2 → ⊥) where
-    over : ((rest : List ℕ) (ρ : List Ty) → EnvAt o m s e ρ → length ρ ≡ k → (allBound (b ∷ rest) ρ && leb (m + length (filled (b ∷ rest) ρ)) limit) ≡ false) → Post o L.Over
+    over : ((rest : List ℕ) (ρ : List Ty) → EnvAt o m s e ρ → length ρ ≡ k
+          → (allBound (b ∷ rest) ρ && leb (m + length (filled (b ∷ rest) ρ)) limit) ≡ false) → Post o L.Over
     over f =
         by-symbol p b eb z (λ ps. FillPost ps o m limit s e k o L.Over)
         (λ rest pk. record { answer = λ ρ env c. subst (λ (x : Bool). Filling x (filled (b ∷ rest) ρ) o m o L.Over) (sym (f rest ρ env c)) refl })
 
     -- too long by the bytes of this symbol
-    too-long : (rest : List ℕ) (ρ : List Ty) → limit < m + length (symbolBytes b ρ) → (allBound (b ∷ rest) ρ && leb (m + length (filled (b ∷ rest) ρ)) limit) ≡ false
+    too-long : (rest : List ℕ) (ρ : List Ty) → limit < m + length (symbolBytes b ρ)
+        → (allBound (b ∷ rest) ρ && leb (m + length (filled (b ∷ rest) ρ)) limit) ≡ false
     too-long rest ρ l =
         let w : limit < m + length (filled (b ∷ rest) ρ) =
         omega (arith, ap length (filled-cons b rest ρ), length-append (symbolBytes b ρ) (filled rest ρ)) in
         ap (λ (x : Bool). allBound (b ∷ rest) ρ && x) (lt-leb _ limit w) ∙ and-false (allBound (b ∷ rest) ρ)
 
     -- this symbol's bytes are written, up to n
-    goes-on : (o₁ : List ℕ) (n : ℕ) → ((ρ : List Ty) → EnvAt o m s e ρ → length ρ ≡ k → Spans o₁ m n (symbolBytes b ρ) × (pick (ltb b 5) true (ltb (b - 5) (length ρ)) ≡ true)) → Kept o o₁ m → m ≤ n
+    goes-on : (o₁ : List ℕ) (n : ℕ) → ((ρ : List Ty) → EnvAt o m s e ρ → length ρ ≡ k
+          → Spans o₁ m n (symbolBytes b ρ) × (pick (ltb b 5) true (ltb (b - 5) (length ρ)) ≡ true)) → Kept o o₁ m → m ≤ n
         → (q : List ℕ) (r : Filled) → ((rest : List ℕ) → Packed rest (p / 16) → FillPost rest o₁ n limit s e k q r) → Post q r
     unfolding allBound
     goes-on o₁ n f kept hn q r after =
@@ -93,8 +98,10 @@ module _ (p : ℕ) (o : List ℕ) (m limit : ℕ) (s e : List ℕ) (k : ℕ) (ro
               let a = after rest pk .answer ρ (env-kept o o₁ m s e ρ kept env n hn) c in
               let F = symbolBytes b ρ ++ filled rest ρ in
               let y : n + length (filled rest ρ) ≡ m + length F = omega (arith, length-append (symbolBytes b ρ) (filled rest ρ), x .0 .long) in
-              let d = then-fill (allBound rest ρ && leb (n + length (filled rest ρ)) limit) o o₁ q m n (symbolBytes b ρ) (filled rest ρ) r (x .0) kept a in
-              subst (λ (t : Bool). Filling ((t && allBound rest ρ) && leb (m + length (filled (b ∷ rest) ρ)) limit) (filled (b ∷ rest) ρ) o m q r) (sym (x .1))
+              let d = then-fill (allBound rest ρ && leb (n + length (filled rest ρ)) limit) o o₁ q m n (symbolBytes b ρ)
+                  (filled rest ρ) r (x .0) kept a in
+              subst (λ (t : Bool). Filling ((t && allBound rest ρ) && leb (m + length (filled (b ∷ rest) ρ)) limit)
+                    (filled (b ∷ rest) ρ) o m q r) (sym (x .1))
               (subst (λ (xs : List ℕ). Filling (allBound rest ρ && leb (m + length xs) limit) xs o m q r) (sym (filled-cons b rest ρ))
               (subst (λ (j : ℕ). Filling (allBound rest ρ && leb j limit) F o m q r) y d)));
         })
@@ -119,10 +126,12 @@ module _ (p : ℕ) (o : List ℕ) (m limit : ℕ) (s e : List ℕ) (k : ℕ) (ro
           room = omega (arith, length-set o m x, h .room);
         }
 
-        pub fill-fixed : (q : List ℕ) (r : Filled) → ((rest : List ℕ) → Packed rest (p / 16) → FillPost rest (set o m x) (m + 1) limit s e k q r) → Post q r
+        pub fill-fixed : (q : List ℕ) (r : Filled) → ((rest : List ℕ) → Packed rest (p / 16)
+              → FillPost rest (set o m x) (m + 1) limit s e k q r) → Post q r
         fill-fixed q r fp =
             goes-on (set o m x) (m + 1)
-            (λ ρ env c. (subst (λ (xs : List ℕ). Spans (set o m x) m (m + 1) xs) (sym (fixed-bytes ρ)) (span-one (omega (arith, length-set o m x)) (getD-set-same o m x 0 (omega arith) ∙ ex)), rw (lt-ltb b 5 l)))
+            (λ ρ env c. (subst (λ (xs : List ℕ). Spans (set o m x) m (m + 1) xs) (sym (fixed-bytes ρ))
+                    (span-one (omega (arith, length-set o m x)) (getD-set-same o m x 0 (omega arith) ∙ ex)), rw (lt-ltb b 5 l)))
             kept-set (omega arith) q r fp
 
     -- ---- a variable
@@ -137,7 +146,8 @@ module _ (p : ℕ) (o : List ℕ) (m limit : ℕ) (s e : List ℕ) (k : ℕ) (ro
       module _ (m₁ : b - 5 < k) (from to : ℕ) (ef : from ≡ getD s (b - 5) 0) (et : to ≡ getD e (b - 5) 0) where
         slot : (ρ : List Ty) → EnvAt o m s e ρ → length ρ ≡ k → Spans o from to (encTy (ty (b - 5) ρ)) × (to ≤ m)
         slot ρ env c =
-            (subst₂ (λ (x y : ℕ). Spans o x y (encTy (ty (b - 5) ρ))) (sym ef) (sym et) (env .spans (b - 5) (omega (arith, c))), omega (arith, et, env .low (b - 5) (omega (arith, c))))
+            (subst₂ (λ (x y : ℕ). Spans o x y (encTy (ty (b - 5) ρ))) (sym ef) (sym et)
+                  (env .spans (b - 5) (omega (arith, c))), omega (arith, et, env .low (b - 5) (omega (arith, c))))
 
         pub fill-long : limit - m < to - from → Post o L.Over
         fill-long f = over (λ rest ρ env c. too-long rest ρ (omega (arith, ap length (variable-bytes ρ), slot ρ env c .0 .long)))
@@ -159,11 +169,13 @@ module _ (p : ℕ) (o : List ℕ) (m limit : ℕ) (s e : List ℕ) (k : ℕ) (ro
               room = omega (arith, cp .long, q .room);
             }
 
-            pub fill-bound : (q : List ℕ) (r : Filled) → ((rest : List ℕ) → Packed rest (p / 16) → FillPost rest o₁ (m + (to - from)) limit s e k q r) → Post q r
+            pub fill-bound : (q : List ℕ) (r : Filled) → ((rest : List ℕ) → Packed rest (p / 16)
+                  → FillPost rest o₁ (m + (to - from)) limit s e k q r) → Post q r
             fill-bound q r fp =
                 goes-on o₁ (m + (to - from))
                 (λ ρ env c. (
-                  subst (λ (xs : List ℕ). Spans o₁ m (m + (to - from)) xs) (sym (variable-bytes ρ)) (copied-span (to - from) o o₁ m refl (slot ρ env c .0) cp (omega arith)),
+                  subst (λ (xs : List ℕ). Spans o₁ m (m + (to - from)) xs) (sym (variable-bytes ρ))
+                      (copied-span (to - from) o o₁ m refl (slot ρ env c .0) cp (omega arith)),
                   rw (le-ltb b 5 l, lt-ltb (b - 5) (length ρ) (omega arith)),
                 ))
                 kept-copy (omega arith) q r fp
@@ -181,6 +193,7 @@ module _ (p₀ : ℕ) (o₀ : List ℕ) (m₀ limit : ℕ) (s e : List ℕ) (k :
   pub going-begins : FillPre o₀ m₀ limit s e k → Going p₀ o₀ m₀ limit s e k p₀ o₀ m₀
   going-begins h = record { pre = h; size = refl; back = λ q r x. x }
 
-  pub going-next : (p : ℕ) (o : List ℕ) (m : ℕ) → Going p₀ o₀ m₀ limit s e k p o m → (o₁ : List ℕ) (m₁ : ℕ) → FillPre o₁ m₁ limit s e k → length o₁ ≡ length o
-      → ((q : List ℕ) (r : Filled) → FillAll (p / 16) o₁ m₁ limit s e k q r → FillAll p o m limit s e k q r) → Going p₀ o₀ m₀ limit s e k (p / 16) o₁ m₁
+  pub going-next : (p : ℕ) (o : List ℕ) (m : ℕ) → Going p₀ o₀ m₀ limit s e k p o m → (o₁ : List ℕ) (m₁ : ℕ) → FillPre o₁ m₁ limit s e k
+      → length o₁ ≡ length o → ((q : List ℕ) (r : Filled) → FillAll (p / 16) o₁ m₁ limit s e k q r → FillAll p o m limit s e k q r)
+      → Going p₀ o₀ m₀ limit s e k (p / 16) o₁ m₁
   going-next p o m g o₁ m₁ h l f = record { pre = h; size = l ∙ g .size; back = λ q r x. g .back q r (f q r x) }

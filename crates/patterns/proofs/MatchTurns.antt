@@ -68,7 +68,8 @@ row-some types at n [] r h = absurd (omega (arith, r .span .long))
 row-some types at n (t ∷ us) r h = (t, us, refl)
 
 -- by the first of them
-pub by-first : (types : List ℕ) (at n : ℕ) → at < n → (X : List Ty → Type 0) → ((t : Ty) (vs : List Ty) → RowAt types at n (t ∷ vs) → X (t ∷ vs)) → (us : List Ty) → RowAt types at n us → X us
+pub by-first : (types : List ℕ) (at n : ℕ) → at < n → (X : List Ty → Type 0)
+    → ((t : Ty) (vs : List Ty) → RowAt types at n (t ∷ vs) → X (t ∷ vs)) → (us : List Ty) → RowAt types at n us → X us
 by-first types at n l X f us row =
     let v = row-some types at n us row l in
     subst X (sym (v .2)) (f (v .0) (v .1) (subst (RowAt types at n) (v .2) row))
@@ -211,9 +212,10 @@ module _ (v : ℕ) (h : v < 4) (types : List ℕ) (at n : ℕ) (l : at < n) (s e
   back-to : symbol - 5 ≡ v
   back-to = omega arith
 
-  standing : (s₁ e₁ : List ℕ) (r : Part) → ((rest : List ℕ) (t : Ty) (vs ρ : List Ty) → RowAt types at n (t ∷ vs) → EnvAt types n s e ρ → length ρ ≡ k → Standing r v rest (t ∷ vs) ρ types at n s₁ e₁)
-      → VariablePost v types at n s e k s₁ e₁ r
-  standing s₁ e₁ r f = record { answer = λ rest us ρ row env c. by-first types at n l (λ vs. Standing r v rest vs ρ types at n s₁ e₁) (λ t vs w. f rest t vs ρ w env c) us row }
+  standing : (s₁ e₁ : List ℕ) (r : Part) → ((rest : List ℕ) (t : Ty) (vs ρ : List Ty) → RowAt types at n (t ∷ vs) → EnvAt types n s e ρ
+        → length ρ ≡ k → Standing r v rest (t ∷ vs) ρ types at n s₁ e₁) → VariablePost v types at n s e k s₁ e₁ r
+  standing s₁ e₁ r f = record { answer = λ rest us ρ row env c. by-first types at n l (λ vs. Standing r v rest vs ρ types at n s₁ e₁)
+        (λ t vs w. f rest t vs ρ w env c) us row }
 
   pub first-type : MatchPre types at n s e k → TypeAt types at
   first-type p = by-first types at n l (λ vs. TypeAt types at) (λ t vs r. row-type types at n t vs r) (p .us) (p .row)
@@ -231,7 +233,8 @@ module _ (v : ℕ) (h : v < 4) (types : List ℕ) (at n : ℕ) (l : at < n) (s e
           bound = ρ ++ (t ∷ []);
           same = on-new symbol rest t vs ρ (omega arith) (omega arith) (omega arith);
           row = subst (λ (x : ℕ). RowAt types x n vs) (sym eq) (row-rest types at n t vs row);
-          env = env-new types n s e ρ env v (omega arith) (omega arith) t (row .fit .0) at q (subst (λ (x : ℕ). Spans types at x (encTy t)) (sym eq) (row-first types at n t vs row)) (omega arith);
+          env = env-new types n s e ρ env v (omega arith) (omega arith) t (row .fit .0) at q
+              (subst (λ (x : ℕ). Spans types at x (encTy t)) (sym eq) (row-first types at n t vs row)) (omega arith);
           count = omega (arith, length-append ρ (t ∷ []), c);
         },
         omega (arith, eq, ty-long t),
@@ -288,10 +291,12 @@ module _ (p : ℕ) (types : List ℕ) (at n : ℕ) (s e : List ℕ) (k : ℕ) wh
   pub fit-end : p % 16 ≡ 2 → Post s e (F.Fits k)
   unfolding matches
   fit-end z ps pk =
-      record { answer = λ us ρ row env c. subst (λ (qs : List ℕ). Matching (matches qs us ρ) types n s e (F.Fits k)) (sym (packed-end ps p pk z)) (ap F.Fits (sym c), env) }
+      record { answer = λ us ρ row env c. subst (λ (qs : List ℕ). Matching (matches qs us ρ) types n s e (F.Fits k))
+            (sym (packed-end ps p pk z)) (ap F.Fits (sym c), env) }
 
   module _ (b : ℕ) (eb : b ≡ p % 16) (z : b ≡ 2 → ⊥) where
-    pub off : (s₁ e₁ : List ℕ) → ((rest : List ℕ) (us ρ : List Ty) → RowAt types at n us → EnvAt types n s e ρ → length ρ ≡ k → matches (b ∷ rest) us ρ ≡ differs) → Post s₁ e₁ F.Differs
+    pub off : (s₁ e₁ : List ℕ) → ((rest : List ℕ) (us ρ : List Ty) → RowAt types at n us → EnvAt types n s e ρ → length ρ ≡ k
+          → matches (b ∷ rest) us ρ ≡ differs) → Post s₁ e₁ F.Differs
     off s₁ e₁ f =
         by-symbol p b eb z (λ ps. MatchPost ps types at n s e k s₁ e₁ F.Differs)
         (λ rest pk. record { answer = λ us ρ row env c. subst (λ (m : Matched). Matching m types n s₁ e₁ F.Differs) (sym (f rest us ρ row env c)) refl })
@@ -301,7 +306,8 @@ module _ (p : ℕ) (types : List ℕ) (at n : ℕ) (s e : List ℕ) (k : ℕ) wh
     fit-none l = off s e (λ rest us ρ row env c. ap (λ (vs : List Ty). matches (b ∷ rest) vs ρ) (row-none types at n us row l))
 
     module _ (l : at < n) where
-      off-first : ((rest : List ℕ) (t : Ty) (vs ρ : List Ty) → RowAt types at n (t ∷ vs) → EnvAt types n s e ρ → length ρ ≡ k → matches (b ∷ rest) (t ∷ vs) ρ ≡ differs) → Post s e F.Differs
+      off-first : ((rest : List ℕ) (t : Ty) (vs ρ : List Ty) → RowAt types at n (t ∷ vs) → EnvAt types n s e ρ → length ρ ≡ k
+            → matches (b ∷ rest) (t ∷ vs) ρ ≡ differs) → Post s e F.Differs
       off-first f = off s e (λ rest us ρ row env c. by-first types at n l (λ vs. matches (b ∷ rest) vs ρ ≡ differs) (λ t vs r. f rest t vs ρ r env c) us row)
 
       pub fit-other : b < 5 → (getD types at 0 ≡ b → ⊥) → Post s e F.Differs
@@ -312,7 +318,8 @@ module _ (p : ℕ) (types : List ℕ) (at n : ℕ) (s e : List ℕ) (k : ℕ) wh
 
       -- what goes on
       on-first : (at₁ : ℕ) (s₁ e₁ : List ℕ) (k₁ : ℕ)
-          → ((rest : List ℕ) (t : Ty) (vs ρ : List Ty) → RowAt types at n (t ∷ vs) → EnvAt types n s e ρ → length ρ ≡ k → Next (b ∷ rest) (t ∷ vs) ρ rest types at₁ n s₁ e₁ k₁)
+          → ((rest : List ℕ) (t : Ty) (vs ρ : List Ty) → RowAt types at n (t ∷ vs) → EnvAt types n s e ρ → length ρ ≡ k
+                → Next (b ∷ rest) (t ∷ vs) ρ rest types at₁ n s₁ e₁ k₁)
           → (rest : List ℕ) (us ρ : List Ty) → RowAt types at n us → EnvAt types n s e ρ → length ρ ≡ k → Next (b ∷ rest) us ρ rest types at₁ n s₁ e₁ k₁
       on-first at₁ s₁ e₁ k₁ f rest us ρ row env c = by-first types at n l (λ vs. Next (b ∷ rest) vs ρ rest types at₁ n s₁ e₁ k₁) (λ t vs r. f rest t vs ρ r env c) us row
 
@@ -326,13 +333,15 @@ module _ (p : ℕ) (types : List ℕ) (at n : ℕ) (s e : List ℕ) (k : ℕ) wh
                 subst (λ (m : Matched). Matching m types n s₂ e₂ r) (sym (x .same)) (after rest pk .answer (x .types-left) (x .bound) (x .row) (x .env) (x .count)));
           })
 
-      pub next-fixed : b < 5 → getD types at 0 ≡ b → (rest : List ℕ) (us ρ : List Ty) → RowAt types at n us → EnvAt types n s e ρ → length ρ ≡ k → Next (b ∷ rest) us ρ rest types (at + 1) n s e k
+      pub next-fixed : b < 5 → getD types at 0 ≡ b → (rest : List ℕ) (us ρ : List Ty) → RowAt types at n us → EnvAt types n s e ρ
+          → length ρ ≡ k → Next (b ∷ rest) us ρ rest types (at + 1) n s e k
       next-fixed m eq =
           on-first (at + 1) s e k (λ rest t vs ρ row env c. (let f = fixed-row types at n t vs row b m z eq in
           record { types-left = partsOf t ++ vs; bound = ρ; same = on-fixed b rest t vs ρ m (f .0); row = f .1; env = env; count = c }))
 
 -- a variable's bytes are in the buffer, below n
-pub slot-span : {types : List ℕ} {n : ℕ} {s e : List ℕ} {ρ : List Ty} {k : ℕ} → EnvAt types n s e ρ → length ρ ≡ k → (v : ℕ) → v < k → (getD s v 0 ≤ getD e v 0) × (getD e v 0 ≤ n) × (getD e v 0 ≤ length types)
+pub slot-span : {types : List ℕ} {n : ℕ} {s e : List ℕ} {ρ : List Ty} {k : ℕ} → EnvAt types n s e ρ → length ρ ≡ k → (v : ℕ) → v < k
+    → (getD s v 0 ≤ getD e v 0) × (getD e v 0 ≤ n) × (getD e v 0 ≤ length types)
 slot-span env c v h = let a = env .spans v (omega (arith, c)) in omega (arith, a .long, a .within, env .low v (omega (arith, c)))
 
 -- and are some

@@ -50,10 +50,12 @@ module _ (ps types : List ℕ) (at n : ℕ) (s e : List ℕ) where
       -- the types after the first
       after : (t : Ty) (vs : List Ty) → RowAt types at n (t ∷ vs) → RowAt types q n vs
       after t vs row =
-          subst (λ (x : ℕ). RowAt types x n vs) (sym (en .is t (at + length (encTy t)) (row-first types at n t vs row))) (row-rest types at n t vs row)
+          subst (λ (x : ℕ). RowAt types x n vs) (sym (en .is t (at + length (encTy t)) (row-first types at n t vs row)))
+              (row-rest types at n t vs row)
 
       pub pairs-past : {w : ℕ} → PairsPre w types at n s e → at < q
-      pairs-past p = by-first types at n l (λ vs. at < q) (λ t vs r. omega (arith, en .is t (at + length (encTy t)) (row-first types at n t vs r), ty-long t)) (p .us) (p .row)
+      pairs-past p = by-first types at n l (λ vs. at < q) (λ t vs r.
+            omega (arith, en .is t (at + length (encTy t)) (row-first types at n t vs r), ty-long t)) (p .us) (p .row)
 
       pub pairs-last : n ≤ q → PairsPost ps types at n s e s e (P.Last at)
       unfolding pairsFit
@@ -66,10 +68,12 @@ module _ (ps types : List ℕ) (at n : ℕ) (s e : List ℕ) where
           }
 
       module _ (h : q < n) where
-        secondly : (X : List Ty → Type 0) → ((t u : Ty) (vs : List Ty) → RowAt types at n (t ∷ u ∷ vs) → X (t ∷ u ∷ vs)) → (us : List Ty) → RowAt types at n us → X us
+        secondly : (X : List Ty → Type 0) → ((t u : Ty) (vs : List Ty) → RowAt types at n (t ∷ u ∷ vs) → X (t ∷ u ∷ vs)) → (us : List Ty)
+            → RowAt types at n us → X us
         secondly X f us row =
             by-first types at n l X (λ t vs r. (let v = row-some types q n vs (after t vs r) h in
-            subst (λ (ws : List Ty). X (t ∷ ws)) (sym (v .2)) (f t (v .0) (v .1) (subst (λ (ws : List Ty). RowAt types at n (t ∷ ws)) (v .2) r)))) us row
+            subst (λ (ws : List Ty). X (t ∷ ws)) (sym (v .2)) (f t (v .0) (v .1)
+                  (subst (λ (ws : List Ty). RowAt types at n (t ∷ ws)) (v .2) r)))) us row
 
         module _ (s₁ e₁ : List ℕ) (f : Fit) (mp : MatchPost ps types at n s e 0 s₁ e₁ f) where
           -- what the match says of two in a row
@@ -82,17 +86,20 @@ module _ (ps types : List ℕ) (at n : ℕ) (s e : List ℕ) where
               record {
                 answer = λ us row sl. secondly (λ vs. Pairing (pairsFit ps vs) types n vs s₁ e₁ P.Differ) (λ t u vs r. (
                     let a = subst (λ (x : Fit). Matching (matches ps (t ∷ u ∷ vs) []) types n s₁ e₁ x) ef (matched (t ∷ u ∷ vs) r sl) in
-                    subst (λ (b : Bool). Pairing (b && pairsFit ps (u ∷ vs)) types n (t ∷ u ∷ vs) s₁ e₁ P.Differ) (sym (fit-not (matches ps (t ∷ u ∷ vs) []) types n s₁ e₁ a)) refl)) us row;
+                    subst (λ (b : Bool). Pairing (b && pairsFit ps (u ∷ vs)) types n (t ∷ u ∷ vs) s₁ e₁ P.Differ)
+                        (sym (fit-not (matches ps (t ∷ u ∷ vs) []) types n s₁ e₁ a)) refl)) us row;
               }
 
           module _ (k : ℕ) (ef : f ≡ F.Fits k) where
             fitted : (us : List Ty) → RowAt types at n us → Slots s e → (isFit (matches ps us []) ≡ true) × Slots s₁ e₁
-            fitted us row sl = fit-of (matches ps us []) types n s₁ e₁ k (subst (λ (x : Fit). Matching (matches ps us []) types n s₁ e₁ x) ef (matched us row sl))
+            fitted us row sl = fit-of (matches ps us []) types n s₁ e₁ k
+                (subst (λ (x : Fit). Matching (matches ps us []) types n s₁ e₁ x) ef (matched us row sl))
 
             pairs-further : {w : ℕ} → PairsPre w types at n s e → PairsPre w types q n s₁ e₁
             pairs-further {w} p =
                 let sl = fitted (p .us) (p .row) (p .slots) .1 in
-                by-first types at n l (λ vs. PairsPre w types q n s₁ e₁) (λ t vs r. record { ps = p .ps; packed = p .packed; us = vs; row = after t vs r; slots = sl }) (p .us) (p .row)
+                by-first types at n l (λ vs. PairsPre w types q n s₁ e₁)
+                    (λ t vs r. record { ps = p .ps; packed = p .packed; us = vs; row = after t vs r; slots = sl }) (p .us) (p .row)
 
             pairs-more : (s₂ e₂ : List ℕ) (r : Pairs) → PairsPost ps types q n s₁ e₁ s₂ e₂ r → PairsPost ps types at n s e s₂ e₂ r
             unfolding pairsFit
@@ -101,7 +108,8 @@ module _ (ps types : List ℕ) (at n : ℕ) (s e : List ℕ) where
                   answer = λ us row sl. secondly (λ vs. Pairing (pairsFit ps vs) types n vs s₂ e₂ r) (λ t u vs w. (
                       let z = fitted (t ∷ u ∷ vs) w sl in
                       let a = pp .answer (u ∷ vs) (after t (u ∷ vs) w) (z .1) in
-                      subst (λ (b : Bool). Pairing (b && pairsFit ps (u ∷ vs)) types n (t ∷ u ∷ vs) s₂ e₂ r) (sym (z .0)) (again (pairsFit ps (u ∷ vs)) t u vs a))) us row;
+                      subst (λ (b : Bool). Pairing (b && pairsFit ps (u ∷ vs)) types n (t ∷ u ∷ vs) s₂ e₂ r) (sym (z .0))
+                          (again (pairsFit ps (u ∷ vs)) t u vs a))) us row;
                 }
               where
                 again : (b : Bool) (t u : Ty) (vs : List Ty) → Pairing b types n (u ∷ vs) s₂ e₂ r → Pairing b types n (t ∷ u ∷ vs) s₂ e₂ r
@@ -111,14 +119,16 @@ module _ (ps types : List ℕ) (at n : ℕ) (s e : List ℕ) where
 -- ---- the loop: what is left, and what its end says of all
 pub record Going (p : ℕ) (types : List ℕ) (at₀ n : ℕ) (s₀ e₀ : List ℕ) (at : ℕ) (s e : List ℕ) : Type 0 where
   pub pre : PairsPre p types at n s e
-  pub back : (s₁ e₁ : List ℕ) (r : Pairs) → ((ps : List ℕ) → Packed ps p → PairsPost ps types at n s e s₁ e₁ r) → (ps : List ℕ) → Packed ps p → PairsPost ps types at₀ n s₀ e₀ s₁ e₁ r
+  pub back : (s₁ e₁ : List ℕ) (r : Pairs) → ((ps : List ℕ) → Packed ps p → PairsPost ps types at n s e s₁ e₁ r) → (ps : List ℕ)
+      → Packed ps p → PairsPost ps types at₀ n s₀ e₀ s₁ e₁ r
 
 module _ (p : ℕ) (types : List ℕ) (at₀ n : ℕ) (s₀ e₀ : List ℕ) where
   pub going-begins : PairsPre p types at₀ n s₀ e₀ → Going p types at₀ n s₀ e₀ at₀ s₀ e₀
   going-begins h = record { pre = h; back = λ s₁ e₁ r x. x }
 
   pub going-next : (at : ℕ) (s e : List ℕ) → Going p types at₀ n s₀ e₀ at s e → at < n → (q : ℕ) → EndOf types at q → q < n
-      → (s₁ e₁ : List ℕ) (f : Fit) → ((ps : List ℕ) → Packed ps p → MatchPost ps types at n s e 0 s₁ e₁ f) → (k : ℕ) → f ≡ F.Fits k → Going p types at₀ n s₀ e₀ q s₁ e₁
+      → (s₁ e₁ : List ℕ) (f : Fit) → ((ps : List ℕ) → Packed ps p → MatchPost ps types at n s e 0 s₁ e₁ f) → (k : ℕ) → f ≡ F.Fits k
+          → Going p types at₀ n s₀ e₀ q s₁ e₁
   going-next at s e g l q en h s₁ e₁ f mp k ef =
       let pre = g .pre in
       record {

@@ -12,7 +12,9 @@ use Rattle.frame.specs.WellFormed.{TyWf}
 use Rattle.frame.specs.Spans.{Spans}
 use Rattle.frame.specs.Reading.{typeLimit}
 use Rattle.typing.specs.Typing.{ty}
-use Rattle.type_rules.specs.Patterns.{Matched, fits, differs, matches, allBound, filled, pairsFit, lastOnes, Rule, Judged, typed, wrong, completed, judge}
+use Rattle.type_rules.specs.Patterns.{
+  Matched, fits, differs, matches, allBound, filled, pairsFit, lastOnes, Rule, Judged, typed, wrong, completed, judge
+}
 use Rattle.type_rules.specs.RuleNumbers.{Packed}
 use Rattle.patterns.specs.declared.Typed.{Typed}
 use Rattle.patterns.specs.declared.Typed.the-variants as T
@@ -103,7 +105,8 @@ pub record PairsPost (ps types : List ℕ) (at n : ℕ) (s₀ e₀ s₁ e₁ : L
 -- ---- the operands of a rule
 -- the rule's patterns fit: k variables are bound, and the rest of the rule is its result
 pub record OperandsFit (R : Rule) (types : List ℕ) (from n : ℕ) (starts ends : List ℕ) (k : ℕ) : Type 0 where
-  pub answer : (ts : List Ty) → RowAt types from n ts → (ρ : List Ty) × (judge R ts ≡ completed (R .result) ρ) × EnvAt types n starts ends ρ × (length ρ ≡ k)
+  pub answer : (ts : List Ty) → RowAt types from n ts → (ρ : List Ty) × (judge R ts ≡ completed (R .result) ρ)
+      × EnvAt types n starts ends ρ × (length ρ ≡ k)
 
 abbrev pub OperandsPost : Rule → List ℕ → ℕ → ℕ → List ℕ → List ℕ → Fit → Type 0
 OperandsPost R types from n starts ends (F.Fits k) = OperandsFit R types from n starts ends k
@@ -121,7 +124,8 @@ Filling true xs o m p r = (r ≡ L.To (m + length xs)) × Spans p m (m + length 
 Filling false xs o m p r = r ≡ L.Over
 
 pub record FillPost (ps o : List ℕ) (m limit : ℕ) (starts ends : List ℕ) (k : ℕ) (p : List ℕ) (r : Filled) : Type 0 where
-  pub answer : (ρ : List Ty) → EnvAt o m starts ends ρ → length ρ ≡ k → Filling (allBound ps ρ && leb (m + length (filled ps ρ)) limit) (filled ps ρ) o m p r
+  pub answer : (ρ : List Ty) → EnvAt o m starts ends ρ → length ρ ≡ k
+      → Filling (allBound ps ρ && leb (m + length (filled ps ρ)) limit) (filled ps ρ) o m p r
 
 -- ---- a rule
 pub record JudgePre (types : List ℕ) (from n : ℕ) : Type 0 where

@@ -60,7 +60,8 @@ module _ (s st nx : List ℕ) (k tag : ℕ) (pt : TagPost s st k tag) where
     pub set-here : Here s st nx k → SetPre s st nx k
     set-here h =
         let o = shape (h .table) (h .there) in
-        record { t = h .t; n = h .n; table = h .table; Γ = h .Γ; x = o .n; us = o .us; p = o .a; e = o .b; there = h .there ∙ ap (found (h .Γ)) (o .is) }
+        record { t = h .t; n = h .n; table = h .table; Γ = h .Γ; x = o .n; us = o .us; p = o .a; e = o .b; there = h .there ∙
+              ap (found (h .Γ)) (o .is) }
 
     pub finite-set : (r : Decision) → SetPost s st nx k r → Decides rewriteFinite s st nx k r
     unfolding onTag rewriteFinite
@@ -84,21 +85,24 @@ module _ (s st nx : List ℕ) (k tag : ℕ) (pt : TagPost s st k tag) where
         by-two s st nx k tag pt 217 key expression expression (λ x. refl) j ej rewriteFinite finiteRestricted
         (λ Γ n us a b. or-same (finiteRestricted a b))
 
-  pub finite-none : (tag ≡ 407 → ⊥) → (tag ≡ 402 → ⊥) → (tag ≡ 403 → ⊥) → (tag ≡ 401 → ⊥) → (tag ≡ 404 → ⊥) → (tag ≡ 412 → ⊥) → (tag ≡ 5 → ⊥) → (tag ≡ 301 → ⊥)
-      → (tag ≡ 752 → ⊥) → (tag ≡ 214 → ⊥) → (tag ≡ 763 → ⊥) → (tag ≡ 221 → ⊥) → (tag ≡ 803 → ⊥) → (tag ≡ 217 → ⊥) → (tag ≡ 410 → ⊥) → (tag ≡ 411 → ⊥)
-      → Decides rewriteFinite s st nx k D.Rests
+  pub finite-none : (tag ≡ 407 → ⊥) → (tag ≡ 402 → ⊥) → (tag ≡ 403 → ⊥) → (tag ≡ 401 → ⊥) → (tag ≡ 404 → ⊥) → (tag ≡ 412 → ⊥)
+      → (tag ≡ 5 → ⊥) → (tag ≡ 301 → ⊥) → (tag ≡ 752 → ⊥) → (tag ≡ 214 → ⊥) → (tag ≡ 763 → ⊥) → (tag ≡ 221 → ⊥) → (tag ≡ 803 → ⊥)
+      → (tag ≡ 217 → ⊥) → (tag ≡ 410 → ⊥) → (tag ≡ 411 → ⊥) → Decides rewriteFinite s st nx k D.Rests
   unfolding onTag rewriteFinite
   finite-none h0 h1 h2 h3 h4 h5 h6 h7 h8 h9 h10 h11 h12 h13 h14 h15 = by-rest rewriteFinite s st nx k tag pt (λ Γ v. rest Γ v) D.Rests refl
     where
       rest : (Γ : Ctx) (v : Tree) → tagOf v ≡ tag → rewriteFinite Γ v ≡ same
-      rest Γ (node (head o n us) ks) z = rw z (simp (ne-eqb tag 407 h0, ne-eqb tag 402 h1, ne-eqb tag 403 h2, ne-eqb tag 401 h3, ne-eqb tag 404 h4, ne-eqb tag 412 h5, ne-eqb tag 5 h6, ne-eqb tag 301 h7, ne-eqb tag 752 h8, ne-eqb tag 214 h9, ne-eqb tag 763 h10, ne-eqb tag 221 h11, ne-eqb tag 803 h12, ne-eqb tag 217 h13, ne-eqb tag 410 h14, ne-eqb tag 411 h15))
+      rest Γ (node (head o n us) ks) z = rw z (simp (ne-eqb tag 407 h0, ne-eqb tag 402 h1, ne-eqb tag 403 h2, ne-eqb tag 401 h3, ne-eqb tag
+              404 h4, ne-eqb tag 412 h5, ne-eqb tag 5 h6, ne-eqb tag 301 h7, ne-eqb tag 752 h8, ne-eqb tag 214 h9, ne-eqb tag 763 h10,
+              ne-eqb tag 221 h11, ne-eqb tag 803 h12, ne-eqb tag 217 h13, ne-eqb tag 410 h14, ne-eqb tag 411 h15))
 
 -- ---- finite(S ◁ r), where r is id, prj1 or prj2
 module _ (s st nx : List ℕ) (a b tag : ℕ) (pt : TagPost s st b tag) where
   pub restricted-12 : (g : ℕ) → tag ≡ g → ((v w : Tree) → tagOf w ≡ g → finiteRestricted v w ≡ to 12 (finite v))
       → (r : Decision) → r ≡ D.Fixed 12 12 a a a → DecidesTwo finiteRestricted s st nx a b r
   unfolding side
-  restricted-12 g key ans = on-left finiteRestricted s st nx a b 12 refl refl (λ t n Γ v w tb fa fb. ans v w (sym (pt .tag t n Γ w (tb .framed) fb) ∙ key))
+  restricted-12 g key ans = on-left finiteRestricted s st nx a b 12 refl refl
+      (λ t n Γ v w tb fa fb. ans v w (sym (pt .tag t n Γ w (tb .framed) fb) ∙ key))
 
   pub restricted-412 : tag ≡ 412 → (r : Decision) → r ≡ D.Fixed 12 12 a a a → DecidesTwo finiteRestricted s st nx a b r
   restricted-412 key = restricted-12 412 key (λ v w z. rw z)

@@ -14,14 +14,15 @@ use borrow.Author.Tests.{ltb-true, ltb-false, lt-ltb, le-ltb}
 use Rattle.frame.specs.Lines.{writeLine}
 use Rattle.lines.specs.LineState.{WritePost}
 use Rattle.frame.proofs.Tables.{sets-append}
-use Rattle.printing.specs.Text.{withLast, decimalIn, decimal, endedText, refusedText}
+use Rattle.program.specs.Text.{withLast, decimalIn, decimal, endedText, refusedText}
 use Rattle.printing.specs.PrintPosts.{Appends}
 
 -- ---- one text after another
 pub appends-none : (o : List ℕ) (n : ℕ) → Appends o n [] o n
 appends-none o n = record { after = omega arith; bytes = refl }
 
-pub appends-then : (o : List ℕ) (n : ℕ) (xs p : List ℕ) (m : ℕ) (ys q : List ℕ) (k : ℕ) → Appends o n xs p m → Appends p m ys q k → Appends o n (xs ++ ys) q k
+pub appends-then : (o : List ℕ) (n : ℕ) (xs p : List ℕ) (m : ℕ) (ys q : List ℕ) (k : ℕ) → Appends o n xs p m → Appends p m ys q k
+    → Appends o n (xs ++ ys) q k
 appends-then o n xs p m ys q k a b = record {
   after = omega (arith, length-append xs ys, a .after, b .after);
   bytes = b .bytes ∙ ap₂ (λ (l : List ℕ) (i : ℕ). sets l i ys) (a .bytes) (a .after) ∙ sym (sets-append o n xs ys);
@@ -31,7 +32,8 @@ pub appends-as : (o : List ℕ) (n : ℕ) (xs ys p : List ℕ) (m : ℕ) → xs 
 appends-as o n xs ys p m e a = subst (λ (x : List ℕ). Appends o n x p m) e a
 
 -- ---- a text, byte by byte
-pub text-more : (o text p : List ℕ) (at i : ℕ) → i < length text → p ≡ sets o at (take i text) → set p (at + i) (getD text i 0) ≡ sets o at (take (i + 1) text)
+pub text-more : (o text p : List ℕ) (at i : ℕ) → i < length text → p ≡ sets o at (take i text)
+    → set p (at + i) (getD text i 0) ≡ sets o at (take (i + 1) text)
 text-more o text p at i h ep =
     let t : List ℕ = take i text in
     let e : take (i + 1) text ≡ t ++ (getD text i 0 ∷ []) = rw add-one (take-suc text i 0 h) in
@@ -67,7 +69,8 @@ decimal-one (suc n) h = rw (lt-ltb (suc n) 10 h)
 pub decimal-more : (n : ℕ) → 10 ≤ n → decimal n ≡ decimal (n / 10) ++ ((48 + n % 10) ∷ [])
 unfolding decimal decimalIn
 decimal-more zero h = absurd (omega arith)
-decimal-more (suc n) h = rw (le-ltb (suc n) 10 h) (ap (λ (x : List ℕ). x ++ ((48 + suc n % 10) ∷ [])) (decimal-in n (suc n / 10) (suc n / 10) (omega arith) (omega arith)))
+decimal-more (suc n) h = rw (le-ltb (suc n) 10 h) (ap (λ (x : List ℕ). x ++ ((48 + suc n % 10) ∷ []))
+      (decimal-in n (suc n / 10) (suc n / 10) (omega arith) (omega arith)))
 
 pub decimal-length : (n : ℕ) → 10 ≤ n → length (decimal n) ≡ length (decimal (n / 10)) + 1
 decimal-length n h = ap (λ (x : List ℕ). length x) (decimal-more n h) ∙ length-append (decimal (n / 10)) ((48 + n % 10) ∷ [])
@@ -101,7 +104,8 @@ frame-written o s part at r h w =
     let d : List ℕ = drop at o in
     let ld : length d ≡ m = omega (arith, length-drop at o) in
     let whole : take m d ≡ d = take-all m d (omega arith) in
-    let v = subst (λ (x : List ℕ). (r ≡ length ws) × (part ≡ ws ++ drop (length ws) x)) whole (w .wrote (omega (arith, ap (λ (x : List ℕ). length x) whole))) in
+    let v = subst (λ (x : List ℕ). (r ≡ length ws) × (part ≡ ws ++ drop (length ws) x)) whole
+        (w .wrote (omega (arith, ap (λ (x : List ℕ). length x) whole))) in
     let none : drop m d ≡ [] = ap (λ (k : ℕ). drop k d) (sym ld) ∙ drop-length d in
     record {
       after = omega (arith, v .0);

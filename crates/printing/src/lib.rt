@@ -3,7 +3,7 @@ ghost use Prim.Native.Nat.{_+_, _≤_, _<_};
 ghost use mathlib.Core.List.{[], _∷_};
 ghost use lib.ListN.{length};
 ghost use Rattle.frame.specs.Lines.{writeLine};
-ghost use Rattle.printing.specs.Text.{decimal, endedText, refusedText};
+ghost use Rattle.program.specs.Text.{decimal, endedText, refusedText};
 ghost use Rattle.printing.specs.PrintPosts.{Appends};
 
 const SPACE: u8 = 0x20;

@@ -237,7 +237,8 @@ abbrev expressed : Ty → List ℕ
 expressed t = enc (toExpression t)
 
 module _ (s : List ℕ) (at : ℕ) (o : List ℕ) (n : ℕ) where
-  pub write-bool : (p : List ℕ) (m : ℕ) → getD s at 0 ≡ 0 → Puts o n p m (encNumber 2 404) → Expressed s at o n p (record { end = at + 1; cursor = m })
+  pub write-bool : (p : List ℕ) (m : ℕ) → getD s at 0 ≡ 0 → Puts o n p m (encNumber 2 404)
+      → Expressed s at o n p (record { end = at + 1; cursor = m })
   write-bool p m e w = record {
     end = end-leaf s at (λ a. omega arith) (λ a. omega arith) (λ a. omega arith);
     puts = λ t h. puts-as o n p m _ _ (bool-bytes ∙ ap expressed (sym (bool-is s at t h e))) w;
@@ -249,7 +250,8 @@ module _ (s : List ℕ) (at : ℕ) (o : List ℕ) (n : ℕ) where
     puts = λ t h. puts-as o n p m _ _ (int-bytes ∙ ap expressed (sym (int-is s at t h e))) w;
   }
 
-  pub write-given : (p : List ℕ) (m : ℕ) → getD s at 0 ≡ 2 → Puts o n p m (givenBytes s at) → Expressed s at o n p (record { end = at + 3; cursor = m })
+  pub write-given : (p : List ℕ) (m : ℕ) → getD s at 0 ≡ 2 → Puts o n p m (givenBytes s at)
+      → Expressed s at o n p (record { end = at + 3; cursor = m })
   write-given p m e w = record {
     end = end-given s at e;
     puts = λ t h. (let v = given-view s at t h e in
@@ -259,7 +261,8 @@ module _ (s : List ℕ) (at : ℕ) (o : List ℕ) (n : ℕ) where
         ∙ ap expressed (sym (v .is))) w);
   }
 
-  pub write-pow : (p : List ℕ) (m : ℕ) (q : List ℕ) (r : Written) → getD s at 0 ≡ 3 → Puts o n p m (encNumber 2 752) → Expressed s (at + 1) p m q r → Expressed s at o n q r
+  pub write-pow : (p : List ℕ) (m : ℕ) (q : List ℕ) (r : Written) → getD s at 0 ≡ 3 → Puts o n p m (encNumber 2 752)
+      → Expressed s (at + 1) p m q r → Expressed s at o n q r
   write-pow p m q r e w x = record {
     end = end-pow s at (r .end) e (x .end);
     puts = λ t h. (let v = pow-view s at t h e in

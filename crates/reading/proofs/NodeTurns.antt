@@ -80,7 +80,8 @@ module _ (s : List ℕ) (e : Sort) (at k : ℕ) (t₀ t₁ : List ℕ) (room : R
     on-kids r post f l t q (okF ts q') ex eq =
         let et : node top ts ≡ t = cc in
         let z : k + 1 ≡ suc k = omega arith in
-        let c : m ≡ count ts = sym (many-count (kindsFor m a b) (readNode f s) p ts q' ex ∙ ap (λ (es : List Sort). length es) kinds ∙ sym (said .many)) in
+        let c : m ≡ count ts = sym (many-count (kindsFor m a b) (readNode f s) p ts q' ex ∙ ap
+              (λ (es : List Sort). length es) kinds ∙ sym (said .many)) in
         let y : p ≡ at + length (encHead top (count ts)) = sym (spanned .0 .long) ∙ ap (λ (i : ℕ). at + length (encHead top i)) c in
         post .table f l ts q' ex
         ∙ ap₂ (λ (i j : ℕ). sets (set t₀ k at) i (startsIn ts j)) z y
@@ -112,7 +113,8 @@ module _ (s : List ℕ) (n : ℕ) (a b : Bool) (at k : ℕ) (t₀ : List ℕ) wh
       table f l ts q eq = let et : nil ≡ ts = cc in ap (λ (u : Forest). sets t₀ k (startsIn u at)) et
 
   module _ (t₁ : List ℕ) (room : Room s at k) (some : n ≡ 0 → ⊥) (r₁ : NodeAnswer) (post : NodePost s (sortFor a) at k t₀ t₁ r₁) where
-    step : (f : ℕ) → readMany (kindsFor n a b) (readNode f s) at ≡ thenF (readNode f s (sortFor a) at) (λ q. readMany (kindsFor (n - 1) b b) (readNode f s) q)
+    step : (f : ℕ) → readMany (kindsFor n a b) (readNode f s) at ≡ thenF (readNode f s (sortFor a) at)
+        (λ q. readMany (kindsFor (n - 1) b b) (readNode f s) q)
     unfolding readMany
     step f =
         let z : n ≡ suc (n - 1) = omega arith in
@@ -125,7 +127,8 @@ module _ (s : List ℕ) (n : ℕ) (a b : Bool) (at k : ℕ) (t₀ : List ℕ) wh
         is-no : (f : ℕ) → length s < at + f → readMany (kindsFor n a b) (readNode f s) at ≡ noF c
         is-no f l =
             step f
-            ∙ ap (λ (x : Res). thenF x (λ q. readMany (kindsFor (n - 1) b b) (readNode f s) q)) (node-no (readNode f s (sortFor a) at) k c (sym ec ∙ post .answer f l))
+            ∙ ap (λ (x : Res). thenF x (λ q. readMany (kindsFor (n - 1) b b) (readNode f s) q))
+                (node-no (readNode f s (sortFor a) at) k c (sym ec ∙ post .answer f l))
 
     module _ (bs : Bytes s) (p j : ℕ) (ep : r₁ ≡ Ends p j) where
       first : (f : ℕ) → length s < at + f → (t : Tree) × (readNode f s (sortFor a) at ≡ ok t p) × (j ≡ k + nodes t)
@@ -145,7 +148,8 @@ module _ (s : List ℕ) (n : ℕ) (a b : Bool) (at k : ℕ) (t₀ : List ℕ) wh
       cons-more t (okF ts q) ej = let z : j + nodesIn ts ≡ k + (nodes t + nodesIn ts) = omega arith in ap (Ends q) z
       cons-more t (noF c) ej = refl
 
-      is-cons : (f : ℕ) (l : length s < at + f) → readMany (kindsFor n a b) (readNode f s) at ≡ consF (first f l .0) (readMany (kindsFor (n - 1) b b) (readNode f s) p)
+      is-cons : (f : ℕ) (l : length s < at + f) → readMany (kindsFor n a b) (readNode f s) at ≡ consF (first f l .0)
+          (readMany (kindsFor (n - 1) b b) (readNode f s) p)
       is-cons f l = step f ∙ ap (λ (x : Res). thenF x (λ q. readMany (kindsFor (n - 1) b b) (readNode f s) q)) (first f l .1)
 
       module _ (t₂ : List ℕ) (r : NodeAnswer) (rest : KidsPost s (kindsFor (n - 1) b b) p j t₁ t₂ r) where
@@ -174,5 +178,6 @@ module _ (s : List ℕ) (n : ℕ) (a b : Bool) (at k : ℕ) (t₀ : List ℕ) wh
                 ∙ cons-more (first f l .0) (readMany (kindsFor (n - 1) b b) (readNode f s) p) (first f l .2)
                 ∙ ap (kidsAnswer k) (sym (is-cons f l))
 
-            table : (f : ℕ) → length s < at + f → (ts : Forest) (q : ℕ) → readMany (kindsFor n a b) (readNode f s) at ≡ okF ts q → t₂ ≡ sets t₀ k (startsIn ts at)
+            table : (f : ℕ) → length s < at + f → (ts : Forest) (q : ℕ) → readMany (kindsFor n a b) (readNode f s) at ≡ okF ts q
+                → t₂ ≡ sets t₀ k (startsIn ts at)
             table f l ts q eq = on-rest f l ts q (readMany (kindsFor (n - 1) b b) (readNode f s) p) refl (sym (is-cons f l) ∙ eq)

@@ -80,12 +80,14 @@ module _ (s st nx : List ℕ) (k tag : ℕ) (pt : TagPost s st k tag) where
   pub junction-done : (tag ≡ 351) ⊎ (tag ≡ 352) → (lent : List ℕ) (r : Decision) → JunctionPost s st nx k lent r → NodePost s st nx k lent r
   junction-done key lent r p = record { long = p .long; means = λ t n Γ v tb f. ⊎-elim (conj t n Γ v tb f) (disj t n Γ v tb f) key }
     where
-      conj : (t : Tree) (n : ℕ) (Γ : Ctx) (v : Tree) → Table s t st nx n → find t [] k ≡ found Γ v → tag ≡ 351 → Means t v Γ lent r (simplifyPredicateNode v)
+      conj : (t : Tree) (n : ℕ) (Γ : Ctx) (v : Tree) → Table s t st nx n → find t [] k ≡ found Γ v → tag ≡ 351
+          → Means t v Γ lent r (simplifyPredicateNode v)
       conj t n Γ v tb f e =
           let o = any 351 v (sym (pt .tag t n Γ v (tb .framed) f) ∙ e) in
           rw (o .is, at-and (o .n) (o .us) (o .ks)) (p .conj t n Γ (o .n) (o .us) (o .ks) tb (f ∙ ap (found Γ) (o .is)))
 
-      disj : (t : Tree) (n : ℕ) (Γ : Ctx) (v : Tree) → Table s t st nx n → find t [] k ≡ found Γ v → tag ≡ 352 → Means t v Γ lent r (simplifyPredicateNode v)
+      disj : (t : Tree) (n : ℕ) (Γ : Ctx) (v : Tree) → Table s t st nx n → find t [] k ≡ found Γ v → tag ≡ 352
+          → Means t v Γ lent r (simplifyPredicateNode v)
       disj t n Γ v tb f e =
           let o = any 352 v (sym (pt .tag t n Γ v (tb .framed) f) ∙ e) in
           rw (o .is, at-or (o .n) (o .us) (o .ks)) (p .disj t n Γ (o .n) (o .us) (o .ks) tb (f ∙ ap (found Γ) (o .is)))
@@ -113,9 +115,11 @@ module _ (s st nx : List ℕ) (k tag : ℕ) (pt : TagPost s st k tag) where
     pub to-imp : tag ≡ 251 → (r : Decision) → DecidesTwo simplifyImp s st nx (k + 1) b r → DecidesOne simplifyPredicateNode s st nx k r
     unfolding simplifyPredicateNode onTag lookup classOf formAt
     to-imp key =
-        by-both s st nx k tag pt 251 key predicate predicate (λ x. refl) b eb (λ Γ. simplifyPredicateNode) (λ Γ. simplifyImp) (λ Γ n us v w. or-same (simplifyImp v w))
+        by-both s st nx k tag pt 251 key predicate predicate (λ x. refl) b eb (λ Γ. simplifyPredicateNode) (λ Γ. simplifyImp)
+            (λ Γ n us v w. or-same (simplifyImp v w))
 
     pub to-eqv : tag ≡ 252 → (r : Decision) → DecidesTwo simplifyEqv s st nx (k + 1) b r → DecidesOne simplifyPredicateNode s st nx k r
     unfolding simplifyPredicateNode onTag lookup classOf formAt
     to-eqv key =
-        by-both s st nx k tag pt 252 key predicate predicate (λ x. refl) b eb (λ Γ. simplifyPredicateNode) (λ Γ. simplifyEqv) (λ Γ n us v w. or-same (simplifyEqv v w))
+        by-both s st nx k tag pt 252 key predicate predicate (λ x. refl) b eb (λ Γ. simplifyPredicateNode) (λ Γ. simplifyEqv)
+            (λ Γ n us v w. or-same (simplifyEqv v w))

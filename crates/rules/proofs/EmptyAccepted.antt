@@ -10,10 +10,25 @@ use Rattle.frame.specs.Places.{Ctx}
 use Rattle.typing.specs.Typing.{element, typeOf}
 use Rattle.typing.specs.Accepted.{TysOk}
 use Rattle.typing.proofs.Derived.{push-all-ok}
-use Rattle.rules.specs.Equations.{¬ᵖ, _∈ᵖ_, _⊆_, ext, over, ∅, Subtracted, Empties, _≐∅, «SIMP_SETENUM_EQUAL_EMPTY», «SIMP_BINTER_SING_EQUAL_EMPTY», «SIMP_BINTER_SETMINUS_EQUAL_EMPTY», «SIMP_BUNION_EQUAL_EMPTY», «SIMP_SETMINUS_EQUAL_EMPTY», «SIMP_CPROD_EQUAL_EMPTY», «SIMP_UPTO_EQUAL_EMPTY», «SIMP_SREL_EQUAL_EMPTY», «SIMP_STREL_EQUAL_EMPTY», «SIMP_DOMRES_EQUAL_EMPTY», «SIMP_DOMSUB_EQUAL_EMPTY», «SIMP_RANRES_EQUAL_EMPTY», «SIMP_RANSUB_EQUAL_EMPTY», «SIMP_RELIMAGE_EQUAL_EMPTY», «SIMP_DPROD_EQUAL_EMPTY», «SIMP_PPROD_EQUAL_EMPTY», «SIMP_POW_EQUAL_EMPTY», «SIMP_POW1_EQUAL_EMPTY», «SIMP_KUNION_EQUAL_EMPTY», «SIMP_DOM_EQUAL_EMPTY», «SIMP_RAN_EQUAL_EMPTY», «SIMP_CONVERSE_EQUAL_EMPTY», «SIMP_FCOMP_EQUAL_EMPTY», «SIMP_BCOMP_EQUAL_EMPTY», «SIMP_OVERL_EQUAL_EMPTY», «SIMP_QUNION_EQUAL_EMPTY», «SIMP_NATURAL_EQUAL_EMPTY», «SIMP_NATURAL1_EQUAL_EMPTY», «SIMP_ID_EQUAL_EMPTY», «SIMP_PRJ1_EQUAL_EMPTY», «SIMP_PRJ2_EQUAL_EMPTY»}
+use Rattle.rules.specs.Equations.{
+  ¬ᵖ, _∈ᵖ_, _⊆_, ext, over, ∅, Subtracted, Empties, _≐∅, «SIMP_SETENUM_EQUAL_EMPTY», «SIMP_BINTER_SING_EQUAL_EMPTY»,
+  «SIMP_BINTER_SETMINUS_EQUAL_EMPTY», «SIMP_BUNION_EQUAL_EMPTY», «SIMP_SETMINUS_EQUAL_EMPTY», «SIMP_CPROD_EQUAL_EMPTY»,
+  «SIMP_UPTO_EQUAL_EMPTY», «SIMP_SREL_EQUAL_EMPTY», «SIMP_STREL_EQUAL_EMPTY», «SIMP_DOMRES_EQUAL_EMPTY»,
+  «SIMP_DOMSUB_EQUAL_EMPTY», «SIMP_RANRES_EQUAL_EMPTY», «SIMP_RANSUB_EQUAL_EMPTY», «SIMP_RELIMAGE_EQUAL_EMPTY»,
+  «SIMP_DPROD_EQUAL_EMPTY», «SIMP_PPROD_EQUAL_EMPTY», «SIMP_POW_EQUAL_EMPTY», «SIMP_POW1_EQUAL_EMPTY», «SIMP_KUNION_EQUAL_EMPTY»,
+  «SIMP_DOM_EQUAL_EMPTY», «SIMP_RAN_EQUAL_EMPTY», «SIMP_CONVERSE_EQUAL_EMPTY», «SIMP_FCOMP_EQUAL_EMPTY», «SIMP_BCOMP_EQUAL_EMPTY»,
+  «SIMP_OVERL_EQUAL_EMPTY», «SIMP_QUNION_EQUAL_EMPTY», «SIMP_NATURAL_EQUAL_EMPTY», «SIMP_NATURAL1_EQUAL_EMPTY»,
+  «SIMP_ID_EQUAL_EMPTY», «SIMP_PRJ1_EQUAL_EMPTY», «SIMP_PRJ2_EQUAL_EMPTY»
+}
 use Rattle.rules.proofs.Nodes.{Holds, Has, short, ok-of}
-use Rattle.rules.proofs.NewNodes.{short-member, false-holds, not-holds, gt-holds, in-holds, subset-holds, imp-holds, eqv-holds, and-two, or-two, forall-holds, empty-has, single-has, dom-has, ran-has, restrict-has, cap-two, over-cap, over-cup, is-empty}
-use Rattle.rules.proofs.OldNodes.{Operands, of-pow1, of-union, of-dom, of-ran, of-converse, of-single, of-minus, of-times, of-upto, of-srel, of-strel, of-domres, of-domsub, of-ranres, of-ransub, of-image, of-dprod, of-pprod, of-fcomp, of-bcomp, of-cap, of-cup, of-ovr, of-qunion}
+use Rattle.rules.proofs.NewNodes.{
+  short-member, false-holds, not-holds, gt-holds, in-holds, subset-holds, imp-holds, eqv-holds, and-two, or-two, forall-holds,
+  empty-has, single-has, dom-has, ran-has, restrict-has, cap-two, over-cap, over-cup, is-empty
+}
+use Rattle.rules.proofs.OldNodes.{
+  Operands, of-pow1, of-union, of-dom, of-ran, of-converse, of-single, of-minus, of-times, of-upto, of-srel, of-strel, of-domres,
+  of-domsub, of-ranres, of-ransub, of-image, of-dprod, of-pprod, of-fcomp, of-bcomp, of-cap, of-cup, of-ovr, of-qunion
+}
 use Rattle.rules.proofs.Operands.{count-without, subtracted-same, subtracted-fewer, every-mid, minuends, subtrahends, all-hold}
 
 module _ {σ : ℕ → Ty} {Γ : Ctx} where

@@ -13,14 +13,37 @@ use Rattle.frame.specs.Encoding.{encTy}
 use Rattle.typing.specs.Typing.{relation}
 use Rattle.typing.specs.TypeExpression.{toExpression}
 use Rattle.typing.specs.Accepted.{TysOk, Accepted}
-use Rattle.rules.specs.Equations.{fin, ∀ᵖ, ∃ᵖ, Equation, equal-type, equal-empty, «SIMP_SPECIAL_FINITE», «SIMP_FINITE_NATURAL», «SIMP_FINITE_NATURAL1», «SIMP_FINITE_INTEGER», «SIMP_FINITE_BOOL», «SIMP_FINITE_ID», «SIMP_FINITE_SETENUM», «SIMP_FINITE_BUNION», «SIMP_FINITE_POW», «DERIV_FINITE_CPROD», «SIMP_FINITE_CONVERSE», «SIMP_FINITE_UPTO», «SIMP_FINITE_LAMBDA», «SIMP_FINITE_ID_DOMRES», «SIMP_FINITE_PRJ1_DOMRES», «SIMP_FINITE_PRJ2_DOMRES», «SIMP_FINITE_PRJ1», «SIMP_FINITE_PRJ2», «SIMP_EMPTY_PARTITION», «SIMP_SINGLE_PARTITION», «SIMP_NOT_LE», «SIMP_NOT_GE», «SIMP_NOT_GT», «SIMP_NOT_LT», «SIMP_SPECIAL_NOT_EQUAL_FALSE_R», «SIMP_SPECIAL_NOT_EQUAL_TRUE_R», «SIMP_SPECIAL_NOT_EQUAL_FALSE_L», «SIMP_SPECIAL_NOT_EQUAL_TRUE_L», «SIMP_SPECIAL_AND_BFALSE/OR_BTRUE», «SIMP_MULTI_AND_NOT/OR_NOT», «SIMP_SPECIAL_AND_BTRUE/OR_BFALSE/MULTI_AND/OR/none», «SIMP_SPECIAL_AND_BTRUE/OR_BFALSE/MULTI_AND/OR/one», «SIMP_SPECIAL_AND_BTRUE/OR_BFALSE/MULTI_AND/OR», «SIMP_SPECIAL_IMP_BTRUE_L», «SIMP_SPECIAL_IMP_BFALSE_L», «SIMP_SPECIAL_IMP_BTRUE_R», «SIMP_SPECIAL_IMP_BFALSE_R», «SIMP_MULTI_IMP», «SIMP_MULTI_IMP_AND», «SIMP_MULTI_IMP_AND_NOT_R/L», «SIMP_MULTI_IMP_NOT_L», «SIMP_MULTI_IMP_NOT_R», «SIMP_SPECIAL_EQV_BTRUE/right», «SIMP_SPECIAL_EQV_BTRUE/left», «SIMP_MULTI_EQV», «SIMP_SPECIAL_EQV_BFALSE/right», «SIMP_SPECIAL_EQV_BFALSE/left», «SIMP_MULTI_EQV_NOT/right», «SIMP_MULTI_EQV_NOT/left», «SIMP_SPECIAL_NOT_BTRUE», «SIMP_SPECIAL_NOT_BFALSE», «SIMP_NOT_NOT», «SIMP_FORALL_AND», «SIMP_EXISTS_OR», «SIMP_EXISTS_IMP»}
+use Rattle.rules.specs.Equations.{
+  fin, ∀ᵖ, ∃ᵖ, Equation, equal-type, equal-empty, «SIMP_SPECIAL_FINITE», «SIMP_FINITE_NATURAL», «SIMP_FINITE_NATURAL1»,
+  «SIMP_FINITE_INTEGER», «SIMP_FINITE_BOOL», «SIMP_FINITE_ID», «SIMP_FINITE_SETENUM», «SIMP_FINITE_BUNION», «SIMP_FINITE_POW»,
+  «DERIV_FINITE_CPROD», «SIMP_FINITE_CONVERSE», «SIMP_FINITE_UPTO», «SIMP_FINITE_LAMBDA», «SIMP_FINITE_ID_DOMRES»,
+  «SIMP_FINITE_PRJ1_DOMRES», «SIMP_FINITE_PRJ2_DOMRES», «SIMP_FINITE_PRJ1», «SIMP_FINITE_PRJ2», «SIMP_EMPTY_PARTITION»,
+  «SIMP_SINGLE_PARTITION», «SIMP_NOT_LE», «SIMP_NOT_GE», «SIMP_NOT_GT», «SIMP_NOT_LT», «SIMP_SPECIAL_NOT_EQUAL_FALSE_R»,
+  «SIMP_SPECIAL_NOT_EQUAL_TRUE_R», «SIMP_SPECIAL_NOT_EQUAL_FALSE_L», «SIMP_SPECIAL_NOT_EQUAL_TRUE_L»,
+  «SIMP_SPECIAL_AND_BFALSE/OR_BTRUE», «SIMP_MULTI_AND_NOT/OR_NOT», «SIMP_SPECIAL_AND_BTRUE/OR_BFALSE/MULTI_AND/OR/none»,
+  «SIMP_SPECIAL_AND_BTRUE/OR_BFALSE/MULTI_AND/OR/one», «SIMP_SPECIAL_AND_BTRUE/OR_BFALSE/MULTI_AND/OR»,
+  «SIMP_SPECIAL_IMP_BTRUE_L», «SIMP_SPECIAL_IMP_BFALSE_L», «SIMP_SPECIAL_IMP_BTRUE_R», «SIMP_SPECIAL_IMP_BFALSE_R»,
+  «SIMP_MULTI_IMP», «SIMP_MULTI_IMP_AND», «SIMP_MULTI_IMP_AND_NOT_R/L», «SIMP_MULTI_IMP_NOT_L», «SIMP_MULTI_IMP_NOT_R»,
+  «SIMP_SPECIAL_EQV_BTRUE/right», «SIMP_SPECIAL_EQV_BTRUE/left», «SIMP_MULTI_EQV», «SIMP_SPECIAL_EQV_BFALSE/right»,
+  «SIMP_SPECIAL_EQV_BFALSE/left», «SIMP_MULTI_EQV_NOT/right», «SIMP_MULTI_EQV_NOT/left», «SIMP_SPECIAL_NOT_BTRUE»,
+  «SIMP_SPECIAL_NOT_BFALSE», «SIMP_NOT_NOT», «SIMP_FORALL_AND», «SIMP_EXISTS_OR», «SIMP_EXISTS_IMP»
+}
 use Rattle.rules.proofs.Nodes.{Is, Holds, Has, holds, short}
-use Rattle.rules.proofs.NewNodes.{short-dom, true-holds, false-holds, not-holds, finite-holds, equal-holds, lt-holds, le-holds, gt-holds, ge-holds, imp-holds, and-two, or-holds, forall-holds, exists-holds, true-has, false-has, set-has, type-has, is-empty}
-use Rattle.rules.proofs.OldNodes.{of-not, of-finite, of-lt, of-le, of-gt, of-ge, of-imp, of-eqv, of-and, of-or, of-forall, of-exists, of-part, of-parts, beside-false, beside-true, after-false, after-true, of-pow, of-converse, of-times, of-domres, of-cup, of-set, of-maplet, of-carried}
+use Rattle.rules.proofs.NewNodes.{
+  short-dom, true-holds, false-holds, not-holds, finite-holds, equal-holds, lt-holds, le-holds, gt-holds, ge-holds, imp-holds,
+  and-two, or-holds, forall-holds, exists-holds, true-has, false-has, set-has, type-has, is-empty
+}
+use Rattle.rules.proofs.OldNodes.{
+  of-not, of-finite, of-lt, of-le, of-gt, of-ge, of-imp, of-eqv, of-and, of-or, of-forall, of-exists, of-part, of-parts,
+  beside-false, beside-true, after-false, after-true, of-pow, of-converse, of-times, of-domres, of-cup, of-set, of-maplet,
+  of-carried
+}
 use Rattle.rules.proofs.Operands.{all-hold, some-hold}
 use Rattle.rules.proofs.EmptyAccepted.{empties-holds}
 use Rattle.rules.proofs.TypeAccepted.{fills-holds}
-use Rattle.rules.proofs.LogicAccepted.{opposite-holds, neutral-holds, absorbing-holds, junction-operands, junction-holds, kept-holds, kept-operands, emptied, filled}
+use Rattle.rules.proofs.LogicAccepted.{
+  opposite-holds, neutral-holds, absorbing-holds, junction-operands, junction-holds, kept-holds, kept-operands, emptied, filled
+}
 
 module _ {σ : ℕ → Ty} {Γ : Ctx} where
   -- ---- finite(..)
@@ -75,7 +98,8 @@ module _ {σ : ℕ → Ty} {Γ : Ctx} where
     equation-holds («SIMP_MULTI_AND_NOT/OR_NOT» g n d ps q j a b) h = absorbing-holds j
     equation-holds («SIMP_SPECIAL_AND_BTRUE/OR_BFALSE/MULTI_AND/OR/none» g n d ps j x) h = neutral-holds j
     equation-holds («SIMP_SPECIAL_AND_BTRUE/OR_BFALSE/MULTI_AND/OR/one» g n d ps p j x) h = kept-holds x (junction-operands ps j h) .0
-    equation-holds («SIMP_SPECIAL_AND_BTRUE/OR_BFALSE/MULTI_AND/OR» g n d ps p q qs j x c) h = junction-holds (cons p (cons q qs)) j (kept-operands ps p q qs x (junction-operands ps j h))
+    equation-holds («SIMP_SPECIAL_AND_BTRUE/OR_BFALSE/MULTI_AND/OR» g n d ps p q qs j x c) h = junction-holds (cons p (cons q qs)) j
+        (kept-operands ps p q qs x (junction-operands ps j h))
     equation-holds («SIMP_SPECIAL_IMP_BTRUE_L» p) h = of-imp h .1
     equation-holds («SIMP_SPECIAL_IMP_BFALSE_L» p) h = true-holds
     equation-holds («SIMP_SPECIAL_IMP_BTRUE_R» p) h = true-holds
@@ -102,5 +126,6 @@ module _ {σ : ℕ → Ty} {Γ : Ctx} where
         let y = of-imp (x .1) in
         imp-holds (forall-holds (x .0) (y .0)) (exists-holds (x .0) (y .1))
 
-pub equation-accepted : (σ : ℕ → Ty) (Γ : Ctx) (place : ℕ) (l r : Tree) → TysOk σ Γ → Equation Γ place l r → Accepted σ l Γ predicate → Accepted σ r Γ predicate
+pub equation-accepted : (σ : ℕ → Ty) (Γ : Ctx) (place : ℕ) (l r : Tree) → TysOk σ Γ → Equation Γ place l r → Accepted σ l Γ predicate
+    → Accepted σ r Γ predicate
 equation-accepted σ Γ place l r ok e a = equation-holds ok e (holds σ l Γ a) .accepted

@@ -16,7 +16,9 @@ use Rattle.frame.specs.Sameness.{sameTree}
 use Rattle.frame.proofs.Inversion.{true-not}
 use Rattle.frame.proofs.SameTrees.{same-tree}
 use Rattle.rules.specs.Change.{isTag, contains}
-use Rattle.rules.specs.Simplify.{soleOr, makeNeg, Verdict, drops, keeps, decides, verdict, Kept, kept, decided, afterVerdict, scan, finish, simplifyAssocPred}
+use Rattle.rules.specs.Simplify.{
+  soleOr, makeNeg, Verdict, drops, keeps, decides, verdict, Kept, kept, decided, afterVerdict, scan, finish, simplifyAssocPred
+}
 use Rattle.rules.specs.Equations
 use Rattle.rules.specs.Equations.{Equation, Among, Junction, conjunction, disjunction, Dropped, Opposite, ¬ᵖ}
 use Rattle.rules.proofs.Operands.{append-nil, append-assoc}
@@ -30,7 +32,8 @@ make-opposite {p = node (head g n ts) ks} a = go (eqb g #Not) refl
     restored : (s : Tree) (ls : Forest) (x : Tree) → s ≡ ¬ᵖ x → ls ≡ sole x → Opposite s (soleOr (one #Not s) ls)
     restored s ls x e q = rw (q, e) (Opposite.restored x)
 
-    go : (b : Bool) → eqb g #Not ≡ b → Opposite (node (head g n ts) ks) (pick b (soleOr (one #Not (node (head g n ts) ks)) ks) (one #Not (node (head g n ts) ks)))
+    go : (b : Bool) → eqb g #Not ≡ b → Opposite (node (head g n ts) ks)
+        (pick b (soleOr (one #Not (node (head g n ts) ks)) ks) (one #Not (node (head g n ts) ks)))
     go true h = let w = is-one #Not a h refl in restored (node (head g n ts) ks) ks (w .0) (w .1) (cc (w .1))
     go false h = Opposite.negated (node (head g n ts) ks)
 
@@ -94,7 +97,8 @@ module _ (σ : ℕ → Ty) (Γ : Ctx) (n d : ℕ) (hn : fixed 0 0 (formOf n .lay
       third true e = inr (contains-among c out e)
       third false e = tt
 
-      second : (b b′ : Bool) → isTag d c ≡ b → contains (makeNeg c) out ≡ b′ → Says n d out c (pick (b || b′) decides (pick (contains c out) drops keeps))
+      second : (b b′ : Bool) → isTag d c ≡ b → contains (makeNeg c) out ≡ b′
+          → Says n d out c (pick (b || b′) decides (pick (contains c out) drops keeps))
       second true b′ e e′ = inl (is-leaf d a e hd)
       second false true e e′ = inr (contains-among (makeNeg c) out e′)
       second false false e e′ = third (contains c out) refl
@@ -104,7 +108,8 @@ module _ (σ : ℕ → Ty) (Γ : Ctx) (n d : ℕ) (hn : fixed 0 0 (formOf n .lay
       first true e = inl (is-leaf n a e hn)
       first false e = second (isTag d c) (contains (makeNeg c) out) refl refl
 
-  decided-by : (out : Forest) (c : Tree) (cs : Forest) → Ok σ Γ c → (c ≡ leaf d) ⊎ Among (makeNeg c) out → Scanned n d (append out (cons c cs)) decided
+  decided-by : (out : Forest) (c : Tree) (cs : Forest) → Ok σ Γ c → (c ≡ leaf d) ⊎ Among (makeNeg c) out
+      → Scanned n d (append out (cons c cs)) decided
   decided-by out c cs a (inl e) = inl (among-at (leaf d) out c cs (sym e))
   decided-by out c cs a (inr m) =
       inr (opposed (append out (cons c cs)) (make-opposite a) (among-at c out c cs refl) (among-left (makeNeg c) out (cons c cs) m))
@@ -131,7 +136,9 @@ finish-instance {g} {n} {d} j m ps c decided (inr h) = gives (Equations.«SIMP_M
 finish-instance {g} {n} {d} j m ps c (kept nil) h = gives (Equations.«SIMP_SPECIAL_AND_BTRUE/OR_BFALSE/MULTI_AND/OR/none» g n d ps j h)
 finish-instance {g} {n} {d} j m ps c (kept (cons a nil)) h = gives (Equations.«SIMP_SPECIAL_AND_BTRUE/OR_BFALSE/MULTI_AND/OR/one» g n d ps a j h)
 finish-instance {g} {n} {d} j m ps c (kept (cons a (cons b ks))) h =
-    by-test (not (eqb (count (cons a (cons b ks))) m)) (λ i. gives (Equations.«SIMP_SPECIAL_AND_BTRUE/OR_BFALSE/MULTI_AND/OR» g n d ps a b ks j h (λ e. other-count (count (cons a (cons b ks))) m i (e ∙ sym c))))
+    by-test (not (eqb (count (cons a (cons b ks))) m)) (λ i. gives
+          (Equations.«SIMP_SPECIAL_AND_BTRUE/OR_BFALSE/MULTI_AND/OR» g n d ps a b ks j h
+            (λ e. other-count (count (cons a (cons b ks))) m i (e ∙ sym c))))
 
 pub junction-instance : (σ : ℕ → Ty) (Γ : Ctx) {g n d : ℕ} → Junction g n d → (ks : Forest) → OkAll σ Γ ks
     → Is (λ p u. Equation Γ p (many g ks) u) (simplifyAssocPred g n d ks)

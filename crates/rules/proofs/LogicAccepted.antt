@@ -9,7 +9,9 @@ use Rattle.frame.specs.Trees.{Tree, Forest, cons, leaf, many}
 use Rattle.frame.specs.Tags.{predicate, expression, classOf, lookup, formAt}
 use Rattle.frame.specs.Places.{Ctx}
 use Rattle.typing.specs.Accepted.{Accepted}
-use Rattle.rules.specs.Equations.{Junction, conjunction, disjunction, Dropped, Opposite, negated, restored, Emptiness, is-∅, in-∅, ∅-is, Fullness, is-Ty, Ty-is}
+use Rattle.rules.specs.Equations.{
+  Junction, conjunction, disjunction, Dropped, Opposite, negated, restored, Emptiness, is-∅, in-∅, ∅-is, Fullness, is-Ty, Ty-is
+}
 use Rattle.rules.proofs.Nodes.{Is, Holds, Has, Each}
 use Rattle.rules.proofs.NewNodes.{true-holds, false-holds, not-holds, and-holds, or-holds}
 use Rattle.rules.proofs.OldNodes.{Operands, of-not, of-equal, of-subset, of-and, of-or}

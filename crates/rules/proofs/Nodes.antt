@@ -12,7 +12,15 @@ use lib.Dec.{leb, eqb, lit<}
 use borrow.Author.Tests.{leb-true, le-leb}
 use Rattle.frame.specs.Types.{Ty, bool}
 use Rattle.frame.specs.Trees.{head, Tree, node, Forest, nil, cons, count}
-use Rattle.frame.specs.Tags.{pick, Sort, predicate, expression, Layout, these, counted, binding, Form, classOf, formAt, formOf, sortsOf, repeat, Class, literalPred, equality, order, membership, inclusion, binaryPred, associativePred, negation, quantifiedPred, finite, partition, identifier, bound, literal, setExtension, maplet, relationSet, setMinus, cartesian, directProduct, parallelProduct, domainRestriction, rangeRestriction, upTo, arithmetic, functionImage, relationalImage, setOperation, backwardComposition, forwardComposition, override, sum, integerSet, boolSet, truthValue, integerRelation, emptySet, projection1, projection2, identity, boolExpr, cardinal, powerset, generalised, domain, range, extremum, converse, unaryMinus, quantifiedSet, comprehension, unlisted}
+use Rattle.frame.specs.Tags.{
+  pick, Sort, predicate, expression, Layout, these, counted, binding, Form, classOf, formAt, formOf, sortsOf, repeat, Class,
+  literalPred, equality, order, membership, inclusion, binaryPred, associativePred, negation, quantifiedPred, finite, partition,
+  identifier, bound, literal, setExtension, maplet, relationSet, setMinus, cartesian, directProduct, parallelProduct,
+  domainRestriction, rangeRestriction, upTo, arithmetic, functionImage, relationalImage, setOperation, backwardComposition,
+  forwardComposition, override, sum, integerSet, boolSet, truthValue, integerRelation, emptySet, projection1, projection2,
+  identity, boolExpr, cardinal, powerset, generalised, domain, range, extremum, converse, unaryMinus, quantifiedSet,
+  comprehension, unlisted
+}
 use Rattle.frame.specs.Encoding.{encTy}
 use Rattle.frame.specs.Places.{Ctx, under}
 use Rattle.frame.specs.WellFormed.{TysWf, numberIn}
@@ -121,7 +129,8 @@ module _ {σ : ℕ → Ty} {Γ : Ctx} where
   unfolding Accepted typeOf
   are-none = record { accepted = tt; types = refl }
 
-  pub are-more : {e : Sort} {es : List Sort} {t : Ty} {ts : List Ty} {a : Tree} {ks : Forest} → Is σ Γ e a t → Are σ Γ ks es ts → Are σ Γ (cons a ks) (e ∷ es) (t ∷ ts)
+  pub are-more : {e : Sort} {es : List Sort} {t : Ty} {ts : List Ty} {a : Tree} {ks : Forest} → Is σ Γ e a t → Are σ Γ ks es ts
+      → Are σ Γ (cons a ks) (e ∷ es) (t ∷ ts)
   unfolding Accepted typeOf
   are-more h k = record { accepted = (h .accepted, k .accepted); types = ap₂ _∷_ (h .type) (k .types) }
 
@@ -139,7 +148,8 @@ module _ {σ : ℕ → Ty} {Γ : Ctx} where
   unfolding Accepted typeOf
   others h = let p = h .types in record { accepted = h .accepted .1; types = cc }
 
-  pub kid₁ : {e f : Sort} {es : List Sort} {t u : Ty} {ts : List Ty} {a b : Tree} {ks : Forest} → Are σ Γ (cons a (cons b ks)) (e ∷ f ∷ es) (t ∷ u ∷ ts) → Is σ Γ f b u
+  pub kid₁ : {e f : Sort} {es : List Sort} {t u : Ty} {ts : List Ty} {a b : Tree} {ks : Forest}
+      → Are σ Γ (cons a (cons b ks)) (e ∷ f ∷ es) (t ∷ u ∷ ts) → Is σ Γ f b u
   kid₁ h = kid₀ (others h)
 
   pub each-of : (e : Sort) (t : Ty) (ks : Forest) → Are σ Γ ks (repeat e (count ks)) (alike t (typesIn ks Γ)) → Each σ Γ e t ks
@@ -184,8 +194,8 @@ pub record Binders (σ : ℕ → Ty) (us : List Ty) : Type 0 where
   pub types : TysOk σ us
 
 module _ {σ : ℕ → Ty} {Γ : Ctx} {e : Sort} (g k : ℕ) (small : g < 65536) where
-  pub these-head : {es : List Sort} → formOf g ≡ row e (these es) → indexBound g 0 Γ ≡ true → pick {X = Type 0} (eqb g identTag) (bool ≡ σ 0) (Unit {0})
-      → bool ≡ shape g bool → HeadOk σ Γ e g 0 [] k
+  pub these-head : {es : List Sort} → formOf g ≡ row e (these es) → indexBound g 0 Γ ≡ true
+      → pick {X = Type 0} (eqb g identTag) (bool ≡ σ 0) (Unit {0}) → bool ≡ shape g bool → HeadOk σ Γ e g 0 [] k
   these-head f i m s =
       record {
         formed = record { small = small; listed = rw f; sort = rw f; fits = rw f (lit< tt); own = rw f; range = rw f; many = rw f; types = tt };
@@ -200,7 +210,8 @@ module _ {σ : ℕ → Ty} {Γ : Ctx} {e : Sort} (g k : ℕ) (small : g < 65536)
   counted-head f i m s l h b =
       record {
         formed =
-            record { small = small; listed = rw f; sort = rw f; fits = rw f (omega arith); own = rw f; range = rw f (between l h); many = rw f; types = tt };
+            record { small = small; listed = rw f; sort = rw f; fits = rw f (omega arith); own = rw f; range = rw f
+                  (between l h); many = rw f; types = tt };
         indexed = i;
         named = m;
         types = tt;
@@ -213,7 +224,8 @@ module _ {σ : ℕ → Ty} {Γ : Ctx} {e : Sort} (g k : ℕ) (small : g < 65536)
   binding-head f i m s b =
       record {
         formed =
-            record { small = small; listed = rw f; sort = rw f; fits = rw f (omega arith); own = rw f; range = rw f (between (b .some) (b .few)); many = rw f; types = b .formed };
+            record { small = small; listed = rw f; sort = rw f; fits = rw f (omega arith); own = rw f; range = rw f
+                  (between (b .some) (b .few)); many = rw f; types = b .formed };
         indexed = i;
         named = m;
         types = b .types;

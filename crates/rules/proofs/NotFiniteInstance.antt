@@ -11,7 +11,10 @@ use borrow.Author.Tests.{eqb-true, eqb-false}
 use Rattle.frame.specs.Types.{Ty}
 use Rattle.frame.specs.Trees.{Tree, Forest, nil, cons, leaf, two, many, bodied}
 use Rattle.frame.specs.Tags.{classOf, lookup, formAt}
-use Rattle.frame.specs.Operators.{#SetExt, #Equal, #Lt, #Le, #Gt, #Ge, #Mapsto, #CProd, #DomRes, #UpTo, #BUnion, #Integer, #Natural, #Natural1, #Bool, #True, #False, #EmptySet, #KPrj1Gen, #KPrj2Gen, #KIdGen, #BFalse, #Not, #Pow, #Converse, #CSet, #Partition}
+use Rattle.frame.specs.Operators.{
+  #SetExt, #Equal, #Lt, #Le, #Gt, #Ge, #Mapsto, #CProd, #DomRes, #UpTo, #BUnion, #Integer, #Natural, #Natural1, #Bool, #True,
+  #False, #EmptySet, #KPrj1Gen, #KPrj2Gen, #KIdGen, #BFalse, #Not, #Pow, #Converse, #CSet, #Partition
+}
 use Rattle.frame.specs.Places.{Ctx, push}
 use Rattle.frame.proofs.Booleans.{both-true, or-then}
 use Rattle.typing.specs.Typing.{source, first, second}
@@ -21,7 +24,10 @@ use Rattle.rules.specs.Finite.{uses, recovers, functionalCheck, finiteLa
 use Rattle.rules.specs.Equations
 use Rattle.rules.specs.Equations.{Equation, fin, ¬ᵖ, _≐_}
 use Rattle.rules.proofs.Recovery.{occurs-used, recovered-leaf}
-use Rattle.rules.proofs.Shapes.{Is, gives, nothing, or-else, by-test, either, Ok, on-many, on-two, on-one, on-typed, on-bodied, is-leaf, is-many, is-two, is-typed}
+use Rattle.rules.proofs.Shapes.{
+  Is, gives, nothing, or-else, by-test, either, Ok, on-many, on-two, on-one, on-typed, on-bodied, is-leaf, is-many, is-two,
+  is-typed
+}
 
 -- ---- ¬
 not-equal : {σ : ℕ → Ty} {Γ : Ctx} {x y : Tree} → Ok σ Γ x → Ok σ Γ y

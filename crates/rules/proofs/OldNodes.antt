@@ -10,7 +10,11 @@ use lib.Dec.{leb}
 use Rattle.frame.specs.Types.{Ty, bool, int, pow, prod}
 use Rattle.frame.specs.Trees.{Tree, Forest, count, leaf, one, two, many, typed, sole, pair, bodied}
 use Rattle.frame.specs.Tags.{Sort, predicate, expression, repeat, classOf, lookup, formAt}
-use Rattle.frame.specs.Operators.{#Lt, #Le, #Gt, #Ge, #Mapsto, #SRel, #STRel, #SetMinus, #CProd, #DProd, #PProd, #DomRes, #DomSub, #RanRes, #RanSub, #UpTo, #RelImage, #BUnion, #BComp, #FComp, #Ovr, #True, #False, #Pow, #Pow1, #KUnion, #KInter, #Converse, #QUnion, #QInter, #CSet, #Partition}
+use Rattle.frame.specs.Operators.{
+  #Lt, #Le, #Gt, #Ge, #Mapsto, #SRel, #STRel, #SetMinus, #CProd, #DProd, #PProd, #DomRes, #DomSub, #RanRes, #RanSub, #UpTo,
+  #RelImage, #BUnion, #BComp, #FComp, #Ovr, #True, #False, #Pow, #Pow1, #KUnion, #KInter, #Converse, #QUnion, #QInter, #CSet,
+  #Partition
+}
 use Rattle.frame.specs.Encoding.{encTy}
 use Rattle.frame.specs.Places.{Ctx, push}
 use Rattle.typing.specs.Typing.{alike, element, source, target, relation, ty, typeOf, typesIn}
@@ -31,11 +35,12 @@ pub record Body (σ : ℕ → Ty) (Γ : Ctx) (xs : List Ty) (p e : Tree) (t : Ty
   pub expr : Has σ (push xs Γ) e t
 
 -- ---- out of the range of a node's number
-operands : {σ : ℕ → Ty} {Γ : Ctx} (e : Sort) (t : Ty) (ks : Forest) → leb 2 (count ks) && leb (count ks) 255 ≡ true → Are σ Γ ks (repeat e (count ks)) (alike t (typesIn ks Γ))
-    → Operands σ Γ e t ks
+operands : {σ : ℕ → Ty} {Γ : Ctx} (e : Sort) (t : Ty) (ks : Forest) → leb 2 (count ks) && leb (count ks) 255 ≡ true
+    → Are σ Γ ks (repeat e (count ks)) (alike t (typesIn ks Γ)) → Operands σ Γ e t ks
 operands e t ks h a = let r = within 2 255 (count ks) h in record { some = r .0; few = r .1; each = each-of e t ks a }
 
-bound : {σ : ℕ → Ty} {Γ : Ctx} {e : Sort} {g k : ℕ} {xs : List Ty} → HeadOk σ Γ e g 0 xs k → leb 1 (length xs) && leb (length xs) 32 ≡ true → Binders σ xs
+bound : {σ : ℕ → Ty} {Γ : Ctx} {e : Sort} {g k : ℕ} {xs : List Ty} → HeadOk σ Γ e g 0 xs k
+    → leb 1 (length xs) && leb (length xs) 32 ≡ true → Binders σ xs
 bound {xs} a h = let r = within 1 32 (length xs) h in record { some = r .0; few = r .1; formed = a .formed .types; types = a .types }
 
 module _ {σ : ℕ → Ty} {Γ : Ctx} where
@@ -245,11 +250,13 @@ module _ {σ : ℕ → Ty} {Γ : Ctx} where
   -- ---- binders
   pub of-qunion : {xs : List Ty} {p e : Tree} {t : Ty} → Has σ Γ (bodied #QUnion xs p e) t → (u : Ty) × Body σ Γ xs p e (pow u)
   unfolding classOf lookup formAt typeOf
-  of-qunion {xs} {p} {e} h = (element (typeOf e (push xs Γ)), record { binders = bound (top h) (top h .formed .range); pred = kid₀ (opened h); expr = kid₁ (opened h) })
+  of-qunion {xs} {p} {e} h = (element (typeOf e (push xs Γ)), record
+        { binders = bound (top h) (top h .formed .range); pred = kid₀ (opened h); expr = kid₁ (opened h) })
 
   pub of-qinter : {xs : List Ty} {p e : Tree} {t : Ty} → Has σ Γ (bodied #QInter xs p e) t → (u : Ty) × Body σ Γ xs p e (pow u)
   unfolding classOf lookup formAt typeOf
-  of-qinter {xs} {p} {e} h = (element (typeOf e (push xs Γ)), record { binders = bound (top h) (top h .formed .range); pred = kid₀ (opened h); expr = kid₁ (opened h) })
+  of-qinter {xs} {p} {e} h = (element (typeOf e (push xs Γ)), record
+        { binders = bound (top h) (top h .formed .range); pred = kid₀ (opened h); expr = kid₁ (opened h) })
 
   pub of-set : {xs : List Ty} {p e : Tree} {t : Ty} → Has σ Γ (bodied #CSet xs p e) t → (u : Ty) × (t ≡ pow u) × Body σ Γ xs p e u
   unfolding classOf lookup formAt typeOf

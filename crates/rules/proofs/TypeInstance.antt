@@ -5,7 +5,9 @@ use mathlib.Core.Path.{refl}
 use Rattle.frame.specs.Types.{Ty}
 use Rattle.frame.specs.Trees.{Tree}
 use Rattle.frame.specs.Tags.{classOf, lookup, formAt}
-use Rattle.frame.specs.Operators.{#SetMinus, #CProd, #DProd, #PProd, #DomRes, #DomSub, #RanRes, #RanSub, #UpTo, #BInter, #LAnd, #KInter, #Converse, #QInter}
+use Rattle.frame.specs.Operators.{
+  #SetMinus, #CProd, #DProd, #PProd, #DomRes, #DomSub, #RanRes, #RanSub, #UpTo, #BInter, #LAnd, #KInter, #Converse, #QInter
+}
 use Rattle.frame.specs.Places.{Ctx}
 use Rattle.typing.specs.Typing.{typeOf}
 use Rattle.rules.specs.EqualsType.{isType, rewriteEqualsType}

@@ -5,7 +5,10 @@ use mathlib.Core.List.{List, [], _∷_, map}
 use Rattle.frame.specs.Types.{bool, pow}
 use Rattle.frame.specs.Trees.{head, Tree, node, nil, leaf, one, two, many, typed, sole, pair, bodied}
 use Rattle.frame.specs.Tags.{lookup, classOf, formAt}
-use Rattle.frame.specs.Operators.{#FreeIdent, #BoundIdent, #SetExt, #Equal, #In, #SubsetEq, #Mapsto, #SetMinus, #BUnion, #BInter, #True, #False, #EmptySet, #LImp, #LEqv, #LAnd, #BTrue, #BFalse, #Not, #Finite, #CSet}
+use Rattle.frame.specs.Operators.{
+  #FreeIdent, #BoundIdent, #SetExt, #Equal, #In, #SubsetEq, #Mapsto, #SetMinus, #BUnion, #BInter, #True, #False, #EmptySet, #LImp,
+  #LEqv, #LAnd, #BTrue, #BFalse, #Not, #Finite, #CSet
+}
 use Rattle.frame.specs.Sameness.{sameTy, sameTys, sameTree}
 use Rattle.typing.specs.Typing.{typeOf}
 use Rattle.typing.specs.TypeExpression.{toExpression}
@@ -84,5 +87,7 @@ abbrev expected : Case → Change
 expected (case t c) = c
 
 source-order : map (λ (c : Case). dispatch [] (predicateIn c)) cases ≡ map expected cases
-unfolding lookup classOf formAt sameTy sameTys sameTree typeOf toExpression onTag contains makeNeg verdict scan simplifyAssocPred simplifyPredicateNode rewriteNot rewritePartition uses recovers functionalCheck rewriteFinite anySingle firstSingle anyMinus minuends subtrahends interEmpty rewriteEqualsEmptySet rewriteEqualsType dispatch cases
+unfolding lookup classOf formAt sameTy sameTys sameTree typeOf toExpression onTag contains makeNeg verdict scan simplifyAssocPred
+    simplifyPredicateNode rewriteNot rewritePartition uses recovers functionalCheck rewriteFinite anySingle firstSingle anyMinus minuends
+    subtrahends interEmpty rewriteEqualsEmptySet rewriteEqualsType dispatch cases
 source-order = refl

@@ -3,7 +3,11 @@ use mathlib.Core.Bool.{Bool, true, false, not, _||_}
 use lib.Dec.{eqb}
 use Rattle.frame.specs.Trees.{head, Tree, node, Forest, nil, cons, count, leaf, one, two, many, typed, sole, pair, quantified, mapF}
 use Rattle.frame.specs.Tags.{pick}
-use Rattle.frame.specs.Operators.{#SetExt, #In, #Gt, #SubsetEq, #SRel, #STRel, #SetMinus, #CProd, #DProd, #PProd, #DomRes, #DomSub, #RanRes, #RanSub, #UpTo, #RelImage, #LImp, #LEqv, #BUnion, #BInter, #BComp, #FComp, #Ovr, #LAnd, #LOr, #Natural, #Natural1, #EmptySet, #KPrj1Gen, #KPrj2Gen, #KIdGen, #BFalse, #Not, #Pow, #Pow1, #KUnion, #KDom, #KRan, #Converse, #QUnion, #Forall}
+use Rattle.frame.specs.Operators.{
+  #SetExt, #In, #Gt, #SubsetEq, #SRel, #STRel, #SetMinus, #CProd, #DProd, #PProd, #DomRes, #DomSub, #RanRes, #RanSub, #UpTo,
+  #RelImage, #LImp, #LEqv, #BUnion, #BInter, #BComp, #FComp, #Ovr, #LAnd, #LOr, #Natural, #Natural1, #EmptySet, #KPrj1Gen,
+  #KPrj2Gen, #KIdGen, #BFalse, #Not, #Pow, #Pow1, #KUnion, #KDom, #KRan, #Converse, #QUnion, #Forall
+}
 use Rattle.frame.specs.Places.{Ctx, push}
 use Rattle.typing.specs.Typing.{typeOf}
 use Rattle.rules.specs.Change.{Change, to, same, _orElse_, when, isTag, onTag, unary, binary, binderSet, joined}

@@ -13,7 +13,12 @@ use lib.ListN.{length}
 use Rattle.frame.specs.Types.{Ty, prod}
 use Rattle.frame.specs.Trees.{head, Tree, node, Forest, nil, cons, count, leaf, one, two, many, typed, sole, pair, quantified, bodied, append, mapF}
 use Rattle.frame.specs.Tags.{formOf, bindersOf}
-use Rattle.frame.specs.Operators.{#BoundIdent, #SetExt, #Equal, #Lt, #Le, #Gt, #Ge, #In, #SubsetEq, #Mapsto, #SRel, #STRel, #SetMinus, #CProd, #DProd, #PProd, #DomRes, #DomSub, #RanRes, #RanSub, #UpTo, #RelImage, #LImp, #LEqv, #BUnion, #BInter, #BComp, #FComp, #Ovr, #LAnd, #LOr, #Integer, #Natural, #Natural1, #Bool, #True, #False, #EmptySet, #KPrj1Gen, #KPrj2Gen, #KIdGen, #BTrue, #BFalse, #Finite, #Not, #Pow, #Pow1, #KUnion, #KInter, #KDom, #KRan, #Converse, #QUnion, #QInter, #CSet, #Forall, #Exists, #Partition}
+use Rattle.frame.specs.Operators.{
+  #BoundIdent, #SetExt, #Equal, #Lt, #Le, #Gt, #Ge, #In, #SubsetEq, #Mapsto, #SRel, #STRel, #SetMinus, #CProd, #DProd, #PProd,
+  #DomRes, #DomSub, #RanRes, #RanSub, #UpTo, #RelImage, #LImp, #LEqv, #BUnion, #BInter, #BComp, #FComp, #Ovr, #LAnd, #LOr,
+  #Integer, #Natural, #Natural1, #Bool, #True, #False, #EmptySet, #KPrj1Gen, #KPrj2Gen, #KIdGen, #BTrue, #BFalse, #Finite, #Not,
+  #Pow, #Pow1, #KUnion, #KInter, #KDom, #KRan, #Converse, #QUnion, #QInter, #CSet, #Forall, #Exists, #Partition
+}
 use Rattle.frame.specs.Places.{Ctx, push}
 use Rattle.typing.specs.Typing.{typeOf, element, relation}
 use Rattle.typing.specs.TypeExpression.{toExpression}
@@ -111,8 +116,10 @@ pub data Junction : ℕ → ℕ → ℕ → Type 0 where
 -- some operands are dropped: the neutral literal, and an operand that stands further left too
 pub data Dropped (neutral : ℕ) : Forest → Forest → Type 0 where
   done : (ks : Forest) → Dropped neutral ks ks
-  literal : (ks ls left right : Forest) → ks ≡ append left (cons (leaf neutral) right) → Dropped neutral (append left right) ls → Dropped neutral ks ls
-  repeated : (ks ls left right : Forest) (q : Tree) → ks ≡ append left (cons q right) → Among q left → Dropped neutral (append left right) ls → Dropped neutral ks ls
+  literal : (ks ls left right : Forest) → ks ≡ append left (cons (leaf neutral) right)
+      → Dropped neutral (append left right) ls → Dropped neutral ks ls
+  repeated : (ks ls left right : Forest) (q : Tree) → ks ≡ append left (cons q right) → Among q left
+      → Dropped neutral (append left right) ls → Dropped neutral ks ls
 
 -- n is ¬p, or p is ¬n: a double negation may go
 pub data Opposite : Tree → Tree → Type 0 where
@@ -130,7 +137,8 @@ pub data Subtracted : Forest → Forest → Forest → Type 0 where
 -- it occurs in t; below a node with binders it is counted past these
 pub data Occurs : ℕ → Tree → Type 0 where
   named : (i : ℕ) (us : List Ty) (ks : Forest) → Occurs i (node (head #BoundIdent i us) ks)
-  below : (i g n : ℕ) (us : List Ty) (ks : Forest) (k : Tree) → Among k ks → Occurs (i + length (bindersOf (formOf g .layout) us)) k → Occurs i (node (head g n us) ks)
+  below : (i g n : ℕ) (us : List Ty) (ks : Forest) (k : Tree) → Among k ks → Occurs (i + length (bindersOf (formOf g .layout) us)) k
+      → Occurs i (node (head g n us) ks)
 
 -- it is t, or a part of t that is reached through maplets only
 pub data Leaf : ℕ → Tree → Type 0 where
@@ -239,13 +247,16 @@ pub data Equation (Γ : Ctx) : ℕ → Tree → Tree → Type 0 where
   equal-empty : {place : ℕ} {e l r : Tree} → Emptiness e l → Empties Γ place e r → Equation Γ place l r
   -- simplify_assoc_pred; SIMP_SPECIAL_AND_BFALSE is P ∧ … ∧ ⊥ ∧ … ∧ Q == ⊥, and so on
   «SIMP_SPECIAL_AND_BFALSE/OR_BTRUE» : (g n d : ℕ) (ps : Forest) → Junction g n d → Among (leaf d) ps → Equation Γ 62 (many g ps) (leaf d)
-  «SIMP_MULTI_AND_NOT/OR_NOT» : (g n d : ℕ) (ps : Forest) (q : Tree) → Junction g n d → Among q ps → Among (¬ᵖ q) ps → Equation Γ 62 (many g ps) (leaf d)
+  «SIMP_MULTI_AND_NOT/OR_NOT» : (g n d : ℕ) (ps : Forest) (q : Tree) → Junction g n d → Among q ps → Among (¬ᵖ q) ps
+      → Equation Γ 62 (many g ps) (leaf d)
   -- SIMP_SPECIAL_AND_BTRUE and SIMP_MULTI_AND, SIMP_SPECIAL_OR_BFALSE and SIMP_MULTI_OR: nothing is left, one, or more; some
   -- operand is dropped
-  «SIMP_SPECIAL_AND_BTRUE/OR_BFALSE/MULTI_AND/OR/none» : (g n d : ℕ) (ps : Forest) → Junction g n d → Dropped n ps nil → Equation Γ 63 (many g ps) (leaf n)
-  «SIMP_SPECIAL_AND_BTRUE/OR_BFALSE/MULTI_AND/OR/one» : (g n d : ℕ) (ps : Forest) (p : Tree) → Junction g n d → Dropped n ps (sole p) → Equation Γ 64 (many g ps) p
-  «SIMP_SPECIAL_AND_BTRUE/OR_BFALSE/MULTI_AND/OR» : (g n d : ℕ) (ps : Forest) (p q : Tree) (qs : Forest) → Junction g n d → Dropped n ps (cons p (cons q qs))
-      → (count (cons p (cons q qs)) ≡ count ps → ⊥)
+  «SIMP_SPECIAL_AND_BTRUE/OR_BFALSE/MULTI_AND/OR/none» : (g n d : ℕ) (ps : Forest) → Junction g n d → Dropped n ps nil
+      → Equation Γ 63 (many g ps) (leaf n)
+  «SIMP_SPECIAL_AND_BTRUE/OR_BFALSE/MULTI_AND/OR/one» : (g n d : ℕ) (ps : Forest) (p : Tree) → Junction g n d → Dropped n ps (sole p)
+      → Equation Γ 64 (many g ps) p
+  «SIMP_SPECIAL_AND_BTRUE/OR_BFALSE/MULTI_AND/OR» : (g n d : ℕ) (ps : Forest) (p q : Tree) (qs : Forest) → Junction g n d
+      → Dropped n ps (cons p (cons q qs)) → (count (cons p (cons q qs)) ≡ count ps → ⊥)
       → Equation Γ 65 (many g ps) (many g (cons p (cons q qs)))
   -- simplify_predicate_node: ⇒
   «SIMP_SPECIAL_IMP_BTRUE_L» : (p : Tree) → Equation Γ 66 (⊤ ⇒ p) p

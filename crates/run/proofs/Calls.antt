@@ -21,7 +21,9 @@ use Rattle.step.specs.Step.{Stepped, changed, unchanged, noPlace, stepTree, Out
 use Rattle.step.proofs.Steps.{step-accepted, fit-wrote}
 use Rattle.run.specs.Run as R
 use Rattle.run.specs.Run.{Ran, ran, endedBy, runTree, run}
-use Rattle.run.specs.Series.{Call, stepAt, runWith, heldAfterStep, heldAfterRun, heldAfter, stepCount, runCount, changesOf, heldAfterAll, changingSteps}
+use Rattle.run.specs.Series.{
+  Call, stepAt, runWith, heldAfterStep, heldAfterRun, heldAfter, stepCount, runCount, changesOf, heldAfterAll, changingSteps
+}
 use Rattle.run.specs.Steps.{Steps, none, more}
 use Rattle.run.proofs.Runs.{steps-join, run-steps}
 
@@ -57,7 +59,8 @@ module _ (σ : ℕ → Ty) (s : List ℕ) (t : Tree) (h : Holds σ s t) where
       record { tree = u; holds = record { checks = check-back σ u a l; bytes = refl; accepted = a; fits = l }; steps = st }
 
   -- ---- a step
-  on-outcome : (k c : ℕ) (d : List ℕ) (x : Stepped) → stepTree t k ≡ x → (o : Outcome) → outcomeOf c x ≡ o → HoldsAfter σ t (stepCount o) (heldAfterStep o s d)
+  on-outcome : (k c : ℕ) (d : List ℕ) (x : Stepped) → stepTree t k ≡ x → (o : Outcome) → outcomeOf c x ≡ o
+      → HoldsAfter σ t (stepCount o) (heldAfterStep o s d)
   on-outcome k c d (changed p u) x (wrote xs) e =
       let f = fit-wrote c (enc u) xs e in
       let m = moves u 1 (more t u u k p 0 x (none u)) (f .1) in

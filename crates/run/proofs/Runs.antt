@@ -59,7 +59,8 @@ run-steps zero n t w m u e = go (firstStep t) e
     go nowhere e = no-row n m t u (cc) (cc)
 run-steps (suc budget) n t w m u e = go (firstStep t) refl e (run-steps budget (n + 1))
   where
-    on : (v : Tree) → firstStep t ≡ next v → (b : Bool) → ltb frameLimit (length (enc v)) ≡ b → pick b (ran FULL n t) (runTree budget (n + 1) v) ≡ ran w m u
+    on : (v : Tree) → firstStep t ≡ next v → (b : Bool) → ltb frameLimit (length (enc v)) ≡ b
+        → pick b (ran FULL n t) (runTree budget (n + 1) v) ≡ ran w m u
         → ((t : Tree) (w : Word) (m : ℕ) (u : Tree) → runTree budget (n + 1) t ≡ ran w m u → Rows (n + 1) t m u) → Rows n t m u
     on v f true l e ih = no-row n m t u (cc) (cc)
     on v f false l e ih =

@@ -42,8 +42,8 @@ pub run-small : (s : List ℕ) → Bytes s → (budget c : ℕ) (w : Word) (n : 
 unfolding run
 run-small s b budget c w n xs e = on (check s) refl e
   where
-    on-ran : (t : Tree) → length (enc t) ≤ frameLimit → (x : Ran) → runTree budget 0 t ≡ x → (short : Bool) → pick short (turnedDown 12) (endedBy x) ≡ ended w n xs
-        → (n ≤ budget) × (length xs ≤ frameLimit)
+    on-ran : (t : Tree) → length (enc t) ≤ frameLimit → (x : Ran) → runTree budget 0 t ≡ x → (short : Bool)
+        → pick short (turnedDown 12) (endedBy x) ≡ ended w n xs → (n ≤ budget) × (length xs ≤ frameLimit)
     on-ran t l x r true e = let z : _≡_ {A = ℕ} 0 1 = cc in absurd (omega arith)
     on-ran t l (ran v m u) r false e =
         let y : m ≡ n = cc in

@@ -195,7 +195,8 @@ conjuncts k nil x d n m u g =
 conjuncts k (cons l ks) x d n m u g =
     let ps = finites (cons l ks) in
     let e = truth-drops l ks (d .1) in
-    let g₁ = onward n (many #LAnd (cons (finite k) ps)) (many #LAnd (cons ⊤ ps)) m u (first-child _ _ _ 5 _ (conjunction-rests k l ks d) (first-becomes k ps (x .0))) g in
+    let g₁ = onward n (many #LAnd (cons (finite k) ps)) (many #LAnd (cons ⊤ ps)) m u
+        (first-child _ _ _ 5 _ (conjunction-rests k l ks d) (first-becomes k ps (x .0))) g in
     let g₂ = onward (n + 1) (many #LAnd (cons ⊤ ps)) (joined #LAnd ps) m u (first-root _ _ (e .0) _ (e .1)) g₁ in
     conjuncts l ks (x .1) (d .1) (n + 1 + 1) m u g₂ ∙ omega arith
 
@@ -215,7 +216,8 @@ union-bound ks c x d budget m u e = omega (arith, union-figure ks c x d budget m
 
 -- {TRUE} ∪ {FALSE}: a budget of 4 ends in REST
 two-take-four : runTree 4 0 (one #Finite (many #BUnion (pair (one #SetExt (leaf #True)) (one #SetExt (leaf #False))))) ≡ ran REST 4 ⊤
-unfolding runTree firstStep firstFrom nodes stepTree find replace lookup classOf formAt dispatch simplifyPredicateNode simplifyAssocPred scan verdict makeNeg contains sameTree sameTys rewriteNot rewriteFinite onTag enc encHead encNumber encTys
+unfolding runTree firstStep firstFrom nodes stepTree find replace lookup classOf formAt dispatch simplifyPredicateNode simplifyAssocPred
+    scan verdict makeNeg contains sameTree sameTys rewriteNot rewriteFinite onTag enc encHead encNumber encTys
 two-take-four = refl
 
 -- ---- on frames

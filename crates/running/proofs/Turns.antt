@@ -25,7 +25,10 @@ use Rattle.checking.specs.Posts.{checkAnswer}
 use Rattle.checking.specs.declared.CheckAnswer.{CheckAnswer}
 use Rattle.checking.specs.declared.CheckAnswer.the-variants as C
 use Rattle.checking.proofs.Answers.{accepted-is, refused-is}
-use Rattle.run.specs.Run.{First, next, nowhere, firstStep, Word, REST, SPENT, FULL, ran, atEnd, goOn, runTree, RunOutcome, ended, turnedDown, endedBy, runOn, run, wordAnswer, runAnswer, runOutput}
+use Rattle.run.specs.Run.{
+  First, next, nowhere, firstStep, Word, REST, SPENT, FULL, ran, atEnd, goOn, runTree, RunOutcome, ended, turnedDown, endedBy,
+  runOn, run, wordAnswer, runAnswer, runOutput
+}
 use Rattle.run.proofs.Runs.{first-step}
 use Rattle.run.specs.declared.RunAnswer.the-variants as A
 use Rattle.searching.specs.SearchPosts.{Gives, FirstPre, FirstPost}
@@ -47,11 +50,13 @@ rest-run (suc b) u n e = ap (λ (f : First). goOn f n u (runTree b (n + 1))) e
 
 full-run : (b : ℕ) (u w : Tree) (n : ℕ) → firstStep u ≡ next w → 4096 < length (enc w) → runTree (suc b) n u ≡ ran FULL n u
 unfolding runTree
-full-run b u w n e h = ap (λ (f : First). goOn f n u (runTree b (n + 1))) e ∙ ap (λ (x : Bool). pick x (ran FULL n u) (runTree b (n + 1) w)) (lt-ltb 4096 (length (enc w)) h)
+full-run b u w n e h = ap (λ (f : First). goOn f n u (runTree b (n + 1))) e ∙ ap (λ (x : Bool). pick x (ran FULL n u) (runTree b (n + 1) w))
+    (lt-ltb 4096 (length (enc w)) h)
 
 on-run : (b : ℕ) (u w : Tree) (n : ℕ) → firstStep u ≡ next w → length (enc w) ≤ 4096 → runTree (suc b) n u ≡ runTree b (n + 1) w
 unfolding runTree
-on-run b u w n e h = ap (λ (f : First). goOn f n u (runTree b (n + 1))) e ∙ ap (λ (x : Bool). pick x (ran FULL n u) (runTree b (n + 1) w)) (le-ltb 4096 (length (enc w)) h)
+on-run b u w n e h = ap (λ (f : First). goOn f n u (runTree b (n + 1))) e ∙ ap (λ (x : Bool). pick x (ran FULL n u) (runTree b (n + 1) w))
+    (le-ltb 4096 (length (enc w)) h)
 
 take-short : (n : ℕ) (l : List ℕ) → length (take n l) ≤ n
 take-short zero l = omega arith
@@ -77,7 +82,8 @@ next-checks s b u w e f l =
 module _ (held₀ : List ℕ) (start budget : ℕ) where
   -- the run goes on from the frame that is held
   pub record Going (held scratch : List ℕ) (n left count : ℕ) : Type 0 where
-    pub goes : (t : Tree) → check (take start held₀) ≡ accepted t → (u : Tree) × ((check (take n held) ≡ accepted u) × (runTree budget 0 t ≡ runTree left count u))
+    pub goes : (t : Tree) → check (take start held₀) ≡ accepted t
+        → (u : Tree) × ((check (take n held) ≡ accepted u) × (runTree budget 0 t ≡ runTree left count u))
     pub fits : n ≤ 4096
     pub long : length held ≡ 4096
     pub scratch-long : length scratch ≡ 4096
@@ -98,8 +104,8 @@ module _ (held₀ : List ℕ) (start budget : ℕ) where
           (a, sym (ap length a ∙ length-take-le n held (omega (arith, g .fits, g .long))))
 
       -- the run has ended here
-      ends : (w : Word) → ((u : Tree) → check (take n held) ≡ accepted u → runTree left count u ≡ ran w count u) → (r : Ended) → r .answer ≡ wordAnswer w count n → r .length ≡ n
-          → RoundsPost held₀ start budget held r
+      ends : (w : Word) → ((u : Tree) → check (take n held) ≡ accepted u → runTree left count u ≡ ran w count u) → (r : Ended)
+          → r .answer ≡ wordAnswer w count n → r .length ≡ n → RoundsPost held₀ start budget held r
       ends w h r ea el =
           record {
             ends = λ t e.
@@ -119,7 +125,8 @@ module _ (held₀ : List ℕ) (start budget : ℕ) where
             long = g .long;
           }
 
-      pub going-rests : (q : List ℕ) (x : Next) → FirstPost (take n held) q x → x ≡ N.Rests → (r : Ended) → r .answer ≡ A.Rest count n → r .length ≡ n → RoundsPost held₀ start budget held r
+      pub going-rests : (q : List ℕ) (x : Next) → FirstPost (take n held) q x → x ≡ N.Rests → (r : Ended) → r .answer ≡ A.Rest count n
+          → r .length ≡ n → RoundsPost held₀ start budget held r
       going-rests q x pf e r ea el = ends REST (λ u c. rest-run left u count (gives-none u c)) r ea el
         where
           gives-none : (u : Tree) → check (take n held) ≡ accepted u → firstStep u ≡ nowhere
@@ -139,7 +146,8 @@ module _ (held₀ : List ℕ) (start budget : ℕ) where
 
           pub going-full : 4096 < m → (r : Ended) → r .answer ≡ A.Full count n → r .length ≡ n → RoundsPost held₀ start budget held r
           going-full h r ea el =
-              ends FULL (λ u c. (let w = writes u c in ap (λ (i : ℕ). runTree i count u) less ∙ full-run (left - 1) u (w .0) count (w .1) (wrote-full q m (enc (w .0)) (w .2) h))) r ea el
+              ends FULL (λ u c. (let w = writes u c in ap (λ (i : ℕ). runTree i count u) less ∙ full-run (left - 1) u (w .0) count (w .1)
+                      (wrote-full q m (enc (w .0)) (w .2) h))) r ea el
 
           module _ (h : m ≤ 4096) where
             pub going-copy : (0 ≤ m) × (m ≤ length q) × (0 + (m - 0) ≤ length held)
@@ -156,7 +164,8 @@ module _ (held₀ : List ℕ) (start budget : ℕ) where
                       let l : length (enc (w .0)) ≤ 4096 = omega (arith, v .0) in
                       let o = copied-front q m held held' (enc (w .0)) c (v .0) (v .1) (omega (arith, g .long)) in
                       let front : take m held' ≡ enc (w .0) = ap (take m) o ∙ take-at (enc (w .0)) (drop (length (enc (w .0))) held) m (sym (v .0)) in
-                      (w .0, (ap check front ∙ next-checks (take n held) (bytes-take n held bytes) u (w .0) (y .1 .0) (w .1) l, y .1 .1 ∙ ap (λ (i : ℕ). runTree i count u) less ∙ on-run (left - 1) u (w .0) count (w .1) l)));
+                      (w .0, (ap check front ∙ next-checks (take n held) (bytes-take n held bytes) u (w .0) (y .1 .0) (w .1) l, y .1 .1 ∙ ap
+                              (λ (i : ℕ). runTree i count u) less ∙ on-run (left - 1) u (w .0) count (w .1) l)));
                   fits = h;
                   long = c .long ∙ g .long;
                   scratch-long = pf .room;
@@ -172,7 +181,8 @@ module _ (s : List ℕ) (b : Bytes s) (budget : ℕ) (o : List ℕ) (p : Checked
     held-front : take (length s) held ≡ s
     held-front =
         let f = check-accepts s b (p .t) (p .checks) .fits in
-        ap (take (length s)) (copied-front s (length s) zeros held s c refl (take-length s) (omega arith)) ∙ take-at s (drop (length s) zeros) (length s) refl
+        ap (take (length s)) (copied-front s (length s) zeros held s c refl (take-length s) (omega arith)) ∙ take-at s
+            (drop (length s) zeros) (length s) refl
 
     pub checked-rounds : RoundsPre held (length s)
     checked-rounds =
@@ -217,7 +227,8 @@ module _ (s : List ℕ) (budget : ℕ) (o : List ℕ) (a : CheckAnswer) (ea : a 
     unfolding run
     run-short h =
         let t = accepted-is (check s) m (sym e ∙ ea) in
-        turned-down 12 (ap (runOn budget (length o)) (t .1 .0) ∙ ap (λ (x : Bool). pick x (turnedDown 12) (endedBy (runTree budget 0 (t .0)))) (lt-ltb (length o) 4096 h))
+        turned-down 12 (ap (runOn budget (length o)) (t .1 .0) ∙ ap
+              (λ (x : Bool). pick x (turnedDown 12) (endedBy (runTree budget 0 (t .0)))) (lt-ltb (length o) 4096 h))
 
     pub run-pre : 4096 ≤ length o → CheckedPre s o
     run-pre h = let t = accepted-is (check s) m (sym e ∙ ea) in record { t = t .0; checks = t .1 .0; room = h }

@@ -98,7 +98,8 @@ module _ (s : List ℕ) (e : Sort) (a b : ℕ) where
               let h = encHead (head (r .g) (r .n) (r .us)) (count (r .ks)) in
               let z : p - a ≡ length h = omega (arith, r .top .long, d .from) in
               let within : b + (p - a) ≤ length s = omega (arith, stand-inside y) in
-              let win : take (length h) (drop b s) ≡ h = subst (λ (i : ℕ). take i (drop b s) ≡ h) z (sym (post .same eo) ∙ ap (λ (i : ℕ). take i (drop a s)) z ∙ r .top .bytes) in
+              let win : take (length h) (drop b s) ≡ h = subst (λ (i : ℕ). take i (drop b s) ≡ h) z
+                  (sym (post .same eo) ∙ ap (λ (i : ℕ). take i (drop a s)) z ∙ r .top .bytes) in
               let sp : Spans s b (b + (p - a)) h = record { long = omega arith; within = within; bytes = win } in
               let back = head-back s b e (r .g) (r .n) (r .us) (count (r .ks)) (b + (p - a)) (r .wf) sp in
               let eg : o .g ≡ r .g = cc (o .read, back) in
@@ -119,7 +120,8 @@ module _ (s : List ℕ) (e : Sort) (a b : ℕ) where
                 past = rw (← d .from) (r .past);
               }
 
-          agree : (t u : Tree) (p' q' m' : ℕ) (f' l' : Bool) → Stands s a e t → Stands s b e u → Agree p (b + (p - a)) m f l ≡ Agree p' q' m' f' l' → Agreed s a b t u p' q' m' f' l'
+          agree : (t u : Tree) (p' q' m' : ℕ) (f' l' : Bool) → Stands s a e t → Stands s b e u
+              → Agree p (b + (p - a)) m f l ≡ Agree p' q' m' f' l' → Agreed s a b t u p' q' m' f' l'
           agree t u p' q' m' f' l' x y er =
               let ep : p' ≡ p = cc in
               let eq : q' ≡ b + (p - a) = cc in

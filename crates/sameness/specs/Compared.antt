@@ -34,7 +34,8 @@ pub record SamePost (s : List ℕ) (e : Sort) (a b : ℕ) (r : Same) : Type 0 wh
   pub differ : (t u : Tree) → Stands s a e t → Stands s b e u → r ≡ No → t ≡ u → ⊥
 
 pub record SameAllPost (s : List ℕ) (es : List Sort) (a b : ℕ) (r : Same) : Type 0 where
-  pub same : (ts us : Forest) (x y : ℕ) → StandAll s a es ts → StandAll s b es us → r ≡ Yes x y → (ts ≡ us) × (x ≡ a + length (encs ts)) × (y ≡ b + length (encs us))
+  pub same : (ts us : Forest) (x y : ℕ) → StandAll s a es ts → StandAll s b es us → r ≡ Yes x y
+      → (ts ≡ us) × (x ≡ a + length (encs ts)) × (y ≡ b + length (encs us))
   pub differ : (ts us : Forest) → StandAll s a es ts → StandAll s b es us → r ≡ No → ts ≡ us → ⊥
 
 -- two trees with one head, their children at p and q, n of them, the first and the later ones of these sorts

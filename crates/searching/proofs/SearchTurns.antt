@@ -122,12 +122,14 @@ module _ (s : List ℕ) (n : ℕ) (st nx leaves : List ℕ) where
           go false e = true-not (sym h ∙ ap isRests (pd .rests t n (spot t tb .0) (spot t tb .1 .0) tb (spot t tb .1 .1) e))
 
       pub search-splice : isRests d ≡ false → SplicePre s n st nx leaves k kept d scratch
-      search-splice h = record { t = p .t; table = p .table; held = p .held; decided = not-rests h (p .t) (p .table); long = pd .long; room = p .room }
+      search-splice h = record { t = p .t; table = p .table; held = p .held; decided = not-rests h (p .t)
+            (p .table); long = pd .long; room = p .room }
 
       here-more : (t : Tree) → Table s t st nx n → firstFrom (n - k) t k ≡ orNext (stepTree t k) (firstFrom (n - (k + 1)) t (k + 1))
       here-more t tb = let z : n - k ≡ suc (n - (k + 1)) = omega arith in ap (λ (i : ℕ). firstFrom i t k) z ∙ from-more t (n - (k + 1)) k
 
-      pub search-writes : (old : List ℕ) → Searching k old → isRests d ≡ false → (q : List ℕ) (m : ℕ) → SplicePost s n st nx leaves k kept d q m → SearchPost s n st nx leaves q (N.Writes m)
+      pub search-writes : (old : List ℕ) → Searching k old → isRests d ≡ false → (q : List ℕ) (m : ℕ)
+          → SplicePost s n st nx leaves k kept d q m → SearchPost s n st nx leaves q (N.Writes m)
       search-writes old g h q m ps = record { gives = λ t tb hd. given t tb hd; room = given (p .t) (p .table) (p .held) .2 .whole }
         where
           given : (t : Tree) → Table s t st nx n → Held s st leaves n t → (u : Tree) × (firstStep t ≡ next u) × Wrote q m (enc u)
@@ -135,7 +137,8 @@ module _ (s : List ℕ) (n : ℕ) (st nx leaves : List ℕ) where
               let x = not-rests h t tb in
               let c = changes t (x .v) (x .Γ) kept d (dispatch (x .Γ) (x .v)) h (x .means) in
               let e = step-predicate t k (x .Γ) (x .v) (x .there) (x .is-predicate) (to (c .0) (c .1 .0)) (c .1 .1) in
-              (replace t k (c .1 .0), g .goes t tb ∙ here-more t tb ∙ ap (λ (y : Stepped). orNext y (firstFrom (n - (k + 1)) t (k + 1))) e, ps .wrote t tb hd x (c .0) (c .1 .0) (c .1 .1))
+              (replace t k (c .1 .0), g .goes t tb ∙ here-more t tb ∙ ap
+                    (λ (y : Stepped). orNext y (firstFrom (n - (k + 1)) t (k + 1))) e, ps .wrote t tb hd x (c .0) (c .1 .0) (c .1 .1))
 
       pub search-next : (old : List ℕ) → Searching k old → isRests d ≡ true → Searching (k + 1) kept
       search-next old g h = record { goes = λ t tb. g .goes t tb ∙ here-more t tb ∙ later t tb; long = pd .long; upto = omega arith }
@@ -143,13 +146,18 @@ module _ (s : List ℕ) (n : ℕ) (st nx leaves : List ℕ) where
           later : (t : Tree) → Table s t st nx n → orNext (stepTree t k) (firstFrom (n - (k + 1)) t (k + 1)) ≡ firstFrom (n - (k + 1)) t (k + 1)
           later t tb = go (isPredicate (spot t tb .1 .0)) refl
             where
-              go : (b : Bool) → isPredicate (spot t tb .1 .0) ≡ b → orNext (stepTree t k) (firstFrom (n - (k + 1)) t (k + 1)) ≡ firstFrom (n - (k + 1)) t (k + 1)
+              go : (b : Bool) → isPredicate (spot t tb .1 .0) ≡ b
+                  → orNext (stepTree t k) (firstFrom (n - (k + 1)) t (k + 1)) ≡ firstFrom (n - (k + 1)) t (k + 1)
               go true e =
-                  let c = none-first t (spot t tb .1 .0) (spot t tb .0) kept d (dispatch (spot t tb .0) (spot t tb .1 .0)) h (pd .means t n (spot t tb .0) (spot t tb .1 .0) tb (spot t tb .1 .1) e) in
-                  ap (λ (y : Stepped). orNext y (firstFrom (n - (k + 1)) t (k + 1))) (step-predicate t k (spot t tb .0) (spot t tb .1 .0) (spot t tb .1 .1) e same c)
-              go false e = ap (λ (y : Stepped). orNext y (firstFrom (n - (k + 1)) t (k + 1))) (step-expression t k (spot t tb .0) (spot t tb .1 .0) (spot t tb .1 .1) e)
+                  let c = none-first t (spot t tb .1 .0) (spot t tb .0) kept d (dispatch (spot t tb .0) (spot t tb .1 .0)) h
+                      (pd .means t n (spot t tb .0) (spot t tb .1 .0) tb (spot t tb .1 .1) e) in
+                  ap (λ (y : Stepped). orNext y (firstFrom (n - (k + 1)) t (k + 1)))
+                      (step-predicate t k (spot t tb .0) (spot t tb .1 .0) (spot t tb .1 .1) e same c)
+              go false e = ap (λ (y : Stepped). orNext y (firstFrom (n - (k + 1)) t (k + 1)))
+                  (step-expression t k (spot t tb .0) (spot t tb .1 .0) (spot t tb .1 .1) e)
 
-  pub search-rests : (scratch : List ℕ) → SearchPre s n st nx leaves scratch → (k : ℕ) (kept : List ℕ) → Searching k kept → n ≤ k → SearchPost s n st nx leaves scratch N.Rests
+  pub search-rests : (scratch : List ℕ) → SearchPre s n st nx leaves scratch → (k : ℕ) (kept : List ℕ) → Searching k kept → n ≤ k
+      → SearchPost s n st nx leaves scratch N.Rests
   search-rests scratch p k kept g h =
       record {
         gives = λ t tb hd. (let z : n - k ≡ 0 = omega arith in g .goes t tb ∙ ap (λ (i : ℕ). firstFrom i t k) z ∙ from-none t k);
@@ -190,8 +198,9 @@ module _ (s : List ℕ) (b : Bytes s) where
   pub first-refused : (scratch : List ℕ) → length scratch ≡ 4096 → (c : ℕ) → F.Refused c ≡ frameAnswer (parse s) → FirstPost s scratch N.Rests
   first-refused scratch l c z = record { gives = λ t e. read-not s b t e c z; room = l }
 
-  pub first-searched : (n : ℕ) → F.Nodes n ≡ frameAnswer (parse s) → (st : List ℕ) → st ≡ tableOf (parse s) → (l₀ l₁ : List ℕ) (r : Bool) → BindingPost s l₀ l₁ r
-      → (nx : List ℕ) → NextsPost s n st nx → (scratch : List ℕ) (x : Next) → SearchPost s n st nx l₁ scratch x → FirstPost s scratch x
+  pub first-searched : (n : ℕ) → F.Nodes n ≡ frameAnswer (parse s) → (st : List ℕ) → st ≡ tableOf (parse s) → (l₀ l₁ : List ℕ) (r : Bool)
+      → BindingPost s l₀ l₁ r → (nx : List ℕ) → NextsPost s n st nx → (scratch : List ℕ) (x : Next)
+      → SearchPost s n st nx l₁ scratch x → FirstPost s scratch x
   first-searched n en st es l₀ l₁ r pb nx pn scratch x ps =
       record {
         gives = λ t e. ps .gives t (pn .table t (as-framed s b t e n en st es)) (as-held s b t e n en st es l₀ l₁ r pb);

@@ -27,7 +27,8 @@ AtPre s st nx k lent = DispatchPre s st nx k lent
 
 pub record AtPost (s st nx : List ℕ) (k : ℕ) (lent : List ℕ) (r : Decision) : Type 0 where
   pub long : length lent ≡ 256
-  pub means : (t : Tree) (n : ℕ) (Γ : Ctx) (v : Tree) → Table s t st nx n → find t [] k ≡ found Γ v → isPredicate v ≡ true → Means t v Γ lent r (dispatch Γ v)
+  pub means : (t : Tree) (n : ℕ) (Γ : Ctx) (v : Tree) → Table s t st nx n → find t [] k ≡ found Γ v → isPredicate v ≡ true
+      → Means t v Γ lent r (dispatch Γ v)
   pub rests : (t : Tree) (n : ℕ) (Γ : Ctx) (v : Tree) → Table s t st nx n → find t [] k ≡ found Γ v → isPredicate v ≡ false → r ≡ D.Rests
 
 -- ---- the first step

@@ -34,7 +34,8 @@ use Rattle.splicing.specs.SplicePosts.{Decided, SplicePre, SplicePost}
 
 -- ---- `splice`
 -- what the rules build at a predicate of an accepted tree is well formed
-formed-of : (t : Tree) (k : ℕ) (kp : List ℕ) (d : Decision) → Accepted (signature t) t [] predicate → (x : Decided t k kp d) → Formed (dispatch (x .Γ) (x .v))
+formed-of : (t : Tree) (k : ℕ) (kp : List ℕ) (d : Decision) → Accepted (signature t) t [] predicate → (x : Decided t k kp d)
+    → Formed (dispatch (x .Γ) (x .v))
 formed-of t k kp d a x place new e =
     let σ = signature t in
     let b = accepted-at σ t [] k (x .Γ) (x .v) (x .there) (tt, (predicate, a)) in
@@ -54,7 +55,8 @@ module _ (s : List ℕ) (n : ℕ) (st nx leaves : List ℕ) (k : ℕ) (kp : List
     splice-in = record { t = p .t; table = p .table; below = find-lt (p .t) [] k (p .decided .Γ) (p .decided .v) (p .decided .there) }
 
     pub splice-build : BuildPre (OfDecision k kp d) s n st nx leaves
-    splice-build = record { t = p .t; table = p .table; held = p .held; c = dispatch (p .decided .Γ) (p .decided .v); means = of-decided (p .long) (p .t) (p .held) (p .decided) }
+    splice-build = record { t = p .t; table = p .table; held = p .held; c = dispatch (p .decided .Γ) (p .decided .v); means = of-decided
+          (p .long) (p .t) (p .held) (p .decided) }
 
     module _ (from : ℕ) (ef : from ≡ getD st k 0) (to : ℕ) (et : EndAtPost s n st nx k to) where
       within : (t : Tree) → Table s t st nx n → (Γ : Ctx) (v : Tree) → find t [] k ≡ found Γ v → (from + length (enc v) ≡ to) × (to ≤ length s)
@@ -69,8 +71,9 @@ module _ (s : List ℕ) (n : ℕ) (st nx leaves : List ℕ) (k : ℕ) (kp : List
       pub splice-rest : (to ≤ length s) × (length s ≤ length s)
       splice-rest = let w = within (p .t) (p .table) (p .decided .Γ) (p .decided .v) (p .decided .there) in (w .1, omega arith)
 
-      pub splice-done : (o₁ : List ℕ) (i₁ : ℕ) → Puts o 0 o₁ i₁ (between s 0 from) → (o₂ : List ℕ) (i₂ : ℕ) → BuildPost (OfDecision k kp d) s n st nx leaves o₁ i₁ o₂ i₂
-          → (o₃ : List ℕ) (i₃ : ℕ) → Puts o₂ i₂ o₃ i₃ (between s to (length s)) → SplicePost s n st nx leaves k kp d o₃ i₃
+      pub splice-done : (o₁ : List ℕ) (i₁ : ℕ) → Puts o 0 o₁ i₁ (between s 0 from) → (o₂ : List ℕ) (i₂ : ℕ)
+          → BuildPost (OfDecision k kp d) s n st nx leaves o₁ i₁ o₂ i₂ → (o₃ : List ℕ) (i₃ : ℕ) → Puts o₂ i₂ o₃ i₃ (between s to (length s))
+          → SplicePost s n st nx leaves k kp d o₃ i₃
       splice-done o₁ i₁ h₁ o₂ i₂ h₂ o₃ i₃ h₃ =
           record {
             wrote = λ t tb h x place new e.

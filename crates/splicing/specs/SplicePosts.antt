@@ -34,5 +34,5 @@ pub record SplicePre (s : List ℕ) (n : ℕ) (st nx leaves : List ℕ) (k : ℕ
   pub room : length o ≡ 4096
 
 pub record SplicePost (s : List ℕ) (n : ℕ) (st nx leaves : List ℕ) (k : ℕ) (kept : List ℕ) (d : Decision) (p : List ℕ) (r : ℕ) : Type 0 where
-  pub wrote : (t : Tree) → Table s t st nx n → Held s st leaves n t → (x : Decided t k kept d) → (place : ℕ) (new : Tree) → dispatch (x .Γ) (x .v) ≡ to place new
-      → Wrote p r (enc (replace t k new))
+  pub wrote : (t : Tree) → Table s t st nx n → Held s st leaves n t → (x : Decided t k kept d) → (place : ℕ) (new : Tree)
+      → dispatch (x .Γ) (x .v) ≡ to place new → Wrote p r (enc (replace t k new))

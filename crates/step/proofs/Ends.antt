@@ -19,7 +19,10 @@ use Rattle.frame.specs.Places.{Ctx, Found, found, absent, find}
 use Rattle.typing.specs.Check.{Checked, accepted, refused, check}
 use Rattle.rules.specs.Change.{Change, to, same}
 use Rattle.rules.specs.Dispatch.{dispatch}
-use Rattle.step.specs.Step.{Stepped, changed, unchanged, noPlace, isPredicate, stepChange, stepFound, stepTree, Outcome, wrote, kept, turnedDown, fit, outcomeOf, outcomeOn, step}
+use Rattle.step.specs.Step.{
+  Stepped, changed, unchanged, noPlace, isPredicate, stepChange, stepFound, stepTree, Outcome, wrote, kept, turnedDown, fit,
+  outcomeOf, outcomeOn, step
+}
 
 -- ---- at a predicate node
 -- the result passes 4,096 bytes, or the lent output
@@ -35,7 +38,8 @@ ends-fit : (t : Tree) (k c place : ℕ) (u : Tree) → stepTree t k ≡ changed 
 unfolding fit
 ends-fit t k c place u e = go (ltb frameLimit (length (enc u))) refl (ltb c (length (enc u))) refl
   where
-    go : (a : Bool) → ltb frameLimit (length (enc u)) ≡ a → (b : Bool) → ltb c (length (enc u)) ≡ b → Ends t k c (pick a (turnedDown 12) (pick b (turnedDown 12) (wrote (enc u))))
+    go : (a : Bool) → ltb frameLimit (length (enc u)) ≡ a → (b : Bool) → ltb c (length (enc u)) ≡ b
+        → Ends t k c (pick a (turnedDown 12) (pick b (turnedDown 12) (wrote (enc u))))
     go true p b q = as-too-long place u e (inl (ltb-true frameLimit (length (enc u)) p))
     go false p true q = as-too-long place u e (inr (ltb-true c (length (enc u)) q))
     go false p false q = as-changed place u e (ltb-false frameLimit (length (enc u)) p) (ltb-false c (length (enc u)) q)
@@ -51,7 +55,8 @@ ends-tree t k c Γ v f p = on-change (dispatch Γ v) refl
     on-change (to place w) h = let z = is (to place w) h in subst (λ (x : Stepped). Ends t k c (outcomeOf c x)) (sym z) (ends-fit t k c place _ z)
     on-change same h = let z = is same h in subst (λ (x : Stepped). Ends t k c (outcomeOf c x)) (sym z) (as-unchanged z)
 
-pub step-ends : (s : List ℕ) (k c : ℕ) (t : Tree) (Γ : Ctx) (v : Tree) → check s ≡ accepted t → find t [] k ≡ found Γ v → isPredicate v ≡ true → Ends t k c (step s k c)
+pub step-ends : (s : List ℕ) (k c : ℕ) (t : Tree) (Γ : Ctx) (v : Tree) → check s ≡ accepted t → find t [] k ≡ found Γ v
+    → isPredicate v ≡ true → Ends t k c (step s k c)
 unfolding step
 step-ends s k c t Γ v a f p = subst (λ (x : Checked). Ends t k c (outcomeOn k c x)) (sym a) (ends-tree t k c Γ v f p)
 
@@ -68,7 +73,8 @@ step-turned-down s k c n e = on-check (check s) refl e
     number : (x : Outcome) (m : ℕ) → x ≡ turnedDown n → x ≡ turnedDown m → m ≡ n
     number x m e f = cc
 
-    too-long : (t : Tree) (place : ℕ) (u : Tree) → check s ≡ accepted t → stepTree t k ≡ changed place u → (x : Outcome) → Ends t k c x → fit c (enc u) ≡ x → x ≡ turnedDown n → TurnedDown s k c n
+    too-long : (t : Tree) (place : ℕ) (u : Tree) → check s ≡ accepted t → stepTree t k ≡ changed place u → (x : Outcome) → Ends t k c x
+        → fit c (enc u) ≡ x → x ≡ turnedDown n → TurnedDown s k c n
     too-long t place u a z _ (as-changed q w y l m) f e = let i : _≡_ {A = ℕ} 0 1 = cc in absurd (omega arith)
     too-long t place u a z _ (as-unchanged y) f e = let i : _≡_ {A = ℕ} 0 1 = cc in absurd (omega arith)
     too-long t place u a z _ (as-too-long q w y l) f e = subst (TurnedDown s k c) (number _ 12 e refl) (by-length t q w a y l)
@@ -83,7 +89,8 @@ step-turned-down s k c n e = on-check (check s) refl e
     on-check (refused m) a e = subst (TurnedDown s k c) (number _ m e refl) (by-check m a)
 
 -- 11: the place is no node, or an expression
-pub no-place : (t : Tree) (k : ℕ) → stepTree t k ≡ noPlace → (find t [] k ≡ absent) ⊎ ((Γ : Ctx) × ((v : Tree) × ((find t [] k ≡ found Γ v) × (isPredicate v ≡ false))))
+pub no-place : (t : Tree) (k : ℕ) → stepTree t k ≡ noPlace
+    → (find t [] k ≡ absent) ⊎ ((Γ : Ctx) × ((v : Tree) × ((find t [] k ≡ found Γ v) × (isPredicate v ≡ false))))
 unfolding stepTree
 no-place t k e = on-found (find t [] k) refl e
   where
@@ -91,10 +98,13 @@ no-place t k e = on-found (find t [] k) refl e
     none (to q w) e = let z : _≡_ {A = ℕ} 0 1 = cc in omega arith
     none same e = let z : _≡_ {A = ℕ} 0 1 = cc in omega arith
 
-    on-sort : (Γ : Ctx) (v : Tree) → find t [] k ≡ found Γ v → (b : Bool) → isPredicate v ≡ b → pick b (stepChange t k (dispatch Γ v)) noPlace ≡ noPlace → (find t [] k ≡ absent) ⊎ ((Δ : Ctx) × ((w : Tree) × ((find t [] k ≡ found Δ w) × (isPredicate w ≡ false))))
+    on-sort : (Γ : Ctx) (v : Tree) → find t [] k ≡ found Γ v → (b : Bool) → isPredicate v ≡ b
+        → pick b (stepChange t k (dispatch Γ v)) noPlace ≡ noPlace
+        → (find t [] k ≡ absent) ⊎ ((Δ : Ctx) × ((w : Tree) × ((find t [] k ≡ found Δ w) × (isPredicate w ≡ false))))
     on-sort Γ v f true p e = absurd (none (dispatch Γ v) e)
     on-sort Γ v f false p e = inr (Γ, (v, (f, p)))
 
-    on-found : (x : Found) → find t [] k ≡ x → stepFound t k x ≡ noPlace → (find t [] k ≡ absent) ⊎ ((Γ : Ctx) × ((v : Tree) × ((find t [] k ≡ found Γ v) × (isPredicate v ≡ false))))
+    on-found : (x : Found) → find t [] k ≡ x → stepFound t k x ≡ noPlace
+        → (find t [] k ≡ absent) ⊎ ((Γ : Ctx) × ((v : Tree) × ((find t [] k ≡ found Γ v) × (isPredicate v ≡ false))))
     on-found (found Γ v) f e = on-sort Γ v f (isPredicate v) refl e
     on-found absent f e = inl f

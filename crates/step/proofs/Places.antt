@@ -36,7 +36,8 @@ module _ (σ : ℕ → Ty) where
   rest-of t ks Γ (e ∷ es) a = (es, a .1)
 
   pub accepted-at : (t : Tree) (Γ : Ctx) (k : ℕ) (Δ : Ctx) (v : Tree) → find t Γ k ≡ found Δ v → AcceptedIn Γ t → AcceptedIn Δ v
-  accepted-at = down-place AcceptedIn AcceptedAllIn to-kids (λ t ks Γ a. (a .0, first-of t ks Γ (a .1 .0) (a .1 .1))) (λ t ks Γ a. (a .0, rest-of t ks Γ (a .1 .0) (a .1 .1)))
+  accepted-at = down-place AcceptedIn AcceptedAllIn to-kids (λ t ks Γ a. (a .0, first-of t ks Γ (a .1 .0) (a .1 .1)))
+      (λ t ks Γ a. (a .0, rest-of t ks Γ (a .1 .0) (a .1 .1)))
 
   -- ---- up
   pub record Stays (Γ : Ctx) (e : Sort) (t u : Tree) : Type 0 where
@@ -54,7 +55,8 @@ module _ (σ : ℕ → Ty) where
   abbrev KeepsAll : Ctx → Forest → Forest → Type 0
   KeepsAll Γ ks ls = (es : List Sort) → AcceptedAll σ ks Γ es → StaysAll Γ es ks ls
 
-  node-keeps : (g n : ℕ) (us : List Ty) (ks ls : Forest) (Γ : Ctx) → KeepsAll (under g us Γ) ks ls → Keeps Γ (node (head g n us) ks) (node (head g n us) ls)
+  node-keeps : (g n : ℕ) (us : List Ty) (ks ls : Forest) (Γ : Ctx) → KeepsAll (under g us Γ) ks ls
+      → Keeps Γ (node (head g n us) ks) (node (head g n us) ls)
   unfolding Accepted typeOf
   node-keeps g n us ks ls Γ h e a =
       let s = h _ (a .kids) in

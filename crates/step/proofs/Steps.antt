@@ -28,7 +28,10 @@ use Rattle.rules.specs.Equations.{Equation}
 use Rattle.rules.proofs.Instance.{instance}
 use Rattle.rules.proofs.Nodes.{predicate-type}
 use Rattle.rules.proofs.EquationAccepted.{equation-accepted}
-use Rattle.step.specs.Step.{Stepped, changed, unchanged, noPlace, isPredicate, stepChange, stepFound, stepTree, wrote, turnedDown, fit, outcomeOf, outcomeOn, step}
+use Rattle.step.specs.Step.{
+  Stepped, changed, unchanged, noPlace, isPredicate, stepChange, stepFound, stepTree, wrote, turnedDown, fit, outcomeOf,
+  outcomeOn, step
+}
 use Rattle.step.proofs.Places.{AcceptedIn, accepted-at, Stays, accepted-replaced}
 
 -- ---- trees
@@ -55,11 +58,14 @@ pub step-inv : (t : Tree) (k place : ℕ) (u : Tree) → stepTree t k ≡ change
 unfolding stepTree
 step-inv t k place u e = on-found (find t [] k) refl e
   where
-    on-change : (Γ : Ctx) (v : Tree) → find t [] k ≡ found Γ v → isPredicate v ≡ true → (c : Change) → dispatch Γ v ≡ c → stepChange t k c ≡ changed place u → StepInv t k place u
-    on-change Γ v f p (to q w) d e = record { Γ = Γ; old = v; new = w; there = f; is-predicate = p; rule = d ∙ (let y : q ≡ place = cc in ap (λ (i : ℕ). to i w) y); result = cc }
+    on-change : (Γ : Ctx) (v : Tree) → find t [] k ≡ found Γ v → isPredicate v ≡ true → (c : Change) → dispatch Γ v ≡ c
+        → stepChange t k c ≡ changed place u → StepInv t k place u
+    on-change Γ v f p (to q w) d e = record { Γ = Γ; old = v; new = w; there = f; is-predicate = p; rule = d ∙
+          (let y : q ≡ place = cc in ap (λ (i : ℕ). to i w) y); result = cc }
     on-change Γ v f p same d e = let z : _≡_ {A = ℕ} 0 1 = cc in absurd (omega arith)
 
-    on-sort : (Γ : Ctx) (v : Tree) → find t [] k ≡ found Γ v → (b : Bool) → isPredicate v ≡ b → pick b (stepChange t k (dispatch Γ v)) noPlace ≡ changed place u → StepInv t k place u
+    on-sort : (Γ : Ctx) (v : Tree) → find t [] k ≡ found Γ v → (b : Bool) → isPredicate v ≡ b
+        → pick b (stepChange t k (dispatch Γ v)) noPlace ≡ changed place u → StepInv t k place u
     on-sort Γ v f true p e = on-change Γ v f p (dispatch Γ v) refl e
     on-sort Γ v f false p e = let z : _≡_ {A = ℕ} 0 1 = cc in absurd (omega arith)
 
@@ -90,7 +96,8 @@ module _ (σ : ℕ → Ty) (t : Tree) (k place : ℕ) (u : Tree) (a : Accepted �
   new-predicate =
       let i = step-inv t k place u e in equation-accepted σ (i .Γ) place (i .old) (i .new) (old-accepted .0) step-instance old-predicate
 
-  new-stays : (s : Sort) → Accepted σ (step-inv t k place u e .old) (step-inv t k place u e .Γ) s → Stays σ (step-inv t k place u e .Γ) s (step-inv t k place u e .old) (step-inv t k place u e .new)
+  new-stays : (s : Sort) → Accepted σ (step-inv t k place u e .old) (step-inv t k place u e .Γ) s
+      → Stays σ (step-inv t k place u e .Γ) s (step-inv t k place u e .old) (step-inv t k place u e .new)
   new-stays s b =
       let i = step-inv t k place u e in
       let q : s ≡ predicate = sort-of (i .old) (i .Γ) s b old-predicate in
@@ -123,7 +130,8 @@ pub fit-wrote : (c : ℕ) (ys xs : List ℕ) → fit c ys ≡ wrote xs → (ys �
 unfolding fit
 fit-wrote c ys xs e = go (ltb frameLimit (length ys)) refl (ltb c (length ys)) e
   where
-    go : (a : Bool) → ltb frameLimit (length ys) ≡ a → (b : Bool) → pick a (turnedDown 12) (pick b (turnedDown 12) (wrote ys)) ≡ wrote xs → (ys ≡ xs) × (length ys ≤ frameLimit)
+    go : (a : Bool) → ltb frameLimit (length ys) ≡ a → (b : Bool) → pick a (turnedDown 12) (pick b (turnedDown 12) (wrote ys)) ≡ wrote xs
+        → (ys ≡ xs) × (length ys ≤ frameLimit)
     go true p b e = let z : _≡_ {A = ℕ} 0 1 = cc in absurd (omega arith)
     go false p true e = let z : _≡_ {A = ℕ} 0 1 = cc in absurd (omega arith)
     go false p false e = (cc, ltb-false frameLimit (length ys) p)
@@ -138,7 +146,8 @@ step-wrote s b k c xs e = on-check (check s) refl e
         let f = fit-wrote c (enc u) xs e in
         let l : length xs ≤ frameLimit = rw (f .0) at (f .1) in
         let w = step-accepted (signature t) t k p u (a .accepted) x in
-        record { old = t; place = p; new = u; accepts = a; stepped = x; bytes = sym (f .0); fits = l; stays = w; checks = rw (← (f .0)) (check-back (signature t) u w (f .1)) }
+        record { old = t; place = p; new = u; accepts = a; stepped = x; bytes = sym (f .0); fits = l; stays = w; checks = rw (← (f .0))
+              (check-back (signature t) u w (f .1)) }
     on-step t a unchanged x e = let z : _≡_ {A = ℕ} 0 1 = cc in absurd (omega arith)
     on-step t a noPlace x e = let z : _≡_ {A = ℕ} 0 1 = cc in absurd (omega arith)
 

@@ -1,10 +1,11 @@
 -- "The starred cases form one table, proved by one evaluation of the definitions": those of document 01, "Frames to try", each by
--- the whole step on bytes, at place 0, with an output of 4,096 bytes. "`b` is identifier 7 of type BOOL; P is b = TRUE,
--- 006500010007000195. `a` is identifier 8 of type BOOL; S and T are 1 and 2 of type ℙ(BOOL); p, q, r are 3, 4, 5 of type
--- ℙ(BOOL×BOOL)."
+-- the whole step on bytes, at place 0, with an output of 4,096 bytes. Frames stand here as document 01 writes them.
 use mathlib.Core.Path.{_≡_, refl}
 use mathlib.Core.List.{List, [], _∷_, map}
 use Prim.Native.Nat.{ℕ}
+use Prim.Native.String.{String, _++_}
+use Rattle.frame.specs.Lines.{digitOf, readLine}
+use Rattle.frame.specs.Texts.{bytes}
 use Rattle.frame.specs.Trees.{nodes}
 use Rattle.frame.specs.Tags.{lookup, classOf, formAt}
 use Rattle.frame.specs.Encoding.{encNumber, encTy, encTys, encHead, enc}
@@ -25,42 +26,92 @@ use Rattle.rules.specs.EqualsType.{rewriteEqualsType}
 use Rattle.rules.specs.Dispatch.{dispatch}
 use Rattle.step.specs.Step.{Outcome, wrote, kept, stepTree, fit, step}
 
-pub data Case : Type 0 where
-  -- a frame, and what becomes of it
-  case : List ℕ → Outcome → Case
+data Case : Type 0 where
+  -- a frame, and the frame that it is changed to
+  changed : String → String → Case
+  unchanged : String → Case
+
+-- "`b` is identifier 7 of type BOOL; P is b = TRUE, 006500010007000195. `a` is identifier 8 of type BOOL"
+abbrev P : String
+P = "006500010007000195"
+
+abbrev a : String
+a = "0001000800"
+
+abbrev b : String
+b = "0001000700"
+
+-- "S and T are 1 and 2 of type ℙ(BOOL)"; ∅ of that type
+abbrev S : String
+S = "000100010300"
+
+abbrev T : String
+T = "000100020300"
+
+abbrev ∅ : String
+∅ = "01970300"
+
+-- "p, q, r are 3, 4, 5 of type ℙ(BOOL×BOOL)"; ∅ of that type
+abbrev p : String
+p = "0001000303040000"
+
+abbrev q : String
+q = "0001000403040000"
+
+abbrev r : String
+r = "0001000503040000"
+
+abbrev ∅ᵣ : String
+∅ᵣ = "019703040000"
+
+-- each operator with its tag: ¬ 701, = 101, {E} 5 with one member
+abbrev not : String → String
+not t = "02BD" ++ t
+
+abbrev equal : String → String → String
+equal t u = "0065" ++ t ++ u
+
+abbrev single : String → String
+single t = "000501" ++ t
 
 starred : List Case
 starred =
-    -- ¬⊤ to ⊥
-    case (0x02 ∷ 0xBD ∷ 0x02 ∷ 0x62 ∷ []) (wrote (0x02 ∷ 0x63 ∷ []))
-    -- ⊤ ∧ ⊤ to ⊤
-    ∷ case (0x01 ∷ 0x5F ∷ 0x02 ∷ 0x02 ∷ 0x62 ∷ 0x02 ∷ 0x62 ∷ []) (wrote (0x02 ∷ 0x62 ∷ []))
-    -- P ∧ ¬P to ⊥
-    ∷ case (0x01 ∷ 0x5F ∷ 0x02 ∷ 0x00 ∷ 0x65 ∷ 0x00 ∷ 0x01 ∷ 0x00 ∷ 0x07 ∷ 0x00 ∷ 0x01 ∷ 0x95 ∷ 0x02 ∷ 0xBD ∷ 0x00 ∷ 0x65 ∷ 0x00 ∷ 0x01 ∷ 0x00 ∷ 0x07 ∷ 0x00 ∷ 0x01 ∷ 0x95 ∷ []) (wrote (0x02 ∷ 0x63 ∷ []))
-    -- P ⇒ ¬P to ¬P
-    ∷ case (0x00 ∷ 0xFB ∷ 0x00 ∷ 0x65 ∷ 0x00 ∷ 0x01 ∷ 0x00 ∷ 0x07 ∷ 0x00 ∷ 0x01 ∷ 0x95 ∷ 0x02 ∷ 0xBD ∷ 0x00 ∷ 0x65 ∷ 0x00 ∷ 0x01 ∷ 0x00 ∷ 0x07 ∷ 0x00 ∷ 0x01 ∷ 0x95 ∷ []) (wrote (0x02 ∷ 0xBD ∷ 0x00 ∷ 0x65 ∷ 0x00 ∷ 0x01 ∷ 0x00 ∷ 0x07 ∷ 0x00 ∷ 0x01 ∷ 0x95 ∷ []))
-    -- ¬(b = FALSE) to P
-    ∷ case (0x02 ∷ 0xBD ∷ 0x00 ∷ 0x65 ∷ 0x00 ∷ 0x01 ∷ 0x00 ∷ 0x07 ∷ 0x00 ∷ 0x01 ∷ 0x96 ∷ []) (wrote (0x00 ∷ 0x65 ∷ 0x00 ∷ 0x01 ∷ 0x00 ∷ 0x07 ∷ 0x00 ∷ 0x01 ∷ 0x95 ∷ []))
-    -- partition of one S to S = ∅
-    ∷ case (0x03 ∷ 0x85 ∷ 0x01 ∷ 0x00 ∷ 0x01 ∷ 0x00 ∷ 0x01 ∷ 0x03 ∷ 0x00 ∷ []) (wrote (0x00 ∷ 0x65 ∷ 0x00 ∷ 0x01 ∷ 0x00 ∷ 0x01 ∷ 0x03 ∷ 0x00 ∷ 0x01 ∷ 0x97 ∷ 0x03 ∷ 0x00 ∷ []))
-    -- of S, T to S = T
-    ∷ case (0x03 ∷ 0x85 ∷ 0x02 ∷ 0x00 ∷ 0x01 ∷ 0x00 ∷ 0x01 ∷ 0x03 ∷ 0x00 ∷ 0x00 ∷ 0x01 ∷ 0x00 ∷ 0x02 ∷ 0x03 ∷ 0x00 ∷ []) (wrote (0x00 ∷ 0x65 ∷ 0x00 ∷ 0x01 ∷ 0x00 ∷ 0x01 ∷ 0x03 ∷ 0x00 ∷ 0x00 ∷ 0x01 ∷ 0x00 ∷ 0x02 ∷ 0x03 ∷ 0x00 ∷ []))
-    -- of three unchanged
-    ∷ case (0x03 ∷ 0x85 ∷ 0x03 ∷ 0x00 ∷ 0x01 ∷ 0x00 ∷ 0x01 ∷ 0x03 ∷ 0x00 ∷ 0x00 ∷ 0x01 ∷ 0x00 ∷ 0x02 ∷ 0x03 ∷ 0x00 ∷ 0x00 ∷ 0x01 ∷ 0x00 ∷ 0x01 ∷ 0x03 ∷ 0x00 ∷ []) kept
-    -- {a} ∩ {b} = ∅ to ¬(a ∈ {b})
-    ∷ case (0x00 ∷ 0x65 ∷ 0x01 ∷ 0x2E ∷ 0x02 ∷ 0x00 ∷ 0x05 ∷ 0x01 ∷ 0x00 ∷ 0x01 ∷ 0x00 ∷ 0x08 ∷ 0x00 ∷ 0x00 ∷ 0x05 ∷ 0x01 ∷ 0x00 ∷ 0x01 ∷ 0x00 ∷ 0x07 ∷ 0x00 ∷ 0x01 ∷ 0x97 ∷ 0x03 ∷ 0x00 ∷ []) (wrote (0x02 ∷ 0xBD ∷ 0x00 ∷ 0x6B ∷ 0x00 ∷ 0x01 ∷ 0x00 ∷ 0x08 ∷ 0x00 ∷ 0x00 ∷ 0x05 ∷ 0x01 ∷ 0x00 ∷ 0x01 ∷ 0x00 ∷ 0x07 ∷ 0x00 ∷ []))
-    -- {a} ∩ {b} ∩ S = ∅ unchanged
-    ∷ case (0x00 ∷ 0x65 ∷ 0x01 ∷ 0x2E ∷ 0x03 ∷ 0x00 ∷ 0x05 ∷ 0x01 ∷ 0x00 ∷ 0x01 ∷ 0x00 ∷ 0x08 ∷ 0x00 ∷ 0x00 ∷ 0x05 ∷ 0x01 ∷ 0x00 ∷ 0x01 ∷ 0x00 ∷ 0x07 ∷ 0x00 ∷ 0x00 ∷ 0x01 ∷ 0x00 ∷ 0x01 ∷ 0x03 ∷ 0x00 ∷ 0x01 ∷ 0x97 ∷ 0x03 ∷ 0x00 ∷ []) kept
-    -- p;q;r = ∅ unchanged
-    ∷ case (0x00 ∷ 0x65 ∷ 0x01 ∷ 0x30 ∷ 0x03 ∷ 0x00 ∷ 0x01 ∷ 0x00 ∷ 0x03 ∷ 0x03 ∷ 0x04 ∷ 0x00 ∷ 0x00 ∷ 0x00 ∷ 0x01 ∷ 0x00 ∷ 0x04 ∷ 0x03 ∷ 0x04 ∷ 0x00 ∷ 0x00 ∷ 0x00 ∷ 0x01 ∷ 0x00 ∷ 0x05 ∷ 0x03 ∷ 0x04 ∷ 0x00 ∷ 0x00 ∷ 0x01 ∷ 0x97 ∷ 0x03 ∷ 0x04 ∷ 0x00 ∷ 0x00 ∷ []) kept
+    -- "02BD0262 (¬⊤) to 0263"
+    changed "02BD0262" "0263"
+    -- "015F0202620262 to 0262"
+    ∷ changed "015F0202620262" "0262"
+    -- "P ∧ ¬P to ⊥"
+    ∷ changed ("015F02" ++ P ++ not P) "0263"
+    -- "P ⇒ ¬P to ¬P"
+    ∷ changed ("00FB" ++ P ++ not P) (not P)
+    -- "¬(b = FALSE) to P"
+    ∷ changed (not (equal b "0196")) P
+    -- "partition of one S to S = ∅"
+    ∷ changed ("038501" ++ S) (equal S ∅)
+    -- "of S, T to S = T"
+    ∷ changed ("038502" ++ S ++ T) (equal S T)
+    -- "of three unchanged"
+    ∷ unchanged ("038503" ++ S ++ T ++ S)
+    -- "{a} ∩ {b} = ∅ to ¬(a ∈ {b})"
+    ∷ changed (equal ("012E02" ++ single a ++ single b) ∅) (not ("006B" ++ a ++ single b))
+    -- "{a} ∩ {b} ∩ S = ∅ unchanged"
+    ∷ unchanged (equal ("012E03" ++ single a ++ single b ++ S) ∅)
+    -- "p;q;r = ∅ unchanged"
+    ∷ unchanged (equal ("013003" ++ p ++ q ++ r) ∅ᵣ)
     ∷ []
 
 abbrev frameOf : Case → List ℕ
-frameOf (case s o) = s
+frameOf (changed t u) = bytes t
+frameOf (unchanged t) = bytes t
 
 abbrev outcome : Case → Outcome
-outcome (case s o) = o
+outcome (changed t u) = wrote (bytes u)
+outcome (unchanged t) = kept
 
 starred-cases : map (λ (c : Case). step (frameOf c) 0 4096) starred ≡ map outcome starred
-unfolding nodes lookup classOf formAt encNumber encTy encTys encHead enc numberAt tyCase readTy readTys withNumber withForm readHead readMany readNode parse find replace sameTy sameTys sameTree typeAt typeOf nodeTyped typedTree closedTree givensTy givensTys idents givens agrees spares consistent namesAgree checkTree check toExpression onTag contains makeNeg verdict scan simplifyAssocPred simplifyPredicateNode rewriteNot rewritePartition uses recovers functionalCheck rewriteFinite anySingle firstSingle anyMinus minuends subtrahends interEmpty rewriteEqualsEmptySet rewriteEqualsType dispatch stepTree fit step starred
+unfolding digitOf readLine bytes nodes lookup classOf formAt encNumber encTy encTys encHead enc numberAt tyCase readTy readTys
+    withNumber withForm readHead readMany readNode parse find replace sameTy sameTys sameTree typeAt typeOf nodeTyped typedTree closedTree
+    givensTy givensTys idents givens agrees spares consistent namesAgree checkTree check toExpression onTag contains makeNeg verdict scan
+    simplifyAssocPred simplifyPredicateNode rewriteNot rewritePartition uses recovers functionalCheck rewriteFinite anySingle firstSingle
+    anyMinus minuends subtrahends interEmpty rewriteEqualsEmptySet rewriteEqualsType dispatch stepTree fit step starred
 starred-cases = refl

@@ -15,8 +15,8 @@ use Rattle.frame.specs.Reading.{frameLimit}
 use Rattle.lines.specs.LineState.{lineBytes, shortened, lineState, LineGoes}
 use Rattle.lines.specs.declared.LineState.{LineState}
 use Rattle.lines.proofs.LineTurns.{count-said}
-use Rattle.printing.specs.Text.{newline, lineText}
-use Rattle.streaming.specs.Stream.{wholeOf, inPieces, answersAt, answers, lastLineAt, lastLine, lastAnswer, simplified}
+use Rattle.program.specs.Text.{newline, lineText}
+use Rattle.program.specs.Stream.{wholeOf, inPieces, answersAt, answers, lastLineAt, lastLine, lastAnswer, simplified}
 use Rattle.answers.specs.Posts.{longest, Holds, LinePost}
 use Rattle.streaming.specs.StreamPosts.{NoEnd, EndPost, Fed, FinishPost}
 use Rattle.printing.proofs.Writes.{appends-none, appends-then, appends-as}
@@ -37,7 +37,8 @@ unfolding lastLine
 last-join [] ys held = refl
 last-join (c ∷ xs) ys held = go (eqb c newline) (last-join xs ys)
   where
-    go : (b : Bool) → ((h : List ℕ) → lastLine (xs ++ ys) h ≡ lastLine ys (lastLine xs h)) → lastLineAt b held c (lastLine (xs ++ ys)) ≡ lastLine ys (lastLineAt b held c (lastLine xs))
+    go : (b : Bool) → ((h : List ℕ) → lastLine (xs ++ ys) h ≡ lastLine ys (lastLine xs h))
+        → lastLineAt b held c (lastLine (xs ++ ys)) ≡ lastLine ys (lastLineAt b held c (lastLine xs))
     go true ih = ih []
     go false ih = ih (held ++ (c ∷ []))
 
@@ -63,14 +64,16 @@ module _ (s : List ℕ) (at : ℕ) where
   pub end-start : NoEnd (take (at - at) (drop at s))
   end-start = let z : at - at ≡ 0 = omega arith in rw z tt
 
-  pub end-more : (i : ℕ) → at ≤ i → i < length s → (getD s i 0 ≡ newline → ⊥) → NoEnd (take (i - at) (drop at s)) → NoEnd (take (i + 1 - at) (drop at s))
+  pub end-more : (i : ℕ) → at ≤ i → i < length s → (getD s i 0 ≡ newline → ⊥) → NoEnd (take (i - at) (drop at s))
+      → NoEnd (take (i + 1 - at) (drop at s))
   end-more i l b n h =
       let k : ℕ = i - at in
       let d : List ℕ = drop at s in
       let z : i + 1 - at ≡ suc k = omega arith in
       let y : at + k ≡ i = omega arith in
       let g : getD d k 0 ≡ getD s i 0 = getD-drop at s k 0 ∙ ap (λ (j : ℕ). getD s j 0) y in
-      let e : take (i + 1 - at) d ≡ take k d ++ (getD s i 0 ∷ []) = ap (λ (j : ℕ). take j d) z ∙ take-suc d k 0 (omega (arith, length-drop at s)) ∙ ap (λ (x : ℕ). take k d ++ (x ∷ [])) g in
+      let e : take (i + 1 - at) d ≡ take k d ++ (getD s i 0 ∷ []) = ap (λ (j : ℕ). take j d) z ∙ take-suc d k 0
+          (omega (arith, length-drop at s)) ∙ ap (λ (x : ℕ). take k d ++ (x ∷ [])) g in
       subst NoEnd (sym e) (no-end-more (take k d) (getD s i 0) h n)
 
 -- ---- `feed`
@@ -100,7 +103,8 @@ module _ (piece : List ℕ) (st : LineState) (b o : List ℕ) where
           let z : answers (take e piece) held ≡ answers (take at piece) held =
           ap (λ (x : List ℕ). answers x held) line-part
           ∙ answers-join (take at piece) (take (e - at) (drop at piece)) held
-          ∙ ap (λ (x : List ℕ). answers (take at piece) held ++ x) (none-answers (take (e - at) (drop at piece)) (lastLine (take at piece) held) (end .none) .0)
+          ∙ ap (λ (x : List ℕ). answers (take at piece) held ++ x)
+              (none-answers (take (e - at) (drop at piece)) (lastLine (take at piece) held) (end .none) .0)
           ∙ append-nil (answers (take at piece) held) in
           appends-as o 0 (answers (take at piece) held) (answers (take e piece) held) o' n (sym z) (f .puts held h)
           );
@@ -120,7 +124,8 @@ module _ (piece : List ℕ) (st : LineState) (b o : List ℕ) where
           ap (λ (x : List ℕ). lastLine x held) (end-part l)
           ∙ last-join (take e piece) (newline ∷ []) held
           ∙ end-answers (lastLine (take e piece) held) .1 in
-          let k : length b' ≡ frameLimit = ap (λ (x : List ℕ). length x) (w .buffer) ∙ length-sets (w .old) 0 (take frameLimit (lineBytes (lastLine (take e piece) held))) ∙ w .long in
+          let k : length b' ≡ frameLimit = ap (λ (x : List ℕ). length x) (w .buffer) ∙ length-sets (w .old) 0
+              (take frameLimit (lineBytes (lastLine (take e piece) held))) ∙ w .long in
           subst (λ (x : List ℕ). Holds st'' b' x) (sym z) (record { old = b'; long = k; state = es; buffer = refl })
           );
       puts = λ held h. (
@@ -128,7 +133,8 @@ module _ (piece : List ℕ) (st : LineState) (b o : List ℕ) where
           ap (λ (x : List ℕ). answers x held) (end-part l)
           ∙ answers-join (take e piece) (newline ∷ []) held
           ∙ ap (λ (x : List ℕ). answers (take e piece) held ++ x) (end-answers (lastLine (take e piece) held) .0) in
-          let a = appends-then o 0 (answers (take e piece) held) o' n (lineText (lastLine (take e piece) held)) p m (f .puts held h) (q .puts (lastLine (take e piece) held) (f .line held h)) in
+          let a = appends-then o 0 (answers (take e piece) held) o' n (lineText (lastLine (take e piece) held)) p m (f .puts held h)
+              (q .puts (lastLine (take e piece) held) (f .line held h)) in
           appends-as o 0 (answers (take e piece) held ++ lineText (lastLine (take e piece) held)) (answers (take (e + 1) piece) held) p m (sym z) a
           );
     }
@@ -138,7 +144,8 @@ module _ (piece : List ℕ) (st : LineState) (b o : List ℕ) where
 module _ (st : LineState) (b o : List ℕ) where
   nothing : (held : List ℕ) → st .count ≡ 0 → st ≡ lineState held → lastAnswer held ≡ []
   nothing [] e h = refl
-  nothing (c ∷ cs) e h = let k = count-said (length (c ∷ cs)) (st .count) (ap (λ (x : LineState). x .count) h) in absurd (omega (arith, k .low (omega arith)))
+  nothing (c ∷ cs) e h = let k = count-said (length (c ∷ cs)) (st .count) (ap (λ (x : LineState). x .count) h) in
+      absurd (omega (arith, k .low (omega arith)))
 
   pub finish-none : st .count ≡ 0 → FinishPost st b o o 0
   finish-none e = record {
@@ -155,7 +162,8 @@ module _ (st : LineState) (b o : List ℕ) where
   pub finish-short : length o < longest → FinishPost st b o o 0
   finish-short s = record { puts = λ r held h. absurd (omega arith); short = λ x. (refl, refl); room = omega arith }
 
-  pub finish-line : (st .count ≡ 0 → ⊥) → longest ≤ length o → (p : List ℕ) (m : ℕ) → length p ≡ length o → LinePost st b o 0 p m → FinishPost st b o p m
+  pub finish-line : (st .count ≡ 0 → ⊥) → longest ≤ length o → (p : List ℕ) (m : ℕ) → length p ≡ length o
+      → LinePost st b o 0 p m → FinishPost st b o p m
   finish-line e l p m k q = record {
     puts = λ r held h. appends-as o 0 (lineText held) (lastAnswer held) p m (something held e (h .state)) (q .puts held h);
     short = λ s. absurd (omega arith);
@@ -163,7 +171,8 @@ module _ (st : LineState) (b o : List ℕ) where
   }
 
 -- ---- the whole input, in pieces: what `feed` writes of each, and then `finish`
-from-held : (pieces : List (List ℕ)) (held : List ℕ) → inPieces pieces held ≡ answers (wholeOf pieces) held ++ lastAnswer (lastLine (wholeOf pieces) held)
+from-held : (pieces : List (List ℕ)) (held : List ℕ) → inPieces pieces held ≡ answers (wholeOf pieces) held ++ lastAnswer
+    (lastLine (wholeOf pieces) held)
 unfolding inPieces wholeOf answers lastLine
 from-held [] held = refl
 from-held (piece ∷ pieces) held =

@@ -40,19 +40,23 @@ module _ (g n : ℕ) (us : List Ty) (Γ : Ctx) (ts : List Ty) where
       let t = typeOf k Γ′ in
       let e : ts ++ (t ∷ typesIn ks Γ′) ≡ (ts ++ (t ∷ [])) ++ typesIn ks Γ′ = sym (append-assoc ts (t ∷ []) (typesIn ks Γ′)) in
       close-up (opened g n us Γ ts (cons k ks)) ps
-      ∙ swapped (nodeTyped g n us Γ (ts ++ (t ∷ typesIn ks Γ′))) (typedTree k Γ′) (typedForest ks Γ′) (deliver (result (classOf g) n us Γ (ts ++ (t ∷ typesIn ks Γ′))) ps)
-      ∙ ap (λ (l : List Ty). pick (typedTree k Γ′) (pick (nodeTyped g n us Γ l && typedForest ks Γ′) (deliver (result (classOf g) n us Γ l) ps) bad) bad) e
+      ∙ swapped (nodeTyped g n us Γ (ts ++ (t ∷ typesIn ks Γ′))) (typedTree k Γ′) (typedForest ks Γ′)
+          (deliver (result (classOf g) n us Γ (ts ++ (t ∷ typesIn ks Γ′))) ps)
+      ∙ ap (λ (l : List Ty). pick (typedTree k Γ′) (pick (nodeTyped g n us Γ l && typedForest ks Γ′)
+              (deliver (result (classOf g) n us Γ l) ps) bad) bad) e
       ∙ ap (λ (a : Answer). pick (typedTree k Γ′) a bad) (sym (close-up (given (opened g n us Γ ts ks) t) ps))
       ∙ sym (close-up (opened h m vs Γ′ [] ls) (opened g n us Γ ts ks ∷ ps))
 
   -- an operand that is not well typed
-  pub machine-bad : (h m : ℕ) (vs : List Ty) (ls ks : Forest) (ps : List Open) → typedTree (node (head h m vs) ls) (under g us Γ) ≡ false → closeUp (opened g n us Γ ts (cons (node (head h m vs) ls) ks)) ps ≡ bad
+  pub machine-bad : (h m : ℕ) (vs : List Ty) (ls ks : Forest) (ps : List Open) → typedTree (node (head h m vs) ls) (under g us Γ) ≡ false
+      → closeUp (opened g n us Γ ts (cons (node (head h m vs) ls) ks)) ps ≡ bad
   unfolding typedTree
   machine-bad h m vs ls ks ps e =
       machine-push h m vs ls ks ps ∙ close-up (opened h m vs Γ′ [] ls) (opened g n us Γ ts ks ∷ ps)
       ∙ ap (λ (b : Bool). pick b (deliver (typeIn (opened h m vs Γ′ [] ls)) (opened g n us Γ ts ks ∷ ps)) bad) e
 
-  pub machine-pop : (ps : List Open) → closeUp (opened g n us Γ ts nil) ps ≡ pick (nodeTyped g n us Γ ts) (deliver (result (classOf g) n us Γ ts) ps) bad
+  pub machine-pop : (ps : List Open) → closeUp (opened g n us Γ ts nil) ps ≡ pick (nodeTyped g n us Γ ts)
+      (deliver (result (classOf g) n us Γ ts) ps) bad
   unfolding typeOf typedTree
   machine-pop ps =
       close-up (opened g n us Γ ts nil) ps

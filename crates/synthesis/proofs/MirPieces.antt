@@ -2,7 +2,9 @@
 -- Main results: tyIn, after, armIn, armOf.
 use Prim.Native.Nat.{ℕ, zero, suc}
 use mathlib.Core.List.{[], _∷_, List}
-use package.mir.Syntax.{Ty, tyUnit, Local, local, Body, skip, seq, assign, block, loop, cond, switch, exit, return, call, Arms, arm, default, noDefault}
+use package.mir.Syntax.{
+  Ty, tyUnit, Local, local, Body, skip, seq, assign, block, loop, cond, switch, exit, return, call, Arms, arm, default, noDefault
+}
 
 abbrev pub tyIn : List Local → ℕ → Ty
 tyIn [] i = tyUnit

@@ -56,8 +56,9 @@ tree-down s e at t q zero a = no-not a
 tree-down s e at t q (suc f) a = (f, node-inv f s e at t q a)
 
 module _ (s : List ℕ) (at : ℕ) (e : Sort) (t : Tree) (q : ℕ) where
-  view-of : (top : Head) (p′ : ℕ) (es : List Sort) (ks : Forest) (f : ℕ) → readHead s at e ≡ okH top p′ es → readMany es (readNode f s) p′ ≡ okF ks q → t ≡ node top ks
-      → (tag n tp p k : ℕ) (a b : Bool) → H.Is tag n tp p k a b ≡ headAnswer (typesAt s at) (okH top p′ es) → View s at e t q tag n tp p k
+  view-of : (top : Head) (p′ : ℕ) (es : List Sort) (ks : Forest) (f : ℕ) → readHead s at e ≡ okH top p′ es
+      → readMany es (readNode f s) p′ ≡ okF ks q → t ≡ node top ks → (tag n tp p k : ℕ) (a b : Bool)
+      → H.Is tag n tp p k a b ≡ headAnswer (typesAt s at) (okH top p′ es) → View s at e t q tag n tp p k
   view-of (head g m us) p′ es ks f hd bl ist tag n tp p k a b eq =
       let eg : tag ≡ g = cc in
       let em : n ≡ m = cc in
@@ -76,11 +77,13 @@ module _ (s : List ℕ) (at : ℕ) (e : Sort) (t : Tree) (q : ℕ) where
         starts = cc;
       }
 
-  pub view : IsAt s e at t q → (h : HeadAnswer) → h ≡ headThere s at e → (tag n tp p k : ℕ) (a b : Bool) → h ≡ H.Is tag n tp p k a b → View s at e t q tag n tp p k
+  pub view : IsAt s e at t q → (h : HeadAnswer) → h ≡ headThere s at e → (tag n tp p k : ℕ) (a b : Bool) → h ≡ H.Is tag n tp p k a b
+      → View s at e t q tag n tp p k
   view w h eh tag n tp p k a b hi =
       let d = tree-down s e at t q (w .0) (w .1) in
       let v = d .1 in
-      view-of (v .top) (v .from) (v .sorts) (v .kids) (d .0) (v .headed) (v .below) (v .is) tag n tp p k a b (sym hi ∙ eh ∙ ap (headAnswer (typesAt s at)) (v .headed))
+      view-of (v .top) (v .from) (v .sorts) (v .kids) (d .0) (v .headed) (v .below) (v .is) tag n tp p k a b
+          (sym hi ∙ eh ∙ ap (headAnswer (typesAt s at)) (v .headed))
 
   refused-of {ℓ} : {X : Type ℓ} (top : Head) (p : ℕ) (es : List Sort) (c : ℕ) → H.Refused c ≡ headAnswer (typesAt s at) (okH top p es) → X
   refused-of (head g m us) p es c eq = let z : _≡_ {A = ℕ} 0 1 = cc in absurd (omega arith)
@@ -119,32 +122,38 @@ module _ (s : List ℕ) (bs : Bytes s) (at : ℕ) (e : Sort) (t : Tree) (q tag n
       let a : read .tag ≡ tag = cc in
       let b : read .own ≡ n = cc in
       let c : read .ts ≡ v .us = cc in
-      (v .counted ∙ ap length (read .sorts ∙ subst₃ (λ (i j : ℕ) (l : List Ty). sortsOf (formOf i .layout) (numberIn i j l (count (v .ks))) ≡ sortsOf (formOf tag .layout) (numberIn tag n (v .us) (count (v .ks)))) (sym a) (sym b) (sym c) refl), formed .range)
+      (v .counted ∙ ap length (read .sorts ∙ subst₃ (λ (i j : ℕ) (l : List Ty). sortsOf (formOf i .layout)
+                (numberIn i j l (count (v .ks))) ≡ sortsOf (formOf tag .layout) (numberIn tag n (v .us) (count (v .ks)))) (sym a) (sym b)
+              (sym c) refl), formed .range)
 
   pub view-past : (at + 2 ≤ p) × (p ≤ length s)
   view-past = (read .past, read .span .within)
 
   carried-span : Spans s tp p (encTys (v .us))
-  carried-span = let z = read .is in let c : read .ts ≡ v .us = cc in subst₂ (λ (i : ℕ) (l : List Ty). Spans s i p (encTys l)) (sym (v .starts)) c (read .types)
+  carried-span = let z = read .is in let c : read .ts ≡ v .us = cc in
+      subst₂ (λ (i : ℕ) (l : List Ty). Spans s i p (encTys l)) (sym (v .starts)) c (read .types)
 
   module _ (Γ : Ctx) (leaf : ℕ) (lf : LeafAt t Γ s leaf) where
     of-bound : ruleNumber (classOf tag) ≡ 6 → Spans s leaf (leaf + length (encTy (typeAt Γ n))) (encTy (typeAt Γ n))
     of-bound h =
         let g = bound-only tag h (ltb tag 902) refl in
         let l = subst (λ (x : Tree). LeafAt x Γ s leaf) (v .is) lf in
-        subst (λ (b : Bool). pick {X = Type 0} b (Spans s leaf (leaf + length (encTy (typeAt Γ n))) (encTy (typeAt Γ n))) (Unit {0})) (eq-eqb tag 3 g) l
+        subst (λ (b : Bool). pick {X = Type 0} b (Spans s leaf (leaf + length (encTy (typeAt Γ n))) (encTy (typeAt Γ n)))
+              (Unit {0})) (eq-eqb tag 3 g) l
 
     of-carried : 0 < ruleNumber (classOf tag) → ruleNumber (classOf tag) < 6 → (x : ℕ) × Spans s tp x (encTy (carriedTy (v .us)))
     unfolding encTys
     of-carried l h =
         let o = one-type (v .us) (formed .many ∙ carries-one (classOf tag) _ l h) in
         let a = subst (λ (us : List Ty). Spans s tp p (encTys us)) (o .1) carried-span in
-        (tp + length (encTy (o .0)), subst (λ (us : List Ty). Spans s tp (tp + length (encTy (o .0))) (encTy (carriedTy us))) (sym (o .1)) (span-left (encTy (o .0)) [] a))
+        (tp + length (encTy (o .0)), subst (λ (us : List Ty). Spans s tp (tp + length (encTy (o .0))) (encTy (carriedTy us))) (sym (o .1))
+              (span-left (encTy (o .0)) [] a))
 
     pub own-at : OwnAt (classOf tag) n (v .us) Γ s (ownPlace (classOf tag) tp leaf)
     own-at = record { stands = λ u eq. by (eqb (ruleNumber (classOf tag)) 6) refl u eq }
       where
-        by : (b : Bool) → eqb (ruleNumber (classOf tag)) 6 ≡ b → (u : Ty) → ownTypes (classOf tag) n (v .us) Γ ≡ u ∷ [] → (x : ℕ) × Spans s (pick b leaf tp) x (encTy u) × TyWf u
+        by : (b : Bool) → eqb (ruleNumber (classOf tag)) 6 ≡ b → (u : Ty) → ownTypes (classOf tag) n (v .us) Γ ≡ u ∷ []
+            → (x : ℕ) × Spans s (pick b leaf tp) x (encTy u) × TyWf u
         by true eb u eq =
             let h = eqb-true (ruleNumber (classOf tag)) 6 eb in
             let z : typeAt Γ n ≡ u = head-eq (sym (bound-own (classOf tag) n (v .us) Γ h) ∙ eq) in
@@ -159,7 +168,8 @@ module _ (s : List ℕ) (bs : Bytes s) (at : ℕ) (e : Sort) (t : Tree) (q tag n
             (a .0, b, type-wf s bs u tp (a .0) b)
 
 -- a node whose own type is too long
-too-long : (g n : ℕ) (us : List Ty) (ks : Forest) (Γ : Ctx) (u : Ty) → ownTypes (classOf g) n us Γ ≡ u ∷ [] → 64 < length (encTy u) → typedTree (node (head g n us) ks) Γ ≡ false
+too-long : (g n : ℕ) (us : List Ty) (ks : Forest) (Γ : Ctx) (u : Ty) → ownTypes (classOf g) n us Γ ≡ u ∷ [] → 64 < length (encTy u)
+    → typedTree (node (head g n us) ks) Γ ≡ false
 unfolding typedTree nodeTyped
 too-long g n us ks Γ u e h =
     let ts = typesIn ks (under g us Γ) in
@@ -192,10 +202,12 @@ module _ (s : List ℕ) (bs : Bytes s) (at leaf : ℕ) (t₀ l₀ f₀ : List �
     unfolding nodes
     open-small x =
         let v = seen (x .sort) (x .tree) (x .to) (x .stands) in
-        (formed s bs at (x .sort) (x .tree) (x .to) tag n tp p k v .small, omega (arith, v .many, count-few (v .ks), ap nodes (v .is), x .few), omega (arith, x .low))
+        (formed s bs at (x .sort) (x .tree) (x .to) tag n tp p k v .small,
+              omega (arith, v .many, count-few (v .ks), ap nodes (v .is), x .few), omega (arith, x .low))
 
     module _ (types : List ℕ) (r : Typed) (op : OwnPost (classOf tag) s (ownPlace (classOf tag) tp leaf) o end types r) where
-      owning : (e : Sort) (t : Tree) (q : ℕ) (Γ : Ctx) (w : IsAt s e at t q) → LeafAt t Γ s leaf → Owning r (classOf tag) n (seen e t q w .us) Γ o end types
+      owning : (e : Sort) (t : Tree) (q : ℕ) (Γ : Ctx) (w : IsAt s e at t q) → LeafAt t Γ s leaf
+          → Owning r (classOf tag) n (seen e t q w .us) Γ o end types
       owning e t q Γ w lf = let v = seen e t q w in op .answer n (v .us) Γ (own-at s bs at e t q tag n tp p k v Γ leaf lf)
 
       pub open-bad : r ≡ T.Bad → (t₁ l₁ f₁ : List ℕ) → OpenPost s at leaf t₀ l₀ f₀ top o end t₁ l₁ f₁ types O.Bad

@@ -8,7 +8,14 @@ use native.Mathlib.Omega.{arith}
 use lib.Dec.{ltb, eqb}
 use borrow.Author.Tests.{eq-eqb, eqb-true, ltb-true, ltb-false}
 use Rattle.frame.specs.Types.{Ty}
-use Rattle.frame.specs.Tags.{pick, formAt, typesOf, table, classOf, Class, literalPred, equality, order, membership, inclusion, binaryPred, associativePred, negation, quantifiedPred, finite, partition, identifier, bound, literal, setExtension, maplet, relationSet, setMinus, cartesian, directProduct, parallelProduct, domainRestriction, rangeRestriction, upTo, arithmetic, functionImage, relationalImage, setOperation, backwardComposition, forwardComposition, override, sum, integerSet, boolSet, truthValue, integerRelation, emptySet, projection1, projection2, identity, boolExpr, cardinal, powerset, generalised, domain, range, extremum, converse, unaryMinus, quantifiedSet, comprehension, unlisted}
+use Rattle.frame.specs.Tags.{
+  pick, formAt, typesOf, table, classOf, Class, literalPred, equality, order, membership, inclusion, binaryPred, associativePred,
+  negation, quantifiedPred, finite, partition, identifier, bound, literal, setExtension, maplet, relationSet, setMinus, cartesian,
+  directProduct, parallelProduct, domainRestriction, rangeRestriction, upTo, arithmetic, functionImage, relationalImage,
+  setOperation, backwardComposition, forwardComposition, override, sum, integerSet, boolSet, truthValue, integerRelation,
+  emptySet, projection1, projection2, identity, boolExpr, cardinal, powerset, generalised, domain, range, extremum, converse,
+  unaryMinus, quantifiedSet, comprehension, unlisted
+}
 use Rattle.frame.specs.Places.{Ctx}
 use Rattle.frame.proofs.EveryTag.{alongRows, every-tag, unlisted-past}
 use Rattle.typing.specs.Typing.{result}
@@ -75,7 +82,8 @@ own-result quantifiedSet n us Γ ts u e = nil-not e
 own-result comprehension n us Γ ts u e = nil-not e
 own-result unlisted n us Γ ts u e = nil-not e
 
-pub own-cases : (c : Class) (n : ℕ) (us : List Ty) (Γ : Ctx) (u : Ty) → ownTypes c n us Γ ≡ u ∷ [] → (ruleNumber c ≡ 6 → ⊥) → (0 < ruleNumber c) × (ruleNumber c < 6)
+pub own-cases : (c : Class) (n : ℕ) (us : List Ty) (Γ : Ctx) (u : Ty) → ownTypes c n us Γ ≡ u ∷ [] → (ruleNumber c ≡ 6 → ⊥)
+    → (0 < ruleNumber c) × (ruleNumber c < 6)
 unfolding ruleNumber
 own-cases literalPred n us Γ u e h = nil-not e
 own-cases equality n us Γ u e h = nil-not e

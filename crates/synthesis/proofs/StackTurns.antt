@@ -81,7 +81,8 @@ module _ (t l f s leaves types : List ℕ) (st : State) where
         let c : closedTo (eqb (st .top) 0) st m ≡ U.Up (stateOf st m) = ap (λ (b : Bool). closedTo b st m) (ne-eqb (st .top) 0 (omega (arith, run .top))) in
         let h = run .stack in
         let k = h .1 in
-        let q : h .0 ≡ st .at = kids-none t l f s leaves types base stop (k .sorts) (st .at) (h .0) (k .kids .0) (subst (λ (ks : Forest). readMany (k .sorts) (readNode (k .kids .0) s) (st .at) ≡ okF ks (h .0)) z (k .kids .1)) in
+        let q : h .0 ≡ st .at = kids-none t l f s leaves types base stop (k .sorts) (st .at) (h .0) (k .kids .0)
+            (subst (λ (ks : Forest). readMany (k .sorts) (readNode (k .kids .0) s) (st .at) ≡ okF ks (h .0)) z (k .kids .1)) in
         let y : st .place + nodesIn (o .todo) ≡ st .place = omega (arith, ap nodesIn z) in
         let e : getD f (suc (length ps)) 0 ≡ from = ap (λ (d : ℕ). getD f d 0) (sym (run .top)) in
         let below = subst₃ (λ (i j w : ℕ). Stack t l f s leaves types base stop 1 p ps i j w) e q y (h .2) in
@@ -152,11 +153,13 @@ pub leaf-of : (s leaves : List ℕ) (k : Tree) (Γ : Ctx) (place : ℕ) → Leav
 unfolding LeavesAt
 leaf-of s leaves (node (head g n us) ks) Γ place h = h .0
 
-pub kids-leaves : (s leaves : List ℕ) (g n : ℕ) (us : List Ty) (ks : Forest) (Γ : Ctx) (place : ℕ) → LeavesAt (node (head g n us) ks) Γ place s leaves → LeavesIn ks (under g us Γ) (place + 1) s leaves
+pub kids-leaves : (s leaves : List ℕ) (g n : ℕ) (us : List Ty) (ks : Forest) (Γ : Ctx) (place : ℕ)
+    → LeavesAt (node (head g n us) ks) Γ place s leaves → LeavesIn ks (under g us Γ) (place + 1) s leaves
 unfolding LeavesAt
 kids-leaves s leaves g n us ks Γ place h = subst (λ (i : ℕ). LeavesIn ks (under g us Γ) i s leaves) (sym (add-one place)) (h .1)
 
-row-leaves : (s leaves : List ℕ) (k : Tree) (ks : Forest) (Γ : Ctx) (place : ℕ) → LeavesIn (cons k ks) Γ place s leaves → LeavesAt k Γ place s leaves × LeavesIn ks Γ (place + nodes k) s leaves
+row-leaves : (s leaves : List ℕ) (k : Tree) (ks : Forest) (Γ : Ctx) (place : ℕ) → LeavesIn (cons k ks) Γ place s leaves
+    → LeavesAt k Γ place s leaves × LeavesIn ks Γ (place + nodes k) s leaves
 unfolding LeavesAt
 row-leaves s leaves k ks Γ place h = (h .0, h .1)
 
@@ -173,7 +176,8 @@ abbrev without : Open → Forest → Open
 without o ks = opened (o .tag) (o .payload) (o .types) (o .ctx) (o .done) ks
 
 -- ---- what is below the node that is opened
-module _ (s leaves : List ℕ) (bs : Bytes s) (base stop : ℕ) (t l f types : List ℕ) (lent : Lent t l f) (t₁ l₁ f₁ types₁ : List ℕ) (o : Open) (k : Tree) (ks : Forest) (z : o .todo ≡ cons k ks) (g c : ℕ) where
+module _ (s leaves : List ℕ) (bs : Bytes s) (base stop : ℕ) (t l f types : List ℕ) (lent : Lent t l f) (t₁ l₁ f₁ types₁ : List ℕ) (o : Open)
+    (k : Tree) (ks : Forest) (z : o .todo ≡ cons k ks) (g c : ℕ) where
   module _ (d n at q place : ℕ) (h : Held t l f s leaves types base 0 o d n at q place) (dd : d < 2048)
       (et : t₁ ≡ set t (suc d) g) (el : l₁ ≡ set (set l d (getD l d 0 - 1)) (suc d) c) (ef : f₁ ≡ set f (suc d) n) (kept : Kept types types₁ n) where
     kid : FirstKid s at k ks q
@@ -198,7 +202,8 @@ module _ (s leaves : List ℕ) (bs : Bytes s) (base stop : ℕ) (t l f types : L
         let fr = agree-froms d (omega arith) d (omega arith) in
         record {
           tag = agree-tags d (omega arith) d (omega arith) ∙ h .tag;
-          left = ap (λ (a : List ℕ). getD a d 0) el ∙ getD-set-other (set l d (getD l d 0 - 1)) (suc d) d c 0 (omega arith) ∙ getD-set-same l d (getD l d 0 - 1) 0 (omega (arith, lent .of-lefts)) ∙ omega (arith, h .left, cnt);
+          left = ap (λ (a : List ℕ). getD a d 0) el ∙ getD-set-other (set l d (getD l d 0 - 1)) (suc d) d c 0
+              (omega arith) ∙ getD-set-same l d (getD l d 0 - 1) 0 (omega (arith, lent .of-lefts)) ∙ omega (arith, h .left, cnt);
           row = subst (λ (i : ℕ). RowAt types₁ i n (shown o)) (sym fr) (row-kept types types₁ (getD f d 0) n (shown o) kept (h .row));
           sorts = kid .sorts;
           kids = kid .rest;
@@ -241,7 +246,8 @@ module _ (t l f s leaves types : List ℕ) (bs : Bytes s) (st : State) (left : g
         let h = top-held t l f s leaves types st base stop o ps run in
         let z = next-kid .2 in (
           h .0,
-          first-kid s (h .1 .sorts) (st .at) (next-kid .0) (next-kid .1) (h .0) (h .1 .kids .0) (subst (λ (x : Forest). readMany (h .1 .sorts) (readNode (h .1 .kids .0) s) (st .at) ≡ okF x (h .0)) z (h .1 .kids .1)),
+          first-kid s (h .1 .sorts) (st .at) (next-kid .0) (next-kid .1) (h .0) (h .1 .kids .0)
+              (subst (λ (x : Forest). readMany (h .1 .sorts) (readNode (h .1 .kids .0) s) (st .at) ≡ okF x (h .0)) z (h .1 .kids .1)),
           row-leaves s leaves (next-kid .0) (next-kid .1) (inner o) (st .place) (subst (λ (x : Forest). LeavesIn x (inner o) (st .place) s leaves) z (h .1 .leafs)) .0,
         )
 
@@ -292,7 +298,8 @@ module _ (t l f s leaves types : List ℕ) (bs : Bytes s) (st : State) (left : g
           let n = next-kid base stop o ps run in
           let a = kid-at base stop o ps run .1 in
           bad-kid o ps (n .0) (n .1) (n .2)
-          (subst (λ (x : Opened). Opening x s (st .at) (n .0) (a .mid) (inner o) t (set l (st .top) (getD l (st .top) 0 - 1)) f (st .top + 1) types (st .end) t₁ l₁ f₁ types₁) er (opening base stop o ps run (a .sort) (a .mid) (a .tree))));
+          (subst (λ (x : Opened). Opening x s (st .at) (n .0) (a .mid) (inner o) t (set l (st .top) (getD l (st .top) 0 - 1)) f
+                  (st .top + 1) types (st .end) t₁ l₁ f₁ types₁) er (opening base stop o ps run (a .sort) (a .mid) (a .tree))));
     }
 
     module _ (p m : ℕ) (nd₁ : OpenNode) (er : r ≡ O.To p m nd₁) where
@@ -300,10 +307,11 @@ module _ (t l f s leaves types : List ℕ) (bs : Bytes s) (st : State) (left : g
       next = record { at = p; place = st .place + 1; end = m; top = st .top + 1 }
 
       -- with the node that was opened
-      with-node : (u₁ c₁ : OpenNode) (base stop : ℕ) (o : Open) (ps : List Open) (run : Running t l f s leaves types st base stop o ps) (k : Tree) (ks : Forest) → o .todo ≡ cons k ks → LeavesAt k (inner o) (st .place) s leaves
-          → (mid : ℕ) → Stack t₁ l₁ f₁ s leaves types₁ base stop 1 (without o ks) ps (st .end) mid (st .place + nodes k)
-          → NodeOpen s (st .at) k mid (inner o) t (set l (st .top) (getD l (st .top) 0 - 1)) f (st .top + 1) types (st .end) t₁ l₁ f₁ types₁ p m
-          → Turning (U.Down u₁ c₁ next) t₁ l₁ f₁ s leaves types₁ st base stop (closeUp o ps)
+      with-node : (u₁ c₁ : OpenNode) (base stop : ℕ) (o : Open) (ps : List Open) (run : Running t l f s leaves types st base stop o ps)
+          (k : Tree) (ks : Forest) → o .todo ≡ cons k ks → LeavesAt k (inner o) (st .place) s leaves → (mid : ℕ)
+          → Stack t₁ l₁ f₁ s leaves types₁ base stop 1 (without o ks) ps (st .end) mid (st .place + nodes k)
+          → NodeOpen s (st .at) k mid (inner o) t (set l (st .top) (getD l (st .top) 0 - 1)) f (st .top + 1) types
+          (st .end) t₁ l₁ f₁ types₁ p m → Turning (U.Down u₁ c₁ next) t₁ l₁ f₁ s leaves types₁ st base stop (closeUp o ps)
       with-node u₁ c₁ base stop o ps run k ks z lv mid below nd =
           let g = nd .tag in
           let n = nd .payload in
@@ -317,8 +325,12 @@ module _ (t l f s leaves types : List ℕ) (bs : Bytes s) (st : State) (left : g
           let sp = open-room base stop o ps run in
           let zt : getD t₁ d 0 ≡ g = ap (λ (a : List ℕ). getD a d 0) (nd .tags ∙ ap (λ (i : ℕ). set t i g) e) ∙ getD-set-same t d g 0 (omega (arith, run .lent .of-tags, sp .0)) in
           let l₀ = set l (st .top) (getD l (st .top) 0 - 1) in
-          let zl : getD l₁ d 0 ≡ count ls = ap (λ (a : List ℕ). getD a d 0) (nd .lefts ∙ ap (λ (i : ℕ). set l₀ i (count ls)) e) ∙ getD-set-same l₀ d (count ls) 0 (omega (arith, length-set l (st .top) (getD l (st .top) 0 - 1), run .lent .of-lefts, sp .0)) in
-          let zf : getD f₁ d 0 ≡ st .end = ap (λ (a : List ℕ). getD a d 0) (nd .froms ∙ ap (λ (i : ℕ). set f i (st .end)) e) ∙ getD-set-same f d (st .end) 0 (omega (arith, run .lent .of-froms, sp .0)) in
+          let zl : getD l₁ d 0 ≡ count ls = ap (λ (a : List ℕ). getD a d 0)
+              (nd .lefts ∙ ap (λ (i : ℕ). set l₀ i (count ls)) e) ∙ getD-set-same l₀ d (count ls) 0
+              (omega (arith, length-set l (st .top) (getD l (st .top) 0 - 1), run .lent .of-lefts, sp .0)) in
+          let zf : getD f₁ d 0 ≡ st .end = ap (λ (a : List ℕ). getD a d 0)
+              (nd .froms ∙ ap (λ (i : ℕ). set f i (st .end)) e) ∙ getD-set-same f d (st .end) 0
+              (omega (arith, run .lent .of-froms, sp .0)) in
           let held : Held t₁ l₁ f₁ s leaves types₁ base 0 o₁ d m p mid (st .place + 1) = record {
             tag = zt;
             left = zl;
@@ -349,13 +361,15 @@ module _ (t l f s leaves types : List ℕ) (bs : Bytes s) (st : State) (left : g
             places = run .places;
             buffer = omega (arith, nd .kept .long, run .buffer);
           } in
-          let same = sym (ap (λ (x : Forest). closeUp (without o x) ps) (z ∙ ap (λ (x : Tree). cons x ks) (nd .is)) ∙ machine-push (o .tag) (o .payload) (o .types) (o .ctx) (o .done) g n us ls ks ps) in
+          let same = sym (ap (λ (x : Forest). closeUp (without o x) ps) (z ∙ ap (λ (x : Tree). cons x ks) (nd .is)) ∙ machine-push (o .tag)
+                (o .payload) (o .types) (o .ctx) (o .done) g n us ls ks ps) in
           (o₁, without o ks ∷ ps, on, same, omega (arith, nd .past, nd .within))
 
       made : (base stop : ℕ) (o : Open) (ps : List Open) (run : Running t l f s leaves types st base stop o ps) (e : Sort) (mid : ℕ) → IsAt s e (st .at) (next-kid base stop o ps run .0) mid
           → NodeOpen s (st .at) (next-kid base stop o ps run .0) mid (inner o) t (set l (st .top) (getD l (st .top) 0 - 1)) f (st .top + 1) types (st .end) t₁ l₁ f₁ types₁ p m
       made base stop o ps run e mid w =
-          subst (λ (x : Opened). Opening x s (st .at) (next-kid base stop o ps run .0) mid (inner o) t (set l (st .top) (getD l (st .top) 0 - 1)) f (st .top + 1) types (st .end) t₁ l₁ f₁ types₁) er
+          subst (λ (x : Opened). Opening x s (st .at) (next-kid base stop o ps run .0) mid (inner o) t
+                (set l (st .top) (getD l (st .top) 0 - 1)) f (st .top + 1) types (st .end) t₁ l₁ f₁ types₁) er
           (opening base stop o ps run e mid w)
 
       pub turn-open : (u₁ c₁ : OpenNode) → TurnPost t l f s leaves types st t₁ l₁ f₁ types₁ (U.Down u₁ c₁ next)
@@ -365,7 +379,8 @@ module _ (t l f s leaves types : List ℕ) (bs : Bytes s) (st : State) (left : g
             let a = kid-at base stop o ps run in
             let nd = made base stop o ps run (a .1 .sort) (a .1 .mid) (a .1 .tree) in
             let e : st .top + 1 ≡ suc (length ps) = omega (arith, run .top) in
-            let b = below-stack s leaves bs base stop t l f types (run .lent) t₁ l₁ f₁ types₁ o (k .0) (k .1) (k .2) (nd .tag) (count (nd .kids)) ps (st .end) (st .at) (st .place) (run .stack)
+            let b = below-stack s leaves bs base stop t l f types (run .lent) t₁ l₁ f₁ types₁ o (k .0) (k .1) (k .2) (nd .tag)
+                (count (nd .kids)) ps (st .end) (st .at) (st .place) (run .stack)
             (omega (arith, run .top, open-room base stop o ps run .0))
             (nd .tags ∙ ap (λ (i : ℕ). set t i (nd .tag)) e)
             (nd .lefts ∙ ap₂ (λ (i j : ℕ). set (set l i (getD l i 0 - 1)) j (count (nd .kids))) (run .top) e)

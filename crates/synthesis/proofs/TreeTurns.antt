@@ -21,7 +21,10 @@ use Rattle.synthesis.specs.Machine.{Answer, is, bad, Open, opened, close
 use Rattle.type_rules.specs.Patterns.{Operands}
 use Rattle.frame.specs.At.{IsAt}
 use Rattle.frame.proofs.Extents.{some-node}
-use Rattle.synthesis.specs.TypingPosts.{LeafAt, OpenPre, NodeOpen, Opening, tagsWith, leftsWith, fromsWith, NodePost, Held, Running, Ending, Top, TurnsPre, TurnsPost, TypePre, Typing, TypePost}
+use Rattle.synthesis.specs.TypingPosts.{
+  LeafAt, OpenPre, NodeOpen, Opening, tagsWith, leftsWith, fromsWith, NodePost, Held, Running, Ending, Top, TurnsPre, TurnsPost,
+  TypePre, Typing, TypePost
+}
 use Rattle.patterns.specs.declared.Typed.{Typed}
 use Rattle.patterns.specs.declared.Typed.the-variants as T
 use Rattle.synthesis.specs.declared.stack.OpenNode.{OpenNode}
@@ -56,19 +59,22 @@ module _ (s : List ℕ) (at place : ℕ) (leaves : List ℕ) where
     low = omega arith;
   }
 
-  ended : (types₁ : List ℕ) (v : Typed) (tr : Tree) (Γ : Ctx) (b : Bool) → typedTree tr Γ ≡ b → Ending v (pick b (is (typeOf tr Γ)) bad) types₁ → Typing v tr Γ types₁
+  ended : (types₁ : List ℕ) (v : Typed) (tr : Tree) (Γ : Ctx) (b : Bool) → typedTree tr Γ ≡ b
+      → Ending v (pick b (is (typeOf tr Γ)) bad) types₁ → Typing v tr Γ types₁
   ended types₁ (T.Is n) tr Γ true e a = let z : typeOf tr Γ ≡ a .0 = cc (a .1) in (e, subst (λ (u : Ty). Spans types₁ 0 n (encTy u)) (sym z) (a .2))
   ended types₁ (T.Is n) tr Γ false e a = let z : _≡_ {A = ℕ} 0 1 = cc (a .1) in absurd (omega arith)
   ended types₁ T.Bad tr Γ true e a = let z : _≡_ {A = ℕ} 0 1 = cc in absurd (omega arith)
   ended types₁ T.Bad tr Γ false e a = e
 
-  module _ (types : List ℕ) (leaf : ℕ) (el : leaf ≡ getD leaves place 0) (types₁ : List ℕ) (r : Opened) (np : NodePost s at leaf types 0 types₁ r) where
+  module _ (types : List ℕ) (leaf : ℕ) (el : leaf ≡ getD leaves place 0) (types₁ : List ℕ) (r : Opened)
+      (np : NodePost s at leaf types 0 types₁ r) where
     -- what the opening says, at the tables with nothing in them
     abbrev Opens : Opened → Tree → ℕ → Ctx → Type 0
     Opens x tr q Γ = Opening x s at tr q Γ none none none 0 types 0 (tagsWith x none 0) (leftsWith x none 0) (fromsWith x none 0) types₁
 
     opening : (x : Opened) → r ≡ x → (e : Sort) (tr : Tree) (q : ℕ) (Γ : Ctx) → IsAt s e at tr q → LeavesAt tr Γ place s leaves → Opens x tr q Γ
-    opening x er e tr q Γ w lv = subst (λ (y : Opened). Opens y tr q Γ) er (np .opens none none none 0 .answer e tr q Γ w (subst (LeafAt tr Γ s) (sym el) (leaf-of s leaves tr Γ place lv)))
+    opening x er e tr q Γ w lv = subst (λ (y : Opened). Opens y tr q Γ) er
+        (np .opens none none none 0 .answer e tr q Γ w (subst (LeafAt tr Γ s) (sym el) (leaf-of s leaves tr Γ place lv)))
 
     pub tree-bad : r ≡ O.Bad → TypePost s at place leaves types₁ T.Bad
     tree-bad er = record { answer = λ e tr q Γ w lv pl bf. opening O.Bad er e tr q Γ w lv }
@@ -86,8 +92,10 @@ module _ (s : List ℕ) (at place : ℕ) (leaves : List ℕ) where
       abbrev f₁ : List ℕ
       f₁ = set none 0 (root .from)
 
-      started : (tr : Tree) (q : ℕ) (Γ : Ctx) → LeavesAt tr Γ place s leaves → place + nodes tr ≤ 2048 → 64 * nodes tr + 64 ≤ length types → NodeOpen s at tr q Γ none none none 0 types 0 t₁ l₁ f₁ types₁ p m
-          → (base : ℕ) × (stop : ℕ) × (o : Open) × (ps : List Open) × Running t₁ l₁ f₁ s leaves types₁ start base stop o ps × (closeUp o ps ≡ answerOf tr Γ)
+      started : (tr : Tree) (q : ℕ) (Γ : Ctx) → LeavesAt tr Γ place s leaves → place + nodes tr ≤ 2048 → 64 * nodes tr + 64 ≤ length types
+          → NodeOpen s at tr q Γ none none none 0 types 0 t₁ l₁ f₁ types₁ p m
+          → (base : ℕ) × (stop : ℕ) × (o : Open) × (ps : List Open) × Running t₁ l₁ f₁ s leaves types₁ start base stop o ps
+          × (closeUp o ps ≡ answerOf tr Γ)
       started tr q Γ lv pl bf nd =
           let g = nd .tag in
           let n = nd .payload in
@@ -115,7 +123,9 @@ module _ (s : List ℕ) (at place : ℕ) (leaves : List ℕ) where
             top = refl;
             low = omega (arith, nd .short);
             later = omega arith;
-            lent = record { of-tags = ap length (nd .tags) ∙ length-set none 0 g ∙ none-long; of-lefts = ap length (nd .lefts) ∙ length-set none 0 (count ls) ∙ none-long; of-froms = ap length (nd .froms) ∙ length-set none 0 0 ∙ none-long };
+            lent = record { of-tags = ap length (nd .tags) ∙ length-set none 0 g ∙ none-long; of-lefts = ap length
+                  (nd .lefts) ∙ length-set none 0 (count ls) ∙ none-long; of-froms = ap length
+                  (nd .froms) ∙ length-set none 0 0 ∙ none-long };
             frame = frame;
             places = pl;
             buffer = omega (arith, nd .kept .long, bf);
@@ -131,12 +141,16 @@ module _ (s : List ℕ) (at place : ℕ) (leaves : List ℕ) where
 
       pub tree-turns : TypePre s at place leaves types → TurnsPre root s leaves types₁ start
       tree-turns x =
-          let a = started (x .tree) (x .to) (x .Γ) (x .leafs) (x .places) (x .buffer) (opening (O.To p m root) er (x .sort) (x .tree) (x .to) (x .Γ) (x .stands) (x .leafs)) in
-          record { root = refl; step = record { tags = t₁; lefts = l₁; froms = f₁; at-top = at-root; turn = record { base = a .0; stop = a .1; o = a .2; ps = a .3; running = a .4 } } }
+          let a = started (x .tree) (x .to) (x .Γ) (x .leafs) (x .places) (x .buffer)
+              (opening (O.To p m root) er (x .sort) (x .tree) (x .to) (x .Γ) (x .stands) (x .leafs)) in
+          record { root = refl; step = record { tags = t₁; lefts = l₁; froms = f₁; at-top = at-root; turn = record
+                  { base = a .0; stop = a .1; o = a .2; ps = a .3; running = a .4 } } }
 
-      pub tree-ends : (types₂ : List ℕ) (v : Typed) → length types₂ ≡ length types → TurnsPost root s leaves types₁ start types₂ v → TypePost s at place leaves types₂ v
+      pub tree-ends : (types₂ : List ℕ) (v : Typed) → length types₂ ≡ length types → TurnsPost root s leaves types₁ start types₂ v
+          → TypePost s at place leaves types₂ v
       tree-ends types₂ v ln tp = record {
         answer = λ e tr q Γ w lv pl bf. (
             let a = started tr q Γ lv pl (omega (arith, ln, bf)) (opening (O.To p m root) er e tr q Γ w lv) in
-            ended types₂ v tr Γ (typedTree tr Γ) refl (subst (λ (x : Answer). Ending v x types₂) (a .5) (tp .ends t₁ l₁ f₁ (a .0) (a .1) (a .2) (a .3) at-root (a .4))));
+            ended types₂ v tr Γ (typedTree tr Γ) refl (subst (λ (x : Answer). Ending v x types₂) (a .5)
+                  (tp .ends t₁ l₁ f₁ (a .0) (a .1) (a .2) (a .3) at-root (a .4))));
       }

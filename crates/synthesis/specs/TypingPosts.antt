@@ -72,7 +72,8 @@ pub record OwnPost (c : Class) (s : List ℕ) (p : ℕ) (types : List ℕ) (end 
 -- ---- a node is opened
 -- where it is a bound identifier, its type stands at `leaf`
 abbrev pub LeafAt : Tree → Ctx → List ℕ → ℕ → Type 0
-LeafAt (node (head g n us) ks) Γ s leaf = let t = encTy (typeAt Γ n) in pick {X = Type 0} (eqb g boundTag) (Spans s leaf (leaf + length t) t) (Unit {0})
+LeafAt (node (head g n us) ks) Γ s leaf = let t = encTy (typeAt Γ n) in
+    pick {X = Type 0} (eqb g boundTag) (Spans s leaf (leaf + length t) t) (Unit {0})
 
 pub record OpenPre (s : List ℕ) (at leaf : ℕ) (types : List ℕ) (end : ℕ) : Type 0 where
   pub sort : Sort
@@ -86,7 +87,8 @@ pub record OpenPre (s : List ℕ) (at leaf : ℕ) (types : List ℕ) (end : ℕ)
   pub low : end ≤ typeLimit * 2048
 
 -- the node is put on the stack with no operand, and its first operand stands at p
-pub record NodeOpen (s : List ℕ) (at : ℕ) (tree : Tree) (to : ℕ) (Γ : Ctx) (t₀ l₀ f₀ : List ℕ) (top : ℕ) (o : List ℕ) (end : ℕ) (t₁ l₁ f₁ types : List ℕ) (p m : ℕ) : Type 0 where
+pub record NodeOpen (s : List ℕ) (at : ℕ) (tree : Tree) (to : ℕ) (Γ : Ctx) (t₀ l₀ f₀ : List ℕ) (top : ℕ) (o : List ℕ) (end : ℕ)
+    (t₁ l₁ f₁ types : List ℕ) (p m : ℕ) : Type 0 where
   pub tag : ℕ
   pub payload : ℕ
   pub carried : List Ty
@@ -109,7 +111,8 @@ abbrev pub Opening : Opened → List ℕ → ℕ → Tree → ℕ → Ctx → Li
 Opening (O.To p m nd) s at t q Γ t₀ l₀ f₀ top o end t₁ l₁ f₁ types = NodeOpen s at t q Γ t₀ l₀ f₀ top o end t₁ l₁ f₁ types p m
 Opening O.Bad s at t q Γ t₀ l₀ f₀ top o end t₁ l₁ f₁ types = typedTree t Γ ≡ false
 
-pub record OpenPost (s : List ℕ) (at leaf : ℕ) (t₀ l₀ f₀ : List ℕ) (top : ℕ) (o : List ℕ) (end : ℕ) (t₁ l₁ f₁ types : List ℕ) (r : Opened) : Type 0 where
+pub record OpenPost (s : List ℕ) (at leaf : ℕ) (t₀ l₀ f₀ : List ℕ) (top : ℕ) (o : List ℕ) (end : ℕ) (t₁ l₁ f₁ types : List ℕ)
+    (r : Opened) : Type 0 where
   pub answer : (e : Sort) (t : Tree) (q : ℕ) (Γ : Ctx) → IsAt s e at t q → LeafAt t Γ s leaf → Opening r s at t q Γ t₀ l₀ f₀ top o end t₁ l₁ f₁ types
 
 -- the three tables with the record of the node at its depth
@@ -201,13 +204,16 @@ Ending T.Bad a types = a ≡ bad
 
 abbrev pub Turning : Turned → List ℕ → List ℕ → List ℕ → List ℕ → List ℕ → List ℕ → State → ℕ → ℕ → Answer → Type 0
 Turning (U.Down u c st) tags lefts froms s leaves types st₀ base stop a =
-    (o : Open) × (ps : List Open) × Running tags lefts froms s leaves types st base stop o ps × (closeUp o ps ≡ a) × (stepsLeft s st < stepsLeft s st₀)
+    (o : Open) × (ps : List Open) × Running tags lefts froms s leaves types st base stop o ps × (closeUp o ps ≡ a)
+        × (stepsLeft s st < stepsLeft s st₀)
 Turning (U.Up st) tags lefts froms s leaves types st₀ base stop a =
-    (o : Open) × (ps : List Open) × Running tags lefts froms s leaves types st base stop o ps × (closeUp o ps ≡ a) × (stepsLeft s st < stepsLeft s st₀)
+    (o : Open) × (ps : List Open) × Running tags lefts froms s leaves types st base stop o ps × (closeUp o ps ≡ a)
+        × (stepsLeft s st < stepsLeft s st₀)
 Turning (U.Done t) tags lefts froms s leaves types st₀ base stop a = Ending t a types
 
 pub record TurnPost (t₀ l₀ f₀ s leaves types₀ : List ℕ) (st : State) (t₁ l₁ f₁ types₁ : List ℕ) (r : Turned) : Type 0 where
-  pub answer : (base stop : ℕ) (o : Open) (ps : List Open) → Running t₀ l₀ f₀ s leaves types₀ st base stop o ps → Turning r t₁ l₁ f₁ s leaves types₁ st base stop (closeUp o ps)
+  pub answer : (base stop : ℕ) (o : Open) (ps : List Open) → Running t₀ l₀ f₀ s leaves types₀ st base stop o ps
+      → Turning r t₁ l₁ f₁ s leaves types₁ st base stop (closeUp o ps)
 
 -- ---- a turn with the node at hand by value
 -- the tables have its record at this depth
@@ -256,7 +262,8 @@ pub record TurnsPre (nd : OpenNode) (s leaves types : List ℕ) (st : State) : T
   pub step : StepPre nd s leaves types st
 
 pub record TurnsPost (nd : OpenNode) (s leaves types₀ : List ℕ) (st : State) (types₁ : List ℕ) (r : Typed) : Type 0 where
-  pub ends : (t l f : List ℕ) (base stop : ℕ) (o : Open) (ps : List Open) → Top nd (st .top) t l f → Running t l f s leaves types₀ st base stop o ps → Ending r (closeUp o ps) types₁
+  pub ends : (t l f : List ℕ) (base stop : ℕ) (o : Open) (ps : List Open) → Top nd (st .top) t l f
+      → Running t l f s leaves types₀ st base stop o ps → Ending r (closeUp o ps) types₁
 
 -- ---- a tree
 -- the tree t stands at `at` with its root at this place, and the table has the types of its bound identifiers

@@ -9,7 +9,10 @@ use native.Mathlib.Omega.{arith}
 use lib.ListN.{length}
 use lib.Dec.{ltb, leb, eqb}
 use borrow.Author.Tests.{leb-true, lt-ltb, lt-leb, le-leb, ne-eqb}
-use Rattle.frame.specs.Tags.{pick, Sort, predicate, expression, sameSort, repeat, Layout, these, payload, counted, binding, width, inRange, payloadOf, typesOf, sortsOf}
+use Rattle.frame.specs.Tags.{
+  pick, Sort, predicate, expression, sameSort, repeat, Layout, these, payload, counted, binding, width, inRange, payloadOf,
+  typesOf, sortsOf
+}
 use Rattle.tags.specs.TagCodes.{formAtCode, isExpression, sortFor, firstSort, laterSort, kindsFor, layoutKind, lowOf, highOf, fixedOf}
 use Rattle.frame.proofs.Inversion.{true-not}
 use Rattle.frame.proofs.ReadTrees.{repeat-length}
@@ -123,7 +126,8 @@ repeat-kinds e lo hi (suc zero) h = record { first = refl; later = refl; all = a
 repeat-kinds e lo hi (suc (suc x)) h = record {
   first = refl;
   later = refl;
-  all = ap₂ (λ (i j : Sort). i ∷ repeat j (suc (length (repeat e x)))) (sort-back e) (sort-back e) ∙ ap (λ (n : ℕ). e ∷ repeat e (suc n)) (repeat-length e x);
+  all = ap₂ (λ (i j : Sort). i ∷ repeat j (suc (length (repeat e x)))) (sort-back e) (sort-back e) ∙ ap
+      (λ (n : ℕ). e ∷ repeat e (suc n)) (repeat-length e x);
 }
 
 pub layout-kinds : (l : Layout) (x : ℕ) → regular l ≡ true → inRange l x ≡ true → Kinds l x

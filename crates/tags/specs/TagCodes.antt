@@ -5,7 +5,14 @@ use mathlib.Core.Bool.{Bool, true, false}
 use mathlib.Core.List.{List, [], _∷_}
 use lib.ListN.{length, getD}
 use lib.Dec.{leb}
-use Rattle.frame.specs.Tags.{pick, Sort, predicate, expression, Layout, these, payload, counted, binding, Form, repeat, Class, literalPred, equality, order, membership, inclusion, binaryPred, associativePred, negation, quantifiedPred, finite, partition, identifier, bound, literal, setExtension, maplet, relationSet, setMinus, cartesian, directProduct, parallelProduct, domainRestriction, rangeRestriction, upTo, arithmetic, functionImage, relationalImage, setOperation, backwardComposition, forwardComposition, override, sum, integerSet, boolSet, truthValue, integerRelation, emptySet, projection1, projection2, identity, boolExpr, cardinal, powerset, generalised, domain, range, extremum, converse, unaryMinus, quantifiedSet, comprehension, unlisted}
+use Rattle.frame.specs.Tags.{
+  pick, Sort, predicate, expression, Layout, these, payload, counted, binding, Form, repeat, Class, literalPred, equality, order,
+  membership, inclusion, binaryPred, associativePred, negation, quantifiedPred, finite, partition, identifier, bound, literal,
+  setExtension, maplet, relationSet, setMinus, cartesian, directProduct, parallelProduct, domainRestriction, rangeRestriction,
+  upTo, arithmetic, functionImage, relationalImage, setOperation, backwardComposition, forwardComposition, override, sum,
+  integerSet, boolSet, truthValue, integerRelation, emptySet, projection1, projection2, identity, boolExpr, cardinal, powerset,
+  generalised, domain, range, extremum, converse, unaryMinus, quantifiedSet, comprehension, unlisted
+}
 
 abbrev form : Sort → Layout → ℕ → Form
 form s l c = record { listed = true; sort = s; layout = l; carried = c }
@@ -192,4 +199,5 @@ rowOf t = pick (leb 20 (t / 50)) 0 (pick (leb (blockEntry (t / 50) / 256) (t % 5
 -- the forms of the rows, twelve to a word
 abbrev pub formWords : List ℕ
 formWords =
-    74382030926217664 ∷ 483482752740558914 ∷ 483483211609322925 ∷ 15108850362791341 ∷ 216826530446770275 ∷ 370749043029353478 ∷ 360778 ∷ 5629499534213153 ∷ 13619756937220 ∷ 9289348105515404 ∷ 7 ∷ []
+    74382030926217664 ∷ 483482752740558914 ∷ 483483211609322925 ∷ 15108850362791341 ∷ 216826530446770275 ∷ 370749043029353478 ∷ 360778 ∷
+        5629499534213153 ∷ 13619756937220 ∷ 9289348105515404 ∷ 7 ∷ []

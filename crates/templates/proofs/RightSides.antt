@@ -155,7 +155,8 @@ module _ (Γ : Ctx) (a b : Tree) (xs : List Ty) where
   writes (gives n s ∷ gs) = onto (s Γ a b xs) [] ∷ writes gs
 
   fills-writes : fills sides ≡ writes sides
-  unfolding fills writes sides template findRow templates among numberOnto typesOnto headOnto onto allOnto partOnto filledOnto lookup classOf formAt typeOf
+  unfolding fills writes sides template findRow templates among numberOnto typesOnto headOnto onto allOnto partOnto filledOnto
+      lookup classOf formAt typeOf
   fills-writes = refl
 
   right-in : (gs : List Given) → fills gs ≡ writes gs → (n : ℕ) → isIn gs n ≡ true → filled (template n) filling ≡ enc (sideIn gs n Γ a b xs)
@@ -164,6 +165,7 @@ module _ (Γ : Ctx) (a b : Tree) (xs : List Ty) where
   right-in (gives m s ∷ gs) e n h =
       row-or n m s (sideIn gs n) (eqb n m) (isIn gs n) refl (ap first e) h (right-in gs (ap others e) n)
 
-pub right-side : (n : ℕ) → isIn sides n ≡ true → (Γ : Ctx) (a b : Tree) (xs : List Ty) → filled (template n) (filling Γ a b xs) ≡ enc (side n Γ a b xs)
+pub right-side : (n : ℕ) → isIn sides n ≡ true → (Γ : Ctx) (a b : Tree) (xs : List Ty)
+    → filled (template n) (filling Γ a b xs) ≡ enc (side n Γ a b xs)
 unfolding side
 right-side n h Γ a b xs = right-in Γ a b xs sides (fills-writes Γ a b xs) n h

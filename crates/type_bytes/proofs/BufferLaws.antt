@@ -22,22 +22,26 @@ pub span-get : {s : List ℕ} {at p : ℕ} {xs : List ℕ} → Spans s at p xs �
 span-get {s} {at} {p} {xs} a j h =
     sym (getD-drop at s j 0) ∙ sym (getD-take (length xs) (drop at s) j 0 h) ∙ ap (λ (l : List ℕ). getD l j 0) (a .bytes)
 
-pub span-by : (s : List ℕ) (at p : ℕ) (xs : List ℕ) → at + length xs ≡ p → p ≤ length s → ((j : ℕ) → j < length xs → getD s (at + j) 0 ≡ getD xs j 0) → Spans s at p xs
+pub span-by : (s : List ℕ) (at p : ℕ) (xs : List ℕ) → at + length xs ≡ p → p ≤ length s
+    → ((j : ℕ) → j < length xs → getD s (at + j) 0 ≡ getD xs j 0) → Spans s at p xs
 span-by s at p xs e h f =
     let l : length (take (length xs) (drop at s)) ≡ length xs = omega (arith, length-take (length xs) (drop at s), length-drop at s) in
     record {
       long = e;
       within = h;
-      bytes = ext-getD 0 (take (length xs) (drop at s)) xs l (λ j k. (let i : j < length xs = omega (arith, l, k) in getD-take (length xs) (drop at s) j 0 i ∙ getD-drop at s j 0 ∙ f j i));
+      bytes = ext-getD 0 (take (length xs) (drop at s)) xs l
+          (λ j k. (let i : j < length xs = omega (arith, l, k) in getD-take (length xs) (drop at s) j 0 i ∙ getD-drop at s j 0 ∙ f j i));
     }
 
 -- ---- a span below what is written
-pub span-kept : {s : List ℕ} {at p : ℕ} {xs : List ℕ} (t : List ℕ) (n : ℕ) → length t ≡ length s → ((j : ℕ) → j < n → getD t j 0 ≡ getD s j 0) → p ≤ n → Spans s at p xs → Spans t at p xs
+pub span-kept : {s : List ℕ} {at p : ℕ} {xs : List ℕ} (t : List ℕ) (n : ℕ) → length t ≡ length s
+    → ((j : ℕ) → j < n → getD t j 0 ≡ getD s j 0) → p ≤ n → Spans s at p xs → Spans t at p xs
 span-kept {s} {at} {p} {xs} t n l f h a =
     span-by t at p xs (a .long) (omega (arith, l, a .within)) (λ j k. f (at + j) (omega (arith, a .long)) ∙ span-get a j k)
 
 -- what was copied is a span
-pub copied-span : {s : List ℕ} {a e : ℕ} {xs : List ℕ} (n : ℕ) (o p : List ℕ) (to : ℕ) → n ≡ e - a → Spans s a e xs → Copied s a n o p to → to + n ≤ length o → Spans p to (to + n) xs
+pub copied-span : {s : List ℕ} {a e : ℕ} {xs : List ℕ} (n : ℕ) (o p : List ℕ) (to : ℕ) → n ≡ e - a → Spans s a e xs → Copied s a n o p to
+    → to + n ≤ length o → Spans p to (to + n) xs
 copied-span {s} {a} {e} {xs} n o p to en sp c h =
     let z : length xs ≡ n = omega (arith, sp .long) in
     span-by p to (to + n) xs (omega arith) (omega (arith, c .long)) (λ j k. c .put j (omega (arith, z, k)) ∙ span-get sp j k)
@@ -58,7 +62,8 @@ module _ (s : List ℕ) (a : ℕ) (o : List ℕ) (to : ℕ) where
   pub copied-none : Copied s a 0 o o to
   copied-none = record { long = refl; put = below-none (λ j. getD o (to + j) 0 ≡ getD s (a + j) 0); low = λ j h. refl; high = λ j h. refl }
 
-  pub copied-more : (i : ℕ) (p : List ℕ) (x : ℕ) → x ≡ getD s (a + i) 0 → to + i < length o → Copied s a i o p to → Copied s a (i + 1) o (set p (to + i) x) to
+  pub copied-more : (i : ℕ) (p : List ℕ) (x : ℕ) → x ≡ getD s (a + i) 0 → to + i < length o → Copied s a i o p to
+      → Copied s a (i + 1) o (set p (to + i) x) to
   copied-more i p x e h c = record {
     long = length-set p (to + i) x ∙ c .long;
     put = below-more (λ j. getD (set p (to + i) x) (to + j) 0 ≡ getD s (a + j) 0) i

@@ -9,17 +9,30 @@ use Prim.Native.Nat.{ℕ, suc, _<_}
 use native.Mathlib.Omega.{arith}
 use lib.ListN.{length}
 use Rattle.frame.specs.Types.{Ty}
-use Rattle.frame.specs.Tags.{pick, Sort, Layout, counted, sortsOf, inRange, Class, literalPred, equality, order, membership, inclusion, binaryPred, associativePred, negation, quantifiedPred, finite, partition, identifier, bound, literal, setExtension, maplet, relationSet, setMinus, cartesian, directProduct, parallelProduct, domainRestriction, rangeRestriction, upTo, arithmetic, functionImage, relationalImage, setOperation, backwardComposition, forwardComposition, override, sum, integerSet, boolSet, truthValue, integerRelation, emptySet, projection1, projection2, identity, boolExpr, cardinal, powerset, generalised, domain, range, extremum, converse, unaryMinus, quantifiedSet, comprehension, unlisted, formAt}
+use Rattle.frame.specs.Tags.{
+  pick, Sort, Layout, counted, sortsOf, inRange, Class, literalPred, equality, order, membership, inclusion, binaryPred,
+  associativePred, negation, quantifiedPred, finite, partition, identifier, bound, literal, setExtension, maplet, relationSet,
+  setMinus, cartesian, directProduct, parallelProduct, domainRestriction, rangeRestriction, upTo, arithmetic, functionImage,
+  relationalImage, setOperation, backwardComposition, forwardComposition, override, sum, integerSet, boolSet, truthValue,
+  integerRelation, emptySet, projection1, projection2, identity, boolExpr, cardinal, powerset, generalised, domain, range,
+  extremum, converse, unaryMinus, quantifiedSet, comprehension, unlisted, formAt
+}
 use Rattle.frame.specs.Encoding.{encTy}
 use Rattle.frame.specs.Places.{Ctx}
 use Rattle.frame.specs.Sameness.{sameTy, sameTys}
 use Rattle.frame.proofs.SameTrees.{same-ty-refl}
 use Rattle.frame.proofs.ReadTrees.{repeat-length}
 use Rattle.typing.specs.Typing.{element, source, target, relation, first, second, ty, lastTy, alike, onward, backward, wants, result, carriedTy}
-use Rattle.type_rules.specs.Patterns.{matches, filled, Rule, rule, alikePair, onwardPair, backwardPair, ruleAt, ownTypes, wrong, limited, allBound, completed, pairsFit, ends, judge}
+use Rattle.type_rules.specs.Patterns.{
+  matches, filled, Rule, rule, alikePair, onwardPair, backwardPair, ruleAt, ownTypes, wrong, limited, allBound, completed,
+  pairsFit, ends, judge
+}
 use Rattle.type_rules.specs.Patterns.{Operands}
 use Rattle.type_rules.proofs.Matching.{meant}
-use Rattle.type_rules.proofs.RuleShapes.{IsRelation, one-judged, two-judged, uniform-judged, onward-of, of-onward, backward-of, of-backward, onward-last, backward-last, chain-judged}
+use Rattle.type_rules.proofs.RuleShapes.{
+  IsRelation, one-judged, two-judged, uniform-judged, onward-of, of-onward, backward-of, of-backward, onward-last, backward-last,
+  chain-judged
+}
 use Rattle.type_rules.proofs.ClassShapes.{shapeFor, Holds, plain, single, none-of, one-of, two-of, some-of, counted-some}
 
 -- a class with a count has an operand
@@ -136,7 +149,8 @@ module _ (n : ℕ) (us : List Ty) (Γ : Ctx) where
   class-judged setMinus x ts h = two setMinus (λ ρ p q. refl) (λ t u. rw (same-ty-refl (element t))) ts (h .0)
   class-judged cartesian x ts h = two cartesian (λ ρ p q. refl) (λ t u. refl) ts (h .0)
   class-judged directProduct x ts h = two directProduct (λ ρ p q. refl) (λ t u. rw (same-ty-refl (source t))) ts (h .0)
-  class-judged parallelProduct x ts h = two parallelProduct (λ ρ p q. refl) (λ t u. rw (append-assoc (encTy (source t)) (encTy (source u)) (4 ∷ (encTy (target t) ++ encTy (target u))))) ts (h .0)
+  class-judged parallelProduct x ts h = two parallelProduct (λ ρ p q. refl)
+      (λ t u. rw (append-assoc (encTy (source t)) (encTy (source u)) (4 ∷ (encTy (target t) ++ encTy (target u))))) ts (h .0)
   class-judged domainRestriction x ts h = two domainRestriction (λ ρ p q. refl) (λ t u. rw (same-ty-refl (element t))) ts (h .0)
   class-judged rangeRestriction x ts h = two rangeRestriction (λ ρ p q. refl) (λ t u. rw (same-ty-refl (element u))) ts (h .0)
   class-judged upTo x ts h = two upTo (λ ρ p q. refl) (λ t u. refl) ts (h .0)
@@ -157,8 +171,12 @@ module _ (n : ℕ) (us : List Ty) (Γ : Ctx) where
   class-judged truthValue x ts h = none truthValue refl ts (h .0)
   class-judged integerRelation x ts h = none integerRelation refl ts (h .0)
   class-judged emptySet x ts h = carried emptySet (λ ρ p. refl) (λ t. refl) ts (h .0)
-  class-judged projection1 x ts h = carried projection1 (λ ρ p. refl) (λ t. rw (same-ty-refl (first (source t)), append-assoc (encTy (first (source t))) (encTy (second (source t))) (encTy (first (source t))))) ts (h .0)
-  class-judged projection2 x ts h = carried projection2 (λ ρ p. refl) (λ t. rw (same-ty-refl (second (source t)), append-assoc (encTy (first (source t))) (encTy (second (source t))) (encTy (second (source t))))) ts (h .0)
+  class-judged projection1 x ts h = carried projection1 (λ ρ p. refl)
+      (λ t. rw (same-ty-refl (first (source t)), append-assoc (encTy (first (source t))) (encTy (second (source t)))
+          (encTy (first (source t))))) ts (h .0)
+  class-judged projection2 x ts h = carried projection2 (λ ρ p. refl)
+      (λ t. rw (same-ty-refl (second (source t)), append-assoc (encTy (first (source t))) (encTy (second (source t)))
+          (encTy (second (source t))))) ts (h .0)
   class-judged identity x ts h = carried identity (λ ρ p. refl) (λ t. rw (same-ty-refl (source t))) ts (h .0)
   class-judged boolExpr x ts h = one boolExpr (λ ρ p. refl) (λ t. refl) ts (h .0)
   class-judged cardinal x ts h = one cardinal (λ ρ p. refl) (λ t. refl) ts (h .0)

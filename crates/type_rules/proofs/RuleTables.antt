@@ -8,7 +8,14 @@ use native.Mathlib.Omega.{arith}
 use lib.Dec.{ltb, eqb}
 use borrow.Author.Tests.{ltb-true, ltb-false, eqb-true, ne-eqb}
 use Rattle.frame.specs.Types.{Ty, pow, prod}
-use Rattle.frame.specs.Tags.{pick, table, classOf, Class, literalPred, equality, order, membership, inclusion, binaryPred, associativePred, negation, quantifiedPred, finite, partition, identifier, bound, literal, setExtension, maplet, relationSet, setMinus, cartesian, directProduct, parallelProduct, domainRestriction, rangeRestriction, upTo, arithmetic, functionImage, relationalImage, setOperation, backwardComposition, forwardComposition, override, sum, integerSet, boolSet, truthValue, integerRelation, emptySet, projection1, projection2, identity, boolExpr, cardinal, powerset, generalised, domain, range, extremum, converse, unaryMinus, quantifiedSet, comprehension, unlisted}
+use Rattle.frame.specs.Tags.{
+  pick, table, classOf, Class, literalPred, equality, order, membership, inclusion, binaryPred, associativePred, negation,
+  quantifiedPred, finite, partition, identifier, bound, literal, setExtension, maplet, relationSet, setMinus, cartesian,
+  directProduct, parallelProduct, domainRestriction, rangeRestriction, upTo, arithmetic, functionImage, relationalImage,
+  setOperation, backwardComposition, forwardComposition, override, sum, integerSet, boolSet, truthValue, integerRelation,
+  emptySet, projection1, projection2, identity, boolExpr, cardinal, powerset, generalised, domain, range, extremum, converse,
+  unaryMinus, quantifiedSet, comprehension, unlisted
+}
 use Rattle.frame.specs.Places.{Ctx}
 use Rattle.frame.proofs.EveryTag.{alongRows, every-tag, unlisted-past}
 use Rattle.typing.specs.Typing.{carriedTy, typeAt, shape, element, source, first, second, relation}

@@ -8,7 +8,14 @@ use native.Mathlib.Omega.{arith}
 use lib.ListN.{getD, List·getD-eq-default}
 use lib.Dec.{ltb, leb, eqb}
 use borrow.Author.Tests.{leb-true, leb-false, ltb-true, eqb-true}
-use Rattle.frame.specs.Tags.{table, classOf, Class, literalPred, equality, order, membership, inclusion, binaryPred, associativePred, negation, quantifiedPred, finite, partition, identifier, bound, literal, setExtension, maplet, relationSet, setMinus, cartesian, directProduct, parallelProduct, domainRestriction, rangeRestriction, upTo, arithmetic, functionImage, relationalImage, setOperation, backwardComposition, forwardComposition, override, sum, integerSet, boolSet, truthValue, integerRelation, emptySet, projection1, projection2, identity, boolExpr, cardinal, powerset, generalised, domain, range, extremum, converse, unaryMinus, quantifiedSet, comprehension, unlisted}
+use Rattle.frame.specs.Tags.{
+  table, classOf, Class, literalPred, equality, order, membership, inclusion, binaryPred, associativePred, negation,
+  quantifiedPred, finite, partition, identifier, bound, literal, setExtension, maplet, relationSet, setMinus, cartesian,
+  directProduct, parallelProduct, domainRestriction, rangeRestriction, upTo, arithmetic, functionImage, relationalImage,
+  setOperation, backwardComposition, forwardComposition, override, sum, integerSet, boolSet, truthValue, integerRelation,
+  emptySet, projection1, projection2, identity, boolExpr, cardinal, powerset, generalised, domain, range, extremum, converse,
+  unaryMinus, quantifiedSet, comprehension, unlisted
+}
 use Rattle.tags.specs.TagCodes.{rowOf}
 use Rattle.frame.proofs.Tables.{NoneBelow, past-all}
 use Rattle.tags.proofs.TagTables.{row-far}

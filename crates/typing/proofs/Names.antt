@@ -18,7 +18,9 @@ use Rattle.frame.specs.Sameness.{sameTy}
 use Rattle.frame.specs.WellFormed.{TyWf, TysWf, Wf, Wfs, numberIn}
 use Rattle.typing.specs.Typing.{carriedTy, typeOf, typesIn}
 use Rattle.typing.specs.Members.{In, All}
-use Rattle.typing.specs.Identifiers.{identTag, Named, named, identOf, idents, identsIn, givensTy, givensTys, givens, givensIn, agrees, spares, consistent, namesAgree}
+use Rattle.typing.specs.Identifiers.{
+  identTag, Named, named, identOf, idents, identsIn, givensTy, givensTys, givens, givensIn, agrees, spares, consistent, namesAgree
+}
 use Rattle.typing.specs.Signature.{signed, signature}
 use Rattle.typing.specs.Accepted.{TyOk, TysOk, HeadOk, Accepted, AcceptedAll}
 use Rattle.typing.proofs.Derived.{push-ok, result-ok}
@@ -64,7 +66,8 @@ module _ (σ : ℕ → Ty) where
   of-name true n u h = (h, tt)
   of-name false n u h = tt
 
-  pub node-named : (g n : ℕ) (us : List Ty) (ks : Forest) → Signed (node (head g n us) ks) → pick {X = Type 0} (eqb g identTag) (carriedTy us ≡ σ n) (Unit {0})
+  pub node-named : (g n : ℕ) (us : List Ty) (ks : Forest) → Signed (node (head g n us) ks)
+      → pick {X = Type 0} (eqb g identTag) (carriedTy us ≡ σ n) (Unit {0})
   unfolding idents
   node-named g n us ks s = name-of (eqb g identTag) n (carriedTy us) (all-left NameOk (identOf g n us) (identsIn ks) (s .0))
 
@@ -95,13 +98,15 @@ module _ (σ : ℕ → Ty) where
     derived-signed (node (head g n us) ks) Γ e w s k =
         let o = node-types g n us ks (w .0 .types) s in
         result-ok σ (classOf g) n us Γ (typesIn ks (under g us Γ)) o k
-        (derived-signed-all ks (under g us Γ) (sortsOf (formOf g .layout) (numberIn g n us (count ks))) (w .1) (signed-kids g n us ks s) (push-ok σ g us Γ o k))
+        (derived-signed-all ks (under g us Γ) (sortsOf (formOf g .layout) (numberIn g n us (count ks))) (w .1)
+              (signed-kids g n us ks s) (push-ok σ g us Γ o k))
 
     pub derived-signed-all : (ks : Forest) (Γ : Ctx) (es : List Sort) → Wfs ks es → SignedAll ks → TysOk σ Γ → TysOk σ (typesIn ks Γ)
     derived-signed-all nil Γ [] w s k = tt
     derived-signed-all nil Γ (e ∷ es) w s k = absurd w
     derived-signed-all (cons t ks) Γ [] w s k = absurd w
-    derived-signed-all (cons t ks) Γ (e ∷ es) w s k = (derived-signed t Γ e (w .0) (signed-first t ks s) k, derived-signed-all ks Γ es (w .1) (signed-rest t ks s) k)
+    derived-signed-all (cons t ks) Γ (e ∷ es) w s k = (derived-signed t Γ e (w .0) (signed-first t ks s) k, derived-signed-all ks Γ es
+          (w .1) (signed-rest t ks s) k)
 
   -- ---- from a tree that is accepted
   signed-ty : (t : Ty) → TyOk σ t → All GivenOk (givensTy t)
@@ -117,10 +122,12 @@ module _ (σ : ℕ → Ty) where
   signed-tys [] h = tt
   signed-tys (u ∷ us) h = all-join GivenOk (givensTy u) (givensTys us) (signed-ty u (h .0)) (signed-tys us (h .1))
 
-  signed-node : (Γ : Ctx) (e : Sort) (g n : ℕ) (us : List Ty) (k : ℕ) (ks : Forest) → HeadOk σ Γ e g n us k → SignedAll ks → Signed (node (head g n us) ks)
+  signed-node : (Γ : Ctx) (e : Sort) (g n : ℕ) (us : List Ty) (k : ℕ) (ks : Forest) → HeadOk σ Γ e g n us k → SignedAll ks
+      → Signed (node (head g n us) ks)
   unfolding idents givens
   signed-node Γ e g n us k ks h s =
-      (all-join NameOk (identOf g n us) (identsIn ks) (of-name (eqb g identTag) n (carriedTy us) (h .named)) (s .0), all-join GivenOk (givensTys us) (givensIn ks) (signed-tys us (h .types)) (s .1))
+      (all-join NameOk (identOf g n us) (identsIn ks) (of-name (eqb g identTag) n (carriedTy us) (h .named)) (s .0), all-join GivenOk
+            (givensTys us) (givensIn ks) (signed-tys us (h .types)) (s .1))
 
   signed-cons : (t : Tree) (ks : Forest) → Signed t → SignedAll ks → SignedAll (cons t ks)
   unfolding idents givens
@@ -155,7 +162,8 @@ module _ (σ : ℕ → Ty) where
   spares-of n t [] e h = refl
   spares-of n t (m ∷ ms) e h =
       both-of
-      (then-or (eqb n m) (sameTy t (pow (given m))) (λ q. same-ty-of t (pow (given m)) (e ∙ (ap σ (eqb-true n m q) ∙ h .0)))) (spares-of n t ms e (h .1))
+      (then-or (eqb n m) (sameTy t (pow (given m))) (λ q. same-ty-of t (pow (given m)) (e ∙ (ap σ (eqb-true n m q) ∙ h .0))))
+          (spares-of n t ms e (h .1))
 
   consistent-of : (l all : List Named) (ms : List ℕ) → All NameOk l → All NameOk all → All GivenOk ms → consistent l all ms ≡ true
   unfolding consistent
@@ -193,7 +201,8 @@ spare-given : (m n : ℕ) (t : Ty) (ms : List ℕ) → spares (named m t) ms ≡
 unfolding spares
 spare-given m n t [] h q i = absurd i
 spare-given m n t (o ∷ ms) h q (inl e) =
-    same-ty t (pow (given o)) (or-then (eqb m o) (sameTy t (pow (given o))) (both-true (not (eqb m o) || sameTy t (pow (given o))) (spares (named m t) ms) h .0) (eq-eqb m o (sym q ∙ e)))
+    same-ty t (pow (given o)) (or-then (eqb m o) (sameTy t (pow (given o)))
+          (both-true (not (eqb m o) || sameTy t (pow (given o))) (spares (named m t) ms) h .0) (eq-eqb m o (sym q ∙ e)))
     ∙ ap (λ (x : ℕ). pow (given x)) (sym e)
 spare-given m n t (o ∷ ms) h q (inr i) =
     spare-given m n t ms (both-true (not (eqb m o) || sameTy t (pow (given o))) (spares (named m t) ms) h .1) q i
@@ -219,7 +228,8 @@ name-signed l ms h (named n t) i = agree-signed l n t (consistent-in l l ms (nam
 pub names-signed : (t : Tree) → namesAgree t ≡ true → Signed (signature t) t
 unfolding namesAgree signature
 names-signed t h =
-    (all-of (NameOk (signature t)) (idents t) (name-signed (idents t) (givens t) h), all-of (GivenOk (signature t)) (givens t) (λ n i. given-signed (idents t) (idents t) (givens t) n h i))
+    (all-of (NameOk (signature t)) (idents t) (name-signed (idents t) (givens t) h), all-of (GivenOk (signature t)) (givens t)
+          (λ n i. given-signed (idents t) (idents t) (givens t) n h i))
 
 -- some σ signs a tree exactly if its names agree
 pub accepted-names : (σ : ℕ → Ty) (t : Tree) (Γ : Ctx) (e : Sort) → Accepted σ t Γ e → namesAgree t ≡ true

@@ -10,7 +10,14 @@ use lib.ListN.{length}
 use lib.Dec.{leb, eqb}
 use Rattle.frame.specs.Types.{Ty, bool, int, given, pow, prod}
 use Rattle.frame.specs.Trees.{head, Tree, node, Forest, nil, cons}
-use Rattle.frame.specs.Tags.{Class, literalPred, equality, order, membership, inclusion, binaryPred, associativePred, negation, quantifiedPred, finite, partition, identifier, bound, literal, setExtension, maplet, relationSet, setMinus, cartesian, directProduct, parallelProduct, domainRestriction, rangeRestriction, upTo, arithmetic, functionImage, relationalImage, setOperation, backwardComposition, forwardComposition, override, sum, integerSet, boolSet, truthValue, integerRelation, emptySet, projection1, projection2, identity, boolExpr, cardinal, powerset, generalised, domain, range, extremum, converse, unaryMinus, quantifiedSet, comprehension, unlisted, classOf, pick}
+use Rattle.frame.specs.Tags.{
+  Class, literalPred, equality, order, membership, inclusion, binaryPred, associativePred, negation, quantifiedPred, finite,
+  partition, identifier, bound, literal, setExtension, maplet, relationSet, setMinus, cartesian, directProduct, parallelProduct,
+  domainRestriction, rangeRestriction, upTo, arithmetic, functionImage, relationalImage, setOperation, backwardComposition,
+  forwardComposition, override, sum, integerSet, boolSet, truthValue, integerRelation, emptySet, projection1, projection2,
+  identity, boolExpr, cardinal, powerset, generalised, domain, range, extremum, converse, unaryMinus, quantifiedSet,
+  comprehension, unlisted, classOf, pick
+}
 use Rattle.frame.specs.Operators.{#EmptySet, #KPrj1Gen, #KPrj2Gen, #KIdGen}
 use Rattle.frame.specs.Encoding.{encTy}
 use Rattle.frame.specs.Reading.{typeLimit}
@@ -225,7 +232,8 @@ unfoldable mutual
 -- one node: its operands' types, the shape of the type that it carries, "A type has at most 64 bytes, derived ones too."
 unfoldable pub nodeTyped : ℕ → ℕ → List Ty → Ctx → List Ty → Bool
 nodeTyped g n us Γ ts =
-    sameTys ts (wants (classOf g) ts) && (sameTy (carriedTy us) (shape g (carriedTy us)) && leb (length (encTy (result (classOf g) n us Γ ts))) typeLimit)
+    sameTys ts (wants (classOf g) ts) && (sameTy (carriedTy us) (shape g (carriedTy us)) && leb
+          (length (encTy (result (classOf g) n us Γ ts))) typeLimit)
 
 unfoldable mutual
   pub typedTree : Tree → Ctx → Bool

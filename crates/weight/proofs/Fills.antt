@@ -13,7 +13,11 @@ use Rattle.frame.specs.Operators.{#SetMinus, #CProd, #DomRes, #DomSub, #RanRes,
 use Rattle.frame.specs.Places.{Ctx, push}
 use Rattle.typing.specs.Typing.{typeOf, typesIn, element, source, target, ty, alike, relation}
 use Rattle.typing.specs.Accepted.{Accepted}
-use Rattle.rules.specs.Equations.{⋀, _≐Ty, _≐∅, «SIMP_BINTER_EQUAL_TYPE», «SIMP_SETMINUS_EQUAL_TYPE», «SIMP_CPROD_EQUAL_TYPE», «SIMP_UPTO_EQUAL_INTEGER», «SIMP_DOMRES_EQUAL_TYPE», «SIMP_DOMSUB_EQUAL_TYPE», «SIMP_RANRES_EQUAL_TYPE», «SIMP_RANSUB_EQUAL_TYPE», «SIMP_DPROD_EQUAL_TYPE», «SIMP_PPROD_EQUAL_TYPE», «SIMP_KINTER_EQUAL_TYPE», «SIMP_CONVERSE_EQUAL_TYPE», «SIMP_QINTER_EQUAL_TYPE»}
+use Rattle.rules.specs.Equations.{
+  ⋀, _≐Ty, _≐∅, «SIMP_BINTER_EQUAL_TYPE», «SIMP_SETMINUS_EQUAL_TYPE», «SIMP_CPROD_EQUAL_TYPE», «SIMP_UPTO_EQUAL_INTEGER»,
+  «SIMP_DOMRES_EQUAL_TYPE», «SIMP_DOMSUB_EQUAL_TYPE», «SIMP_RANRES_EQUAL_TYPE», «SIMP_RANSUB_EQUAL_TYPE», «SIMP_DPROD_EQUAL_TYPE»,
+  «SIMP_PPROD_EQUAL_TYPE», «SIMP_KINTER_EQUAL_TYPE», «SIMP_CONVERSE_EQUAL_TYPE», «SIMP_QINTER_EQUAL_TYPE»
+}
 use Rattle.rules.specs.Equations.{Fills}
 use Rattle.weight.specs.Weight.{typeWeight, scaleIn, scaleOf, weigh, weight, sumOf, productOf}
 use Rattle.weight.proofs.Positive.{times-one, both-positive, type-two, type-weight, weight-positive}
@@ -54,16 +58,19 @@ module _ (Γ : Ctx) where
   full-sum nil u e = omega arith
   full-sum (cons t ts) u e = step (ap (λ l. typeWeight (element (ty 0 l))) e) (full-sum ts u (cc))
     where
-      step : span t ≡ typeWeight u → sumOf (mapF (_≐Ty Γ) ts) ≡ sumOf ts * typeWeight u → sumOf (mapF (_≐Ty Γ) (cons t ts)) ≡ sumOf (cons t ts) * typeWeight u
+      step : span t ≡ typeWeight u → sumOf (mapF (_≐Ty Γ) ts) ≡ sumOf ts * typeWeight u
+          → sumOf (mapF (_≐Ty Γ) (cons t ts)) ≡ sumOf (cons t ts) * typeWeight u
       step h r = omega (arith, full t, ap (λ x. weight t * x) h)
 
-  all-full : (ks : Forest) (u : Ty) → Twos ks → typesIn ks Γ ≡ alike (pow u) (typesIn ks Γ) → weight (⋀ (mapF (_≐Ty Γ) ks)) < productOf ks * typeWeight u + typeWeight u
+  all-full : (ks : Forest) (u : Ty) → Twos ks → typesIn ks Γ ≡ alike (pow u) (typesIn ks Γ)
+      → weight (⋀ (mapF (_≐Ty Γ) ks)) < productOf ks * typeWeight u + typeWeight u
   unfolding weight scaleOf scaleIn weigh
   all-full ks u h e = omega (arith, full-sum ks u e, mul-le-mul-right (typeWeight u) (twos-sum ks h), type-two u)
 
   -- s = Ty ∧ r = Ty; s = ∅ ∧ r = Ty; s = Ty ∧ r = ∅
   module _ (s r : Tree) (t : Ty) (hs : 2 ≤ weight s) (hr : 2 ≤ weight r) where
-    both-full : span s ≤ typeWeight t → span r ≤ typeWeight t → weight (⋀ (pair (_≐Ty Γ s) (_≐Ty Γ r))) < weight s * weight r * typeWeight t + typeWeight t
+    both-full : span s ≤ typeWeight t → span r ≤ typeWeight t
+        → weight (⋀ (pair (_≐Ty Γ s) (_≐Ty Γ r))) < weight s * weight r * typeWeight t + typeWeight t
     unfolding weight scaleOf scaleIn weigh
     both-full vs vr = omega (arith, full s, full r, pair-falls hs hr (type-two t) vs vr)
 
@@ -101,7 +108,8 @@ module _ (σ : ℕ → Ty) (Γ : Ctx) where
   -- s ◁ r, r ▷ s
   restriction : (s r : Tree) → 2 ≤ weight s → 2 ≤ weight r → span Γ s ≤ span Γ r
       → (weight (⋀ (pair (_≐Ty Γ s) (_≐Ty Γ r))) < weight s * weight r * span Γ r + span Γ r) × (span Γ r ≤ weight s * weight r * span Γ r)
-  restriction s r hs hr l = (both-full Γ s r (element (typeOf r Γ)) hs hr l (omega arith), omega (arith, mul-le-mul-right (span Γ r) (both-positive s r)))
+  restriction s r hs hr l = (both-full Γ s r (element (typeOf r Γ)) hs hr l
+        (omega arith), omega (arith, mul-le-mul-right (span Γ r) (both-positive s r)))
 
   -- p ⊗ q, p ∥ q
   module _ (p q : Tree) (hp : 2 ≤ weight p) (hq : 2 ≤ weight q) where
@@ -114,7 +122,8 @@ module _ (σ : ℕ → Ty) (Γ : Ctx) where
         (omega (arith, relation-span Γ q u w eq, mul-le-mul-left (typeWeight u * typeWeight w) (type-one v)))
 
     parallel : (u v w x : Ty) → typeOf p Γ ≡ relation u v → typeOf q Γ ≡ relation w x
-        → weight (⋀ (pair (_≐Ty Γ p) (_≐Ty Γ q))) < weight p * weight q * typeWeight (prod (prod u w) (prod v x)) + typeWeight (prod (prod u w) (prod v x))
+        → weight (⋀ (pair (_≐Ty Γ p) (_≐Ty Γ q))) < weight p * weight q * typeWeight (prod (prod u w) (prod v x)) + typeWeight
+            (prod (prod u w) (prod v x))
     unfolding typeWeight
     parallel u v w x ep eq =
         both-full Γ p q (prod (prod u w) (prod v x)) hp hq
@@ -129,7 +138,8 @@ module _ (σ : ℕ → Ty) (Γ : Ctx) where
   pub fills-fall : {k : ℕ} {e r : Tree} → Fills Γ k e r → Accepted σ e Γ expression → weight r < weight e * span Γ e
   unfolding weight scaleOf scaleIn weigh classOf lookup formAt typeOf typeWeight
   fills-fall («SIMP_BINTER_EQUAL_TYPE» ks) a =
-      omega (arith, all-full Γ ks (element (ty 0 (typesIn ks Γ))) (least-twos ks (least-kids σ #BInter 0 [] ks Γ expression a)) (fits-kids σ #BInter 0 [] ks Γ expression a))
+      omega (arith, all-full Γ ks (element (ty 0 (typesIn ks Γ))) (least-twos ks (least-kids σ #BInter 0 [] ks Γ expression a))
+            (fits-kids σ #BInter 0 [] ks Γ expression a))
   fills-fall («SIMP_SETMINUS_EQUAL_TYPE» s b) a =
       let h = pair-two σ #SetMinus s b Γ a refl in omega (arith, full-empty Γ s b (element (typeOf s Γ)) (h .0) (h .1) (omega arith))
   fills-fall («SIMP_CPROD_EQUAL_TYPE» s t) a =
@@ -155,7 +165,8 @@ module _ (σ : ℕ → Ty) (Γ : Ctx) where
   fills-fall («SIMP_PPROD_EQUAL_TYPE» p q) a =
       let h = pair-two σ #PProd p q Γ a refl in
       let f = fits-kids σ #PProd 0 [] (pair p q) Γ expression a in
-      omega (arith, parallel p q (h .0) (h .1) (source (typeOf p Γ)) (target (typeOf p Γ)) (source (typeOf q Γ)) (target (typeOf q Γ)) (first-of f) (second-of f))
+      omega (arith, parallel p q (h .0) (h .1) (source (typeOf p Γ)) (target (typeOf p Γ)) (source (typeOf q Γ)) (target (typeOf q Γ))
+            (first-of f) (second-of f))
   fills-fall («SIMP_KINTER_EQUAL_TYPE» s) a =
       let t = element (element (typeOf s Γ)) in
       omega (arith, ap (λ x. weight s * x) (type-weight t), mul-le-mul-left (weight s) (type-two t), weight-positive s)

@@ -39,7 +39,8 @@ rest-lighter : (t : Tree) (ks ls : Forest) → Lighter ks ls → Lighter (cons t
 unfolding weight
 rest-lighter t ks ls h = record { sums = omega (arith, h .sums); products = mul-lt-mul-of-pos-left (h .products) (weight-positive t) }
 
-pub weight-at-place : (t : Tree) (Γ : Ctx) (k : ℕ) (Δ : Ctx) (v u : Tree) → find t Γ k ≡ found Δ v → weight u < weight v → weight (replace t k u) < weight t
+pub weight-at-place : (t : Tree) (Γ : Ctx) (k : ℕ) (Δ : Ctx) (v u : Tree) → find t Γ k ≡ found Δ v → weight u < weight v
+    → weight (replace t k u) < weight t
 weight-at-place =
     at-place (λ Γ t u. weight u < weight t) (λ Γ ks ls. Lighter ks ls) (λ g n ts ks ls Γ. node-lighter g n ts ks ls)
     (λ t u ks Γ. first-lighter t u ks) (λ t ks ls Γ. rest-lighter t ks ls)

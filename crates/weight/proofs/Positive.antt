@@ -18,7 +18,9 @@ use Rattle.frame.proofs.Inversion.{true-not}
 use Rattle.typing.specs.Typing.{carriedTy, source}
 use Rattle.typing.specs.Accepted.{Accepted}
 use Rattle.typing.specs.TypeExpression.{toExpression}
-use Rattle.weight.specs.Weight.{typeWeight, Scale, product, total, binding, relating, ScaleRow, row, scales, scaleIn, scaleOf, weigh, weight, sumOf, productOf}
+use Rattle.weight.specs.Weight.{
+  typeWeight, Scale, product, total, binding, relating, ScaleRow, row, scales, scaleIn, scaleOf, weigh, weight, sumOf, productOf
+}
 
 -- ---- products
 pub times-one : {a b : ℕ} → 1 ≤ a → 1 ≤ b → 1 ≤ a * b
@@ -149,4 +151,5 @@ weigh-two relating ts s p e hp = omega (arith, times-two (type-two (source (carr
 
 pub weight-two : (σ : ℕ → Ty) (t : Tree) (Γ : Ctx) → Accepted σ t Γ expression → 2 ≤ weight t
 unfolding Accepted weight
-weight-two σ (node (head g n ts) ks) Γ a = weigh-two (scaleOf g) ts (sumOf ks) (productOf ks) (expression-heavy g (a .top .formed .sort)) (product-positive ks)
+weight-two σ (node (head g n ts) ks) Γ a = weigh-two (scaleOf g) ts (sumOf ks) (productOf ks)
+    (expression-heavy g (a .top .formed .sort)) (product-positive ks)

@@ -23,13 +23,21 @@ same-length : tie.Need-same-length
 same-length c = search needs
 
 returns : tie.Need-returns
-returns c = line-refused _ _ _ _ _ _ _ (c .before .before .before .before .before .before .before .line-end .ensures) _ (omega (arith, c .before .before .before .before .known-told .given)) (c .before .before .before .before .before .a .given .1) (c .before .before .put-refused .ensures)
+returns c =
+    let c₁ = c .before .before .before .before in
+    let c₂ = c₁ .before in
+    let c₃ = c₂ .before .before in
+    line-refused _ _ _ _ _ _ _ (c₃ .line-end .ensures) _ (omega (arith, c₁ .known-told .given)) (c₂ .a .given .1)
+        (c .before .before .put-refused .ensures)
 
 same-length-2 : tie.Need-same-length-2
 same-length-2 c = search needs
 
 returns-2 : tie.Need-returns-2
-returns-2 c = line-frame _ _ _ _ _ _ _ (c .before .before .before .before .before .before .before .before .line-end .ensures) _ (c .before .before .before .before .before .before .a2 .given .1) (c .before .before .put-held .ensures)
+returns-2 c =
+    let c₁ = c .before .before .before .before .before .before in
+    let c₂ = c₁ .before .before in
+    line-frame _ _ _ _ _ _ _ (c₂ .line-end .ensures) _ (c₁ .a2 .given .1) (c .before .before .put-held .ensures)
 
 pub put-line-spec : {M : Type 1} → statement M
 put-line-spec =

@@ -15,13 +15,21 @@ slice-aggregate-put-answer : tie.Need-slice-aggregate-put-answer
 slice-aggregate-put-answer c = search needs
 
 put-answer-requires : tie.Need-put-answer-requires
-put-answer-requires c κs = ((_, run-answers _ (λ i. c .before .before .before .before .before .before .shared-slice-known .given i .fits) (replicate 4096 0) refl _ _ (c .before .before .before .run .ensures)), c .before .before .before .before .before .before .before .pre)
+put-answer-requires c κs =
+    let c₁ = c .before .before .before in
+    let c₂ = c₁ .before .before .before in
+    let c₃ = c₂ .before in
+    ((_, run-answers _ (λ i. c₂ .shared-slice-known .given i .fits) (replicate 4096 0) refl _ _ (c₁ .run .ensures)), c₃ .pre)
 
 same-length : tie.Need-same-length
 same-length c = search needs
 
 returns : tie.Need-returns
-returns c = run-post _ _ _ _ _ _ _ (run-answers _ (λ i. c .before .before .before .before .before .before .before .before .before .shared-slice-known .given i .fits) (replicate 4096 0) refl _ _ (c .before .before .before .before .before .before .run .ensures)) (c .before .before .put-answer .ensures)
+returns c =
+    let c₁ = c .before .before .before .before .before .before in
+    let c₂ = c₁ .before .before .before in
+    run-post _ _ _ _ _ _ _ (run-answers _ (λ i. c₂ .shared-slice-known .given i .fits) (replicate 4096 0) refl _ _ (c₁ .run .ensures))
+        (c .before .before .put-answer .ensures)
 
 pub put-run-spec : {M : Type 1} → statement M
 put-run-spec =

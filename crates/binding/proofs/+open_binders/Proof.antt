@@ -39,7 +39,8 @@ open-binders-cast-binders t c = omega (arith, binders-room _ _ _ (omega arith) (
 open-binders-mul-binders : (t : ℕ) → open-binders-lts.Need-mul-binders (calls-open-binders t) (open-binders-at t) open-binders.Post
 open-binders-mul-binders t c = omega (arith, binders-room _ _ _ (omega arith) (c .before .before .pre .1 .3))
 
-open-binders-element-write-binders : (t : ℕ) → open-binders-lts.Need-element-write-binders (calls-open-binders t) (open-binders-at t) open-binders.Post
+open-binders-element-write-binders : (t : ℕ) → open-binders-lts.Need-element-write-binders (calls-open-binders t)
+    (open-binders-at t) open-binders.Post
 open-binders-element-write-binders t c = omega (arith, binders-room _ _ _ (omega arith) (c .before .before .pre .1 .3))
 
 open-binders-skip-types-requires : (t : ℕ) → open-binders-lts.Need-skip-types-requires (calls-open-binders t) (open-binders-at t) open-binders.Post
@@ -48,11 +49,19 @@ open-binders-skip-types-requires t c κs = binders-first _ _ _ (omega arith) (c 
 open-binders-add-open-binders : (t : ℕ) → open-binders-lts.Need-add-open-binders (calls-open-binders t) (open-binders-at t) open-binders.Post
 open-binders-add-open-binders t c = omega (arith, binders-room _ _ _ (omega arith) (c .before .before .before .before .pre .1 .3))
 
-open-binders-open-binders-requires : (t : ℕ) → open-binders-lts.Need-open-binders-requires (calls-open-binders t) (open-binders-at t) open-binders.Post
-open-binders-open-binders-requires t c κs = let l = binders-room _ _ _ (omega arith) (c .before .before .before .before .pre .1 .3) in let f = binders-after _ _ _ (omega arith) _ (c .before .skip-types .ensures) (c .before .before .before .before .pre .1 .3) in (omega arith, (c .before .before .before .before .pre .1 .0, omega arith, simp length-set (c .before .before .before .before .pre .1 .2), f .0))
+open-binders-open-binders-requires : (t : ℕ) → open-binders-lts.Need-open-binders-requires (calls-open-binders t)
+    (open-binders-at t) open-binders.Post
+open-binders-open-binders-requires t c κs =
+    let c₁ = c .before .before .before .before in
+    let l = binders-room _ _ _ (omega arith) (c₁ .pre .1 .3) in
+        let f = binders-after _ _ _ (omega arith) _ (c .before .skip-types .ensures) (c₁ .pre .1 .3) in
+        (omega arith, (c₁ .pre .1 .0, omega arith, simp length-set (c₁ .pre .1 .2), f .0))
 
 open-binders-returns-2 : (t : ℕ) → open-binders-lts.Need-returns-2 (calls-open-binders t) (open-binders-at t) open-binders.Post
-open-binders-returns-2 t c = let l = binders-room _ _ _ (omega arith) (c .before .before .before .before .before .pre .1 .3) in open-more _ _ _ (omega arith) _ (c .before .before .skip-types .ensures) _ _ _ _ (omega arith) (c .open-binders .ensures)
+open-binders-returns-2 t c =
+    let c₁ = c .before .before .before .before .before in
+    let l = binders-room _ _ _ (omega arith) (c₁ .pre .1 .3) in
+        open-more _ _ _ (omega arith) _ (c .before .before .skip-types .ensures) _ _ _ _ (omega arith) (c .open-binders .ensures)
 
 pub +open-binders-spec : {M : Type 1} → statement M
 +open-binders-spec = close μ-open-binders λ t. open-binders-lts.spec (calls-open-binders t)

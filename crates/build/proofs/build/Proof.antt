@@ -1,4 +1,7 @@
-use Rattle.build.proofs.DecisionTurns.{build-rests, fixed-asked, fixed-answered, each-asked, each-answered, kept-asked, kept-answered, apart-asked, apart-answered, within-asked, within-answered}
+use Rattle.build.proofs.DecisionTurns.{
+  build-rests, fixed-asked, fixed-answered, each-asked, each-answered, kept-asked, kept-answered, apart-asked, apart-answered,
+  within-asked, within-answered
+}
 use borrow.Author.Needs.{needs}
 use Rattle.build.proofs.build.Statement.{statement}
 use Rattle.build.proofs.build.Tie as tie

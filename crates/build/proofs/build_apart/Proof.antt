@@ -20,19 +20,34 @@ copy-at-requires : tie.Need-copy-at-requires
 copy-at-requires c κs = apart-member _ _ _ _ _ _ _ (c .before .before .before .before .before .before .before .pre)
 
 sub-put-joined : tie.Need-sub-put-joined
-sub-put-joined c = let z = apart-many _ _ _ _ _ _ _ _ (c .before .before .before .before .before .before .arity-at .ensures) (c .before .before .before .before .before .before .before .before .pre) .0 in omega arith
+sub-put-joined c =
+    let c₁ = c .before .before .before .before .before .before in
+    let c₂ = c₁ .before .before in
+    let z = apart-many _ _ _ _ _ _ _ _ (c₁ .arity-at .ensures) (c₂ .pre) .0 in omega arith
 
 put-joined-requires : tie.Need-put-joined-requires
-put-joined-requires c κs = (omega arith, let z = apart-many _ _ _ _ _ _ _ _ (c .before .before .before .before .before .before .before .arity-at .ensures) (c .before .before .before .before .before .before .before .before .before .pre) .1 in omega arith)
+put-joined-requires c κs =
+    let c₁ = c .before .before .before .before .before .before .before in
+    let c₂ = c₁ .before .before in
+    (omega arith, let z = apart-many _ _ _ _ _ _ _ _ (c₁ .arity-at .ensures) (c₂ .pre) .1 in omega arith)
 
 add-c : tie.Need-add-c
 add-c c = let z = apart-few _ _ _ _ _ _ _ (c .before .before .before .before .before .before .before .before .before .before .pre) .0 in omega arith
 
 put-row-requires : tie.Need-put-row-requires
-put-row-requires c κs = apart-row _ _ _ _ _ _ _ _ (c .before .before .before .before .before .before .before .before .before .arity-at .ensures) (c .before .before .before .before .before .before .before .before .before .before .before .pre)
+put-row-requires c κs =
+    let c₁ = c .before .before .before .before .before .before .before .before .before in
+    let c₂ = c₁ .before .before in
+    apart-row _ _ _ _ _ _ _ _ (c₁ .arity-at .ensures) (c₂ .pre)
 
 returns : tie.Need-returns
-returns c = apart-built _ _ _ _ _ _ _ _ (c .before .before .before .before .before .before .before .before .before .before .arity-at .ensures) _ _ _ _ (c .before .before .before .before .before .before .before .before .put-word .ensures) _ _ (c .before .before .before .before .before .before .put-word2 .ensures) _ _ (c .before .before .before .before .copy-at .ensures) _ _ (c .before .before .put-joined .ensures) _ _ (c .put-row .ensures)
+returns c =
+    let c₁ = c .before .before .before .before in
+    let c₂ = c₁ .before .before in
+    let c₃ = c₂ .before .before in
+    let c₄ = c₃ .before .before in
+    apart-built _ _ _ _ _ _ _ _ (c₄ .arity-at .ensures) _ _ _ _ (c₃ .put-word .ensures) _ _ (c₂ .put-word2 .ensures) _ _
+        (c₁ .copy-at .ensures) _ _ (c .before .before .put-joined .ensures) _ _ (c .put-row .ensures)
 
 pub build-apart-spec : {M : Type 1} → statement M
 build-apart-spec =

@@ -12,7 +12,9 @@ put-kept-requires : tie.Need-put-kept-requires
 put-kept-requires c κs = kept-list _ _ _ _ _ _ _ _ (c .before .before .before .before .before .pre)
 
 returns : tie.Need-returns
-returns c = kept-built _ _ _ _ _ _ _ _ _ (c .before .before .before .before .tag-at .ensures) _ _ _ _ (c .before .before .put-many .ensures) _ _ (c .put-kept .ensures)
+returns c =
+    let c₁ = c .before .before .before .before in
+    kept-built _ _ _ _ _ _ _ _ _ (c₁ .tag-at .ensures) _ _ _ _ (c .before .before .put-many .ensures) _ _ (c .put-kept .ensures)
 
 pub build-kept-spec : {M : Type 1} → statement M
 build-kept-spec = tie.close (tie.spec tag-at-requires put-many-requires put-kept-requires returns)

@@ -14,22 +14,45 @@ put-word-requires : tie.Need-put-word-requires
 put-word-requires c κs = search needs
 
 put-joined-requires : tie.Need-put-joined-requires
-put-joined-requires c κs = (omega arith, within-many _ _ _ _ _ _ _ (c .before .before .before .arity-at .ensures) (c .before .before .before .before .before .pre))
+put-joined-requires c κs =
+    let c₁ = c .before .before .before in
+    let c₂ = c₁ .before .before in
+    (omega arith, within-many _ _ _ _ _ _ _ (c₁ .arity-at .ensures) (c₂ .pre))
 
 put-row-requires : tie.Need-put-row-requires
-put-row-requires c κs = within-row _ _ _ _ _ _ _ (c .before .before .before .before .before .arity-at .ensures) (c .before .before .before .before .before .before .before .pre)
+put-row-requires c κs =
+    let c₁ = c .before .before .before .before .before in
+    let c₂ = c₁ .before .before in
+    within-row _ _ _ _ _ _ _ (c₁ .arity-at .ensures) (c₂ .pre)
 
 count-minus-requires : tie.Need-count-minus-requires
-count-minus-requires c κs = (within-row _ _ _ _ _ _ _ (c .before .before .before .before .before .before .arity-at .ensures) (c .before .before .before .before .before .before .before .before .pre), within-many _ _ _ _ _ _ _ (c .before .before .before .before .before .before .arity-at .ensures) (c .before .before .before .before .before .before .before .before .pre))
+count-minus-requires c κs =
+    let c₁ = c .before .before .before .before .before .before in
+    let c₂ = c₁ .before .before in
+    (within-row _ _ _ _ _ _ _ (c₁ .arity-at .ensures) (c₂ .pre), within-many _ _ _ _ _ _ _ (c₁ .arity-at .ensures) (c₂ .pre))
 
 put-joined-requires-2 : tie.Need-put-joined-requires-2
-put-joined-requires-2 c κs = (omega arith, let z = within-many _ _ _ _ _ _ _ (c .before .before .before .before .before .before .before .before .arity-at .ensures) (c .before .before .before .before .before .before .before .before .before .before .pre) in let y = c .before .count-minus .ensures .few in omega arith)
+put-joined-requires-2 c κs =
+    let c₁ = c .before .before .before .before .before .before .before .before in
+    let c₂ = c₁ .before .before in
+    (omega arith, let z = within-many _ _ _ _ _ _ _ (c₁ .arity-at .ensures) (c₂ .pre) in
+          let y = c .before .count-minus .ensures .few in omega arith)
 
 put-row-requires-2 : tie.Need-put-row-requires-2
-put-row-requires-2 c κs = within-row _ _ _ _ _ _ _ (c .before .before .before .before .before .before .before .before .before .before .arity-at .ensures) (c .before .before .before .before .before .before .before .before .before .before .before .before .pre)
+put-row-requires-2 c κs =
+    let c₁ = c .before .before .before .before .before .before .before .before .before .before in
+    let c₂ = c₁ .before .before in
+    within-row _ _ _ _ _ _ _ (c₁ .arity-at .ensures) (c₂ .pre)
 
 returns : tie.Need-returns
-returns c = within-built _ _ _ _ _ _ _ (c .before .before .before .before .before .before .before .before .before .before .before .arity-at .ensures) _ _ _ _ (c .before .before .before .before .before .before .before .before .before .put-word .ensures) _ _ (c .before .before .before .before .before .before .before .put-joined .ensures) _ _ (c .before .before .before .before .before .put-row .ensures) _ (c .before .before .before .before .count-minus .ensures) _ _ (c .before .before .put-joined2 .ensures) _ _ (c .put-row2 .ensures)
+returns c =
+    let c₁ = c .before .before .before .before in
+    let c₂ = c₁ .before in
+    let c₃ = c₂ .before .before in
+    let c₄ = c₃ .before .before in
+    let c₅ = c₄ .before .before in
+    within-built _ _ _ _ _ _ _ (c₅ .arity-at .ensures) _ _ _ _ (c₄ .put-word .ensures) _ _ (c₃ .put-joined .ensures) _ _
+        (c₂ .put-row .ensures) _ (c₁ .count-minus .ensures) _ _ (c .before .before .put-joined2 .ensures) _ _ (c .put-row2 .ensures)
 
 pub build-within-spec : {M : Type 1} → statement M
 build-within-spec =

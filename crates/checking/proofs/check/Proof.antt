@@ -14,7 +14,10 @@ enum-known-answer-2 : tie.Need-enum-known-answer-2
 enum-known-answer-2 c = search needs
 
 check-tree-requires : tie.Need-check-tree-requires
-check-tree-requires c κs = (read-pre _ (λ i. c .before .before .before .before .before .shared-slice-known .given i .fits) _ (sym (c .before .before .answer2 .given .1) ∙ c .before .before .before .before .read .ensures .0), refl)
+check-tree-requires c κs =
+    let c₁ = c .before .before .before .before in
+    let c₂ = c₁ .before in
+    (read-pre _ (λ i. c₂ .shared-slice-known .given i .fits) _ (sym (c .before .before .answer2 .given .1) ∙ c₁ .read .ensures .0), refl)
 
 returns : tie.Need-returns
 returns c = refused-read _ _ (sym (c .before .answer .given .1) ∙ c .before .before .before .read .ensures .0)

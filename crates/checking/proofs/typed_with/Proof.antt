@@ -7,7 +7,9 @@ use Rattle.checking.proofs.typed_with.Statement.{statement}
 use Rattle.checking.proofs.typed_with.Tie as tie
 
 type-tree-requires : tie.Need-type-tree-requires
-type-tree-requires c κs = type-pre _ _ _ (λ i. c .before .before .shared-slice-known .given i .fits) (c .before .before .before .pre .0) (c .before .before .before .pre .1)
+type-tree-requires c κs =
+    let c₁ = c .before .before .before in
+    type-pre _ _ _ (λ i. c .before .before .shared-slice-known .given i .fits) (c₁ .pre .0) (c₁ .pre .1)
 
 enum-known-a : tie.Need-enum-known-a
 enum-known-a c = search needs
@@ -19,13 +21,23 @@ same-length : tie.Need-same-length
 same-length c = search needs
 
 returns : tie.Need-returns
-returns c = typed-by _ _ _ _ (λ i. c .before .before .before .before .before .before .before .before .shared-slice-known .given i .fits) (c .before .before .before .before .before .before .before .before .before .pre .0) (omega arith) (c .before .before .before .before .before .type-tree .ensures) true (ap isTyped (sym (c .before .a .given .1)))
+returns c =
+    let c₁ = c .before .before .before .before .before in
+    let c₂ = c₁ .before .before .before in
+    let c₃ = c₂ .before in
+    typed-by _ _ _ _ (λ i. c₂ .shared-slice-known .given i .fits) (c₃ .pre .0) (omega arith) (c₁ .type-tree .ensures) true
+        (ap isTyped (sym (c .before .a .given .1)))
 
 same-length-2 : tie.Need-same-length-2
 same-length-2 c = search needs
 
 returns-2 : tie.Need-returns-2
-returns-2 c = typed-by _ _ _ _ (λ i. c .before .before .before .before .before .before .before .shared-slice-known .given i .fits) (c .before .before .before .before .before .before .before .before .pre .0) (omega arith) (c .before .before .before .before .type-tree .ensures) false (ap isTyped (sym (c .enum-told .given .1)))
+returns-2 c =
+    let c₁ = c .before .before .before .before in
+    let c₂ = c₁ .before .before .before in
+    let c₃ = c₂ .before in
+    typed-by _ _ _ _ (λ i. c₂ .shared-slice-known .given i .fits) (c₃ .pre .0) (omega arith) (c₁ .type-tree .ensures) false
+        (ap isTyped (sym (c .enum-told .given .1)))
 
 pub typed-with-spec : {M : Type 1} → statement M
 typed-with-spec =

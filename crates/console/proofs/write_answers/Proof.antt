@@ -49,13 +49,26 @@ returns : tie.Need-returns Inv-loop μ-loop
 returns c = tt
 
 add-at : tie.Need-add-at Inv-loop μ-loop
-add-at c = omega (arith, c .before .before .before .before .before .before .before .feed .ensures .within, part-long (now (c .before .before .before .before .before .before .before .before .before .before .before .before .before .before .before .args .piece)) (c .before .before .before .before .before .before .before .before .before .before .before .before .loop .at))
+add-at c =
+    let c₁ = c .before .before .before .before .before .before .before in
+    let c₂ = c₁ .before .before .before .before .before in
+    let c₃ = c₂ .before .before .before in
+    omega (arith, c₁ .feed .ensures .within, part-long (now (c₃ .args .piece)) (c₂ .loop .at))
 
 loop-less : tie.Need-loop-less Inv-loop μ-loop
-loop-less c = omega (arith, c .before .before .before .before .before .before .before .feed .ensures .within, c .before .before .before .before .before .before .before .feed .ensures .some (omega (arith, c .before .before .before .before .before .before .before .before .before .before .before .before .before .before .before .pre)) (omega (arith, part-long (now (c .before .before .before .before .before .before .before .before .before .before .before .before .before .before .before .args .piece)) (c .before .before .before .before .before .before .before .before .before .before .before .before .loop .at))), part-long (now (c .before .before .before .before .before .before .before .before .before .before .before .before .before .before .before .args .piece)) (c .before .before .before .before .before .before .before .before .before .before .before .before .loop .at))
+loop-less c =
+    let c₁ = c .before .before .before .before .before .before .before in
+    let c₂ = c₁ .before .before .before .before .before in
+    let c₃ = c₂ .before .before .before in
+    omega (arith, c₁ .feed .ensures .within, c₁ .feed .ensures .some (omega (arith, c₃ .pre))
+          (omega (arith, part-long (now (c₃ .args .piece)) (c₂ .loop .at))), part-long (now (c₃ .args .piece)) (c₂ .loop .at))
 
 loop-again : tie.Need-loop-again Inv-loop μ-loop
-loop-again c = (omega (arith, c .before .before .before .before .before .before .before .feed .ensures .within, part-long (now (c .before .before .before .before .before .before .before .before .before .before .before .before .before .before .before .args .piece)) (c .before .before .before .before .before .before .before .before .before .before .before .before .loop .at)), omega arith)
+loop-again c =
+    let c₁ = c .before .before .before .before .before .before .before in
+    let c₂ = c₁ .before .before .before .before .before in
+    let c₃ = c₂ .before .before .before in
+    (omega (arith, c₁ .feed .ensures .within, part-long (now (c₃ .args .piece)) (c₂ .loop .at)), omega arith)
 
 same-length-2 : tie.Need-same-length-2 Inv-loop μ-loop
 same-length-2 c = omega arith

@@ -19,7 +19,10 @@ arity-at-requires : tie.Need-arity-at-requires
 arity-at-requires c κs = here-placed (c .before .before .before .pre)
 
 decide-inter-requires : tie.Need-decide-inter-requires
-decide-inter-requires c κs = inter-here _ _ _ _ _ (c .before .before .before .tag-at .ensures) (c .match .keys1) (c .before .before .before .before .before .pre)
+decide-inter-requires c κs =
+    let c₁ = c .before .before .before in
+    let c₂ = c₁ .before .before in
+    inter-here _ _ _ _ _ (c₁ .tag-at .ensures) (c .match .keys1) (c₂ .pre)
 
 fixed-requires : tie.Need-fixed-requires
 fixed-requires c κs = search needs
@@ -73,49 +76,96 @@ returns : tie.Need-returns
 returns c = empty-inter _ _ _ _ _ (c .before .before .before .before .tag-at .ensures) (c .before .match .keys1) _ (c .decide-inter .ensures)
 
 returns-2 : tie.Need-returns-2
-returns-2 c = empty-two _ _ _ _ _ (c .before .before .before .before .tag-at .ensures) 213 40 refl (c .before .match .keys2) _ (c .before .before .before .second-of .ensures) _ (c .fixed .ensures)
+returns-2 c =
+    let c₁ = c .before .before .before in
+    let c₂ = c₁ .before in
+    empty-two _ _ _ _ _ (c₂ .tag-at .ensures) 213 40 refl (c .before .match .keys2) _ (c₁ .second-of .ensures) _ (c .fixed .ensures)
 
 returns-3 : tie.Need-returns-3
-returns-3 c = empty-two _ _ _ _ _ (c .before .before .before .before .tag-at .ensures) 214 41 refl (c .before .match .keys3) _ (c .before .before .before .second-of .ensures) _ (c .fixed2 .ensures)
+returns-3 c =
+    let c₁ = c .before .before .before in
+    let c₂ = c₁ .before in
+    empty-two _ _ _ _ _ (c₂ .tag-at .ensures) 214 41 refl (c .before .match .keys3) _ (c₁ .second-of .ensures) _ (c .fixed2 .ensures)
 
 returns-4 : tie.Need-returns-4
-returns-4 c = empty-two _ _ _ _ _ (c .before .before .before .before .tag-at .ensures) 221 42 refl (c .before .match .keys4) _ (c .before .before .before .second-of .ensures) _ (c .fixed3 .ensures)
+returns-4 c =
+    let c₁ = c .before .before .before in
+    let c₂ = c₁ .before in
+    empty-two _ _ _ _ _ (c₂ .tag-at .ensures) 221 42 refl (c .before .match .keys4) _ (c₁ .second-of .ensures) _ (c .fixed3 .ensures)
 
 returns-5 : tie.Need-returns-5
-returns-5 c = empty-two _ _ _ _ _ (c .before .before .before .before .tag-at .ensures) 204 43 refl (c .before .match .keys5) _ (c .before .before .before .second-of .ensures) _ (c .fixed4 .ensures)
+returns-5 c =
+    let c₁ = c .before .before .before in
+    let c₂ = c₁ .before in
+    empty-two _ _ _ _ _ (c₂ .tag-at .ensures) 204 43 refl (c .before .match .keys5) _ (c₁ .second-of .ensures) _ (c .fixed4 .ensures)
 
 returns-6 : tie.Need-returns-6
-returns-6 c = empty-two _ _ _ _ _ (c .before .before .before .before .tag-at .ensures) 205 44 refl (c .before .match .keys6) _ (c .before .before .before .second-of .ensures) _ (c .fixed5 .ensures)
+returns-6 c =
+    let c₁ = c .before .before .before in
+    let c₂ = c₁ .before in
+    empty-two _ _ _ _ _ (c₂ .tag-at .ensures) 205 44 refl (c .before .match .keys6) _ (c₁ .second-of .ensures) _ (c .fixed5 .ensures)
 
 returns-7 : tie.Need-returns-7
-returns-7 c = empty-two _ _ _ _ _ (c .before .before .before .before .tag-at .ensures) 217 45 refl (c .before .match .keys7) _ (c .before .before .before .second-of .ensures) _ (c .fixed6 .ensures)
+returns-7 c =
+    let c₁ = c .before .before .before in
+    let c₂ = c₁ .before in
+    empty-two _ _ _ _ _ (c₂ .tag-at .ensures) 217 45 refl (c .before .match .keys7) _ (c₁ .second-of .ensures) _ (c .fixed6 .ensures)
 
 returns-8 : tie.Need-returns-8
-returns-8 c = empty-two _ _ _ _ _ (c .before .before .before .before .tag-at .ensures) 218 46 refl (c .before .match .keys8) _ (c .before .before .before .second-of .ensures) _ (c .fixed7 .ensures)
+returns-8 c =
+    let c₁ = c .before .before .before in
+    let c₂ = c₁ .before in
+    empty-two _ _ _ _ _ (c₂ .tag-at .ensures) 218 46 refl (c .before .match .keys8) _ (c₁ .second-of .ensures) _ (c .fixed7 .ensures)
 
 returns-9 : tie.Need-returns-9
-returns-9 c = empty-two _ _ _ _ _ (c .before .before .before .before .tag-at .ensures) 219 47 refl (c .before .match .keys9) _ (c .before .before .before .second-of .ensures) _ (c .fixed8 .ensures)
+returns-9 c =
+    let c₁ = c .before .before .before in
+    let c₂ = c₁ .before in
+    empty-two _ _ _ _ _ (c₂ .tag-at .ensures) 219 47 refl (c .before .match .keys9) _ (c₁ .second-of .ensures) _ (c .fixed8 .ensures)
 
 returns-10 : tie.Need-returns-10
-returns-10 c = empty-two _ _ _ _ _ (c .before .before .before .before .tag-at .ensures) 220 48 refl (c .before .match .keys10) _ (c .before .before .before .second-of .ensures) _ (c .fixed9 .ensures)
+returns-10 c =
+    let c₁ = c .before .before .before in
+    let c₂ = c₁ .before in
+    empty-two _ _ _ _ _ (c₂ .tag-at .ensures) 220 48 refl (c .before .match .keys10) _ (c₁ .second-of .ensures) _ (c .fixed9 .ensures)
 
 returns-11 : tie.Need-returns-11
-returns-11 c = empty-two _ _ _ _ _ (c .before .before .before .before .tag-at .ensures) 227 49 refl (c .before .match .keys11) _ (c .before .before .before .second-of .ensures) _ (c .fixed10 .ensures)
+returns-11 c =
+    let c₁ = c .before .before .before in
+    let c₂ = c₁ .before in
+    empty-two _ _ _ _ _ (c₂ .tag-at .ensures) 227 49 refl (c .before .match .keys11) _ (c₁ .second-of .ensures) _ (c .fixed10 .ensures)
 
 returns-12 : tie.Need-returns-12
-returns-12 c = empty-two _ _ _ _ _ (c .before .before .before .before .tag-at .ensures) 215 50 refl (c .before .match .keys12) _ (c .before .before .before .second-of .ensures) _ (c .fixed11 .ensures)
+returns-12 c =
+    let c₁ = c .before .before .before in
+    let c₂ = c₁ .before in
+    empty-two _ _ _ _ _ (c₂ .tag-at .ensures) 215 50 refl (c .before .match .keys12) _ (c₁ .second-of .ensures) _ (c .fixed11 .ensures)
 
 returns-13 : tie.Need-returns-13
-returns-13 c = empty-two _ _ _ _ _ (c .before .before .before .before .tag-at .ensures) 216 51 refl (c .before .match .keys13) _ (c .before .before .before .second-of .ensures) _ (c .fixed12 .ensures)
+returns-13 c =
+    let c₁ = c .before .before .before in
+    let c₂ = c₁ .before in
+    empty-two _ _ _ _ _ (c₂ .tag-at .ensures) 216 51 refl (c .before .match .keys13) _ (c₁ .second-of .ensures) _ (c .fixed12 .ensures)
 
 returns-14 : tie.Need-returns-14
-returns-14 c = empty-56 _ _ _ _ _ (c .before .before .before .before .tag-at .ensures) (c .before .match .keys14) _ (c .before .before .before .second-of .ensures) _ (c .before .before .arity-at .ensures) _ (c .fixed-if-two .ensures)
+returns-14 c =
+    let c₁ = c .before .before .before in
+    let c₂ = c₁ .before in
+    empty-56 _ _ _ _ _ (c₂ .tag-at .ensures) (c .before .match .keys14) _ (c₁ .second-of .ensures) _
+        (c .before .before .arity-at .ensures) _ (c .fixed-if-two .ensures)
 
 returns-15 : tie.Need-returns-15
-returns-15 c = empty-57 _ _ _ _ _ (c .before .before .before .before .tag-at .ensures) (c .before .match .keys15) _ (c .before .before .before .second-of .ensures) _ (c .before .before .arity-at .ensures) _ (c .fixed-if-two2 .ensures)
+returns-15 c =
+    let c₁ = c .before .before .before in
+    let c₂ = c₁ .before in
+    empty-57 _ _ _ _ _ (c₂ .tag-at .ensures) (c .before .match .keys15) _ (c₁ .second-of .ensures) _
+        (c .before .before .arity-at .ensures) _ (c .fixed-if-two2 .ensures)
 
 returns-16 : tie.Need-returns-16
-returns-16 c = empty-59 _ _ _ _ _ (c .before .before .before .before .tag-at .ensures) (c .before .match .keys16) _ (c .before .before .before .second-of .ensures) _ (c .fixed13 .ensures)
+returns-16 c =
+    let c₁ = c .before .before .before in
+    let c₂ = c₁ .before in
+    empty-59 _ _ _ _ _ (c₂ .tag-at .ensures) (c .before .match .keys16) _ (c₁ .second-of .ensures) _ (c .fixed13 .ensures)
 
 returns-17 : tie.Need-returns-17
 returns-17 c = c .empty-by-tag .ensures .decides _ _ _ (c .before .before .before .before .tag-at .ensures)

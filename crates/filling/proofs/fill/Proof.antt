@@ -17,10 +17,16 @@ slice-aggregate-fill-template : tie.Need-slice-aggregate-fill-template
 slice-aggregate-fill-template c = search needs
 
 fill-template-requires : tie.Need-fill-template-requires
-fill-template-requires c κs = fill-ready _ _ _ _ _ _ _ _ _ _ (c .before .before .before .before .operand-types .ensures) _ (c .before .before .ranges .ensures) (c .before .before .before .before .before .before .before .pre)
+fill-template-requires c κs =
+    let c₁ = c .before .before .before .before in
+    let c₂ = c₁ .before .before .before in
+    fill-ready _ _ _ _ _ _ _ _ _ _ (c₁ .operand-types .ensures) _ (c .before .before .ranges .ensures) (c₂ .pre)
 
 returns : tie.Need-returns
-returns c = fill-done _ _ _ _ _ _ _ _ _ _ (c .before .before .before .before .before .operand-types .ensures) _ (c .before .before .before .ranges .ensures) _ _ _ _ (c .fill-template .ensures)
+returns c =
+    let c₁ = c .before .before .before in
+    let c₂ = c₁ .before .before in
+    fill-done _ _ _ _ _ _ _ _ _ _ (c₂ .operand-types .ensures) _ (c₁ .ranges .ensures) _ _ _ _ (c .fill-template .ensures)
 
 pub fill-spec : {M : Type 1} → statement M
 fill-spec =

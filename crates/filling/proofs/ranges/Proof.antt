@@ -25,7 +25,13 @@ start-after-requires : tie.Need-start-after-requires
 start-after-requires c κs = range-few _ _ _ _ _ _ _ (c .before .before .before .before .before .before .pre) .2
 
 returns : tie.Need-returns
-returns c = ranges-done _ _ _ _ _ _ _ (c .before .before .before .before .before .before .before .pre) _ _ _ _ _ _ (c .before .before .before .before .before .start-at .ensures .0) (c .before .before .before .before .end-at .ensures) (c .before .before .before .start-at2 .ensures .0) (c .before .before .end-at2 .ensures) (c .before .start-at3 .ensures .0) (c .start-after .ensures)
+returns c =
+    let c₁ = c .before .before .before in
+    let c₂ = c₁ .before in
+    let c₃ = c₂ .before in
+    let c₄ = c₃ .before .before in
+    ranges-done _ _ _ _ _ _ _ (c₄ .pre) _ _ _ _ _ _ (c₃ .start-at .ensures .0) (c₂ .end-at .ensures) (c₁ .start-at2 .ensures .0)
+        (c .before .before .end-at2 .ensures) (c .before .start-at3 .ensures .0) (c .start-after .ensures)
 
 pub ranges-spec : {M : Type 1} → statement M
 ranges-spec =

@@ -12,7 +12,10 @@ slice-aggregate-type-with : tie.Need-slice-aggregate-type-with
 slice-aggregate-type-with c = search needs
 
 type-with-requires : tie.Need-type-with-requires
-type-with-requires c κs = (c .before .before .before .before .before .before .pre, work-own _ _ _ _ _ refl _ (c .before .before .before .arity-at .ensures) (c .before .before .if1 .taken))
+type-with-requires c κs =
+    let c₁ = c .before .before .before in
+    let c₂ = c₁ .before .before .before in
+    (c₂ .pre, work-own _ _ _ _ _ refl _ (c₁ .arity-at .ensures) (c .before .before .if1 .taken))
 
 same-length : tie.Need-same-length
 same-length c = search needs
@@ -36,7 +39,9 @@ slice-aggregate-type-with-3 : tie.Need-slice-aggregate-type-with-3
 slice-aggregate-type-with-3 c = search needs
 
 type-with-requires-3 : tie.Need-type-with-requires-3
-type-with-requires-3 c κs = (c .before .before .before .before .before .before .before .pre, work-all _ _ _ _ _ (let f = c .before .before .before .before .before .before .before .pre .held .framed .short in omega arith))
+type-with-requires-3 c κs =
+    let c₁ = c .before .before .before .before .before .before .before in
+    (c₁ .pre, work-all _ _ _ _ _ (let f = c₁ .pre .held .framed .short in omega arith))
 
 same-length-3 : tie.Need-same-length-3
 same-length-3 c = search needs

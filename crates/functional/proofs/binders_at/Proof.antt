@@ -23,10 +23,19 @@ add-number : tie.Need-add-number
 add-number c = search needs
 
 number-requires : tie.Need-number-requires
-number-requires c κs = let z = room-binders _ _ _ _ (c .before .before .before .tag-at .ensures) (sym (c .before .before .is-binder .ensures) ∙ not-false _ (c .before .if1 .left)) _ (c .start-at .ensures .0) (c .before .before .before .before .before .pre) in omega arith
+number-requires c κs =
+    let c₁ = c .before .before .before in
+    let c₂ = c₁ .before .before in
+    let z = room-binders _ _ _ _ (c₁ .tag-at .ensures) (sym (c .before .before .is-binder .ensures) ∙ not-false _ (c .before .if1 .left)) _
+        (c .start-at .ensures .0) (c₂ .pre) in omega arith
 
 returns-2 : tie.Need-returns-2
-returns-2 c = binders-some _ _ _ _ (c .before .before .before .before .tag-at .ensures) (sym (c .before .before .before .is-binder .ensures) ∙ not-false _ (c .before .before .if1 .left)) _ (c .before .start-at .ensures .0) (c .before .before .before .before .before .before .pre) _ (c .number .ensures)
+returns-2 c =
+    let c₁ = c .before .before .before in
+    let c₂ = c₁ .before in
+    let c₃ = c₂ .before .before in
+    binders-some _ _ _ _ (c₂ .tag-at .ensures) (sym (c₁ .is-binder .ensures) ∙ not-false _ (c .before .before .if1 .left)) _
+        (c .before .start-at .ensures .0) (c₃ .pre) _ (c .number .ensures)
 
 pub binders-at-spec : {M : Type 1} → statement M
 binders-at-spec =

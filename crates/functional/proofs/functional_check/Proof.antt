@@ -10,7 +10,8 @@ named-in-requires-2 : tie.Need-named-in-requires-2
 named-in-requires-2 c κs = (row-left _ _ _ _ _ (c .before .before .pre .0), omega arith, c .before .before .pre .1)
 
 returns : tie.Need-returns
-returns c = check-done _ _ _ _ _ _ _ _ (c .before .named-in .ensures) (c .named-in2 .ensures) (c .before .before .before .pre .1) (omega arith) (omega arith)
+returns c = check-done _ _ _ _ _ _ _ _ (c .before .named-in .ensures) (c .named-in2 .ensures) (c .before .before .before .pre .1)
+    (omega arith) (omega arith)
 
 pub functional-check-spec : {M : Type 1} → statement M
 functional-check-spec = tie.close (tie.spec named-in-requires named-in-requires-2 returns)

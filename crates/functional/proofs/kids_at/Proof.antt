@@ -16,7 +16,9 @@ arity-at-requires-2 : tie.Need-arity-at-requires-2
 arity-at-requires-2 c κs = search needs
 
 returns-2 : tie.Need-returns-2
-returns-2 c = kids-maplet _ _ _ _ _ (c .before .before .before .if1 .left) _ (c .before .before .tag-at .ensures) (c .before .if2 .taken) (c .arity-at2 .ensures)
+returns-2 c =
+    let c₁ = c .before .before .before in
+    kids-maplet _ _ _ _ _ (c₁ .if1 .left) _ (c .before .before .tag-at .ensures) (c .before .if2 .taken) (c .arity-at2 .ensures)
 
 returns-3 : tie.Need-returns-3
 returns-3 c = kids-none _ _ _ _ (c .before .before .if1 .left) _ (c .before .tag-at .ensures) (c .if2 .left)

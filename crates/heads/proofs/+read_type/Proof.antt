@@ -61,7 +61,14 @@ read-type-enum-known-a : (t : ℕ) → read-type-lts.Need-enum-known-a (calls-re
 read-type-enum-known-a t c = search needs
 
 read-type-read-type-requires-3 : (t : ℕ) → read-type-lts.Need-read-type-requires-3 (calls-read-type t) (read-type-at t) read-type.Post
-read-type-read-type-requires-3 t c κs = let fw = prod-further _ _ _ (c .before .before .before .before .before .before .before .if1 .left) (c .before .before .before .before .before .before .if2 .left) (c .before .before .before .before .match .keys5) _ (c .before .before .before .read-type2 .ensures) (λ i. c .before .before .before .before .before .before .before .before .shared-slice-known .given i .fits) _ (c .before .a .given .1) in omega arith
+read-type-read-type-requires-3 t c κs =
+    let c₁ = c .before .before .before in
+    let c₂ = c₁ .before in
+    let c₃ = c₂ .before .before in
+    let c₄ = c₃ .before in
+    let c₅ = c₄ .before in
+    let fw = prod-further _ _ _ (c₄ .if1 .left) (c₃ .if2 .left) (c₂ .match .keys5) _ (c₁ .read-type2 .ensures)
+        (λ i. c₅ .shared-slice-known .given i .fits) _ (c .before .a .given .1) in omega arith
 
 read-type-enum-known-a-2 : (t : ℕ) → read-type-lts.Need-enum-known-a-2 (calls-read-type t) (read-type-at t) read-type.Post
 read-type-enum-known-a-2 t c = search needs
@@ -73,19 +80,38 @@ read-type-returns-4 : (t : ℕ) → read-type-lts.Need-returns-4 (calls-read-typ
 read-type-returns-4 t c = ty-int _ _ _ (c .before .before .before .if1 .left) (c .before .before .if2 .left) (c .match .keys2)
 
 read-type-returns-5 : (t : ℕ) → read-type-lts.Need-returns-5 (calls-read-type t) (read-type-at t) read-type.Post
-read-type-returns-5 t c = ty-given _ _ _ (c .before .before .before .before .if1 .left) (c .before .before .before .if2 .left) (c .before .match .keys3) _ (c .given-number .ensures)
+read-type-returns-5 t c =
+    let c₁ = c .before .before .before in
+    let c₂ = c₁ .before in
+    ty-given _ _ _ (c₂ .if1 .left) (c₁ .if2 .left) (c .before .match .keys3) _ (c .given-number .ensures)
 
 read-type-returns-6 : (t : ℕ) → read-type-lts.Need-returns-6 (calls-read-type t) (read-type-at t) read-type.Post
-read-type-returns-6 t c = ty-pow _ _ _ (c .before .before .before .before .if1 .left) (c .before .before .before .if2 .left) (c .before .match .keys4) _ (c .read-type .ensures)
+read-type-returns-6 t c =
+    let c₁ = c .before .before .before in
+    let c₂ = c₁ .before in
+    ty-pow _ _ _ (c₂ .if1 .left) (c₁ .if2 .left) (c .before .match .keys4) _ (c .read-type .ensures)
 
 read-type-returns-7 : (t : ℕ) → read-type-lts.Need-returns-7 (calls-read-type t) (read-type-at t) read-type.Post
-read-type-returns-7 t c = ty-prod _ _ _ (c .before .before .before .before .before .before .before .before .if1 .left) (c .before .before .before .before .before .before .before .if2 .left) (c .before .before .before .before .before .match .keys5) _ (c .before .before .before .before .read-type2 .ensures) (λ i. c .before .before .before .before .before .before .before .before .before .shared-slice-known .given i .fits) _ (c .before .before .a .given .1) _ (c .read-type3 .ensures)
+read-type-returns-7 t c =
+    let c₁ = c .before .before .before .before in
+    let c₂ = c₁ .before in
+    let c₃ = c₂ .before .before in
+    let c₄ = c₃ .before in
+    let c₅ = c₄ .before in
+    ty-prod _ _ _ (c₄ .if1 .left) (c₃ .if2 .left) (c₂ .match .keys5) _ (c₁ .read-type2 .ensures)
+        (λ i. c₅ .shared-slice-known .given i .fits) _ (c .before .before .a .given .1) _ (c .read-type3 .ensures)
 
 read-type-returns-8 : (t : ℕ) → read-type-lts.Need-returns-8 (calls-read-type t) (read-type-at t) read-type.Post
-read-type-returns-8 t c = ty-prod-no _ _ _ (c .before .before .before .before .before .before .before .if1 .left) (c .before .before .before .before .before .before .if2 .left) (c .before .before .before .before .match .keys5) _ (c .before .before .before .read-type2 .ensures) _ (c .before .a2 .given .1)
+read-type-returns-8 t c =
+    let c₁ = c .before .before .before in
+    let c₂ = c₁ .before in
+    let c₃ = c₂ .before .before in
+    let c₄ = c₃ .before in
+    ty-prod-no _ _ _ (c₄ .if1 .left) (c₃ .if2 .left) (c₂ .match .keys5) _ (c₁ .read-type2 .ensures) _ (c .before .a2 .given .1)
 
 read-type-returns-9 : (t : ℕ) → read-type-lts.Need-returns-9 (calls-read-type t) (read-type-at t) read-type.Post
-read-type-returns-9 t c = ty-bad _ _ _ (c .before .before .before .if1 .left) (c .before .before .if2 .left) _ refl (c .match .rest .0 .0 .0 .0 .1) (c .match .rest .0 .0 .0 .1) (c .match .rest .0 .0 .1) (c .match .rest .0 .1) (c .match .rest .1)
+read-type-returns-9 t c = ty-bad _ _ _ (c .before .before .before .if1 .left) (c .before .before .if2 .left) _ refl
+    (c .match .rest .0 .0 .0 .0 .1) (c .match .rest .0 .0 .0 .1) (c .match .rest .0 .0 .1) (c .match .rest .0 .1) (c .match .rest .1)
 
 pub +read-type-spec : {M : Type 1} → statement M
 +read-type-spec = close μ-read-type λ t. read-type-lts.spec (calls-read-type t)

@@ -43,16 +43,27 @@ read-types-sub-read-types : (t : ℕ) → read-types-lts.Need-sub-read-types (ca
 read-types-sub-read-types t c = omega arith
 
 read-types-read-types-requires : (t : ℕ) → read-types-lts.Need-read-types-requires (calls-read-types t) (read-types-at t) read-types.Post
-read-types-read-types-requires t c κs = let fw = tys-further _ _ _ (c .before .before .before .before .if1 .left) _ (c .before .before .before .read-type .ensures) _ (c .before .a .given .1) (λ i. c .before .before .before .before .before .shared-slice-known .given i .fits) in omega arith
+read-types-read-types-requires t c κs =
+    let c₁ = c .before .before .before in
+    let c₂ = c₁ .before in
+    let c₃ = c₂ .before in
+    let fw = tys-further _ _ _ (c₂ .if1 .left) _ (c₁ .read-type .ensures) _ (c .before .a .given .1)
+        (λ i. c₃ .shared-slice-known .given i .fits) in omega arith
 
 read-types-enum-known-a-2 : (t : ℕ) → read-types-lts.Need-enum-known-a-2 (calls-read-types t) (read-types-at t) read-types.Post
 read-types-enum-known-a-2 t c = search needs
 
 read-types-returns-2 : (t : ℕ) → read-types-lts.Need-returns-2 (calls-read-types t) (read-types-at t) read-types.Post
-read-types-returns-2 t c = tys-more _ _ _ (c .before .before .before .before .before .if1 .left) _ (c .before .before .before .before .read-type .ensures) _ (c .before .before .a .given .1) _ (c .read-types .ensures)
+read-types-returns-2 t c =
+    let c₁ = c .before .before .before .before in
+    let c₂ = c₁ .before in
+    tys-more _ _ _ (c₂ .if1 .left) _ (c₁ .read-type .ensures) _ (c .before .before .a .given .1) _ (c .read-types .ensures)
 
 read-types-returns-3 : (t : ℕ) → read-types-lts.Need-returns-3 (calls-read-types t) (read-types-at t) read-types.Post
-read-types-returns-3 t c = tys-no _ _ _ (c .before .before .before .before .if1 .left) _ (c .before .before .before .read-type .ensures) _ (c .before .a2 .given .1)
+read-types-returns-3 t c =
+    let c₁ = c .before .before .before in
+    let c₂ = c₁ .before in
+    tys-no _ _ _ (c₂ .if1 .left) _ (c₁ .read-type .ensures) _ (c .before .a2 .given .1)
 
 pub +read-types-spec : {M : Type 1} → statement M
 +read-types-spec = close μ-read-types λ t. read-types-lts.spec (calls-read-types t)

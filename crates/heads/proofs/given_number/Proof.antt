@@ -26,13 +26,18 @@ add-if4 : tie.Need-add-if4
 add-if4 c = search needs
 
 returns-4 : tie.Need-returns-4
-returns-4 c = rw (lt-leb _ _ (c .before .before .before .if1 .left), lt-leb _ _ (c .before .before .if2 .left), lt-leb _ _ (c .before .if3 .left), le-leb _ _ (c .if4 .taken))
+returns-4 c =
+    let c₁ = c .before .before .before in
+    rw (lt-leb _ _ (c₁ .if1 .left), lt-leb _ _ (c .before .before .if2 .left), lt-leb _ _
+          (c .before .if3 .left), le-leb _ _ (c .if4 .taken))
 
 add-t6 : tie.Need-add-t6
 add-t6 c = search needs
 
 returns-5 : tie.Need-returns-5
-returns-5 c = rw (lt-leb _ _ (c .before .before .before .if1 .left), lt-leb _ _ (c .before .before .if2 .left), lt-leb _ _ (c .before .if3 .left), lt-leb _ _ (c .if4 .left))
+returns-5 c =
+    let c₁ = c .before .before .before in
+    rw (lt-leb _ _ (c₁ .if1 .left), lt-leb _ _ (c .before .before .if2 .left), lt-leb _ _ (c .before .if3 .left), lt-leb _ _ (c .if4 .left))
 
 pub given-number-spec : {M : Type 1} → statement M
 given-number-spec =

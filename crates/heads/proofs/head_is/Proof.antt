@@ -17,7 +17,11 @@ later-of-requires : tie.Need-later-of-requires
 later-of-requires c κs = search needs
 
 returns : tie.Need-returns
-returns c = head-is (c .before .before .before .before .args .form) _ (c .before .before .before .before .args .x) _ _ (c .before .before .before .before .pre .0) (c .before .before .before .before .pre .1) _ _ _ _ (c .before .before .before .payload-of .ensures) (c .before .before .children-of .ensures) (c .before .first-of .ensures) (c .later-of .ensures)
+returns c =
+    let c₁ = c .before .before .before in
+    let c₂ = c₁ .before in
+    head-is (c₂ .args .form) _ (c₂ .args .x) _ _ (c₂ .pre .0) (c₂ .pre .1) _ _ _ _ (c₁ .payload-of .ensures)
+        (c .before .before .children-of .ensures) (c .before .first-of .ensures) (c .later-of .ensures)
 
 pub head-is-spec : {M : Type 1} → statement M
 head-is-spec =

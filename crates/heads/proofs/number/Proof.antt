@@ -20,7 +20,10 @@ unfolding numberAt
 loop-holds c = (omega arith, refl)
 
 mul-x : tie.Need-mul-x Inv-loop μ-loop
-mul-x c = omega (arith, number-room (c .before .loop .i) (now (c .before .before .before .args .s)) (λ i. c .before .before .shared-slice-known .given i .fits) (c .before .before .before .args .at) (omega arith), c .before .loop .inv .1)
+mul-x c =
+    let c₁ = c .before .before .before in
+    omega (arith, number-room (c .before .loop .i) (now (c₁ .args .s)) (λ i. c .before .before .shared-slice-known .given i .fits)
+          (c₁ .args .at) (omega arith), c .before .loop .inv .1)
 
 add-wide : tie.Need-add-wide Inv-loop μ-loop
 add-wide c = omega arith
@@ -32,7 +35,12 @@ wide-requires : tie.Need-wide-requires Inv-loop μ-loop
 wide-requires c κs = search needs
 
 add-x : tie.Need-add-x Inv-loop μ-loop
-add-x c = omega (arith, number-room (c .before .before .before .loop .i) (now (c .before .before .before .before .before .args .s)) (λ i. c .before .before .before .before .shared-slice-known .given i .fits) (c .before .before .before .before .before .args .at) (omega arith), c .before .before .before .loop .inv .1)
+add-x c =
+    let c₁ = c .before .before .before in
+    let c₂ = c₁ .before in
+    let c₃ = c₂ .before in
+    omega (arith, number-room (c₁ .loop .i) (now (c₃ .args .s)) (λ i. c₂ .shared-slice-known .given i .fits) (c₃ .args .at)
+          (omega arith), c₁ .loop .inv .1)
 
 add-i : tie.Need-add-i Inv-loop μ-loop
 add-i c = omega arith
@@ -44,7 +52,10 @@ loop-again : tie.Need-loop-again Inv-loop μ-loop
 loop-again c = (omega arith, sym (number-more _ _ _ ∙ (omega (arith, c .before .before .before .loop .inv .1, c .wide .ensures .0))))
 
 returns : tie.Need-returns Inv-loop μ-loop
-returns c = let z : c .before .loop .i ≡ c .before .before .before .args .w = omega arith in c .before .loop .inv .1 ∙ ap (λ (k : ℕ). numberAt k (now (c .before .before .before .args .s)) (c .before .before .before .args .at)) z
+returns c =
+    let c₁ = c .before .before .before in
+    let z : c .before .loop .i ≡ c₁ .args .w = omega arith in
+        c .before .loop .inv .1 ∙ ap (λ (k : ℕ). numberAt k (now (c₁ .args .s)) (c₁ .args .at)) z
 
 pub number-spec : {M : Type 1} → statement M
 number-spec =

@@ -21,7 +21,8 @@ type-bytes-requires : tie.Need-type-bytes-requires Inv-loop μ-loop
 type-bytes-requires c κs = tt
 
 add-p : tie.Need-add-p Inv-loop μ-loop
-add-p c = let f = skip-lead _ _ _ _ _ (c .before .before .before .loop .inv) (c .before .before .loop-test .taken) _ (c .type-bytes .ensures) in omega arith
+add-p c = let f = skip-lead _ _ _ _ _ (c .before .before .before .loop .inv) (c .before .before .loop-test .taken) _
+    (c .type-bytes .ensures) in omega arith
 
 sub-left : tie.Need-sub-left Inv-loop μ-loop
 sub-left c = omega arith
@@ -30,13 +31,23 @@ type-parts-requires : tie.Need-type-parts-requires Inv-loop μ-loop
 type-parts-requires c κs = tt
 
 add-left : tie.Need-add-left Inv-loop μ-loop
-add-left c = let f = skip-further _ _ _ _ _ (c .before .before .before .before .loop .inv) (c .before .before .before .loop-test .taken) _ _ (c .before .type-bytes .ensures) (c .type-parts .ensures) in omega arith
+add-left c =
+    let c₁ = c .before .before .before in
+    let c₂ = c₁ .before in
+    let f = skip-further _ _ _ _ _ (c₂ .loop .inv) (c₁ .loop-test .taken) _ _ (c .before .type-bytes .ensures)
+        (c .type-parts .ensures) in omega arith
 
 loop-less : tie.Need-loop-less Inv-loop μ-loop
-loop-less c = let f = skip-lead _ _ _ _ _ (c .before .before .before .before .loop .inv) (c .before .before .before .loop-test .taken) _ (c .before .type-bytes .ensures) in omega arith
+loop-less c =
+    let c₁ = c .before .before .before in
+    let c₂ = c₁ .before in
+    let f = skip-lead _ _ _ _ _ (c₂ .loop .inv) (c₁ .loop-test .taken) _ (c .before .type-bytes .ensures) in omega arith
 
 loop-again : tie.Need-loop-again Inv-loop μ-loop
-loop-again c = skip-goes _ _ _ _ _ (c .before .before .before .before .loop .inv) (c .before .before .before .loop-test .taken) _ _ (c .before .type-bytes .ensures) (c .type-parts .ensures)
+loop-again c =
+    let c₁ = c .before .before .before in
+    let c₂ = c₁ .before in
+    skip-goes _ _ _ _ _ (c₂ .loop .inv) (c₁ .loop-test .taken) _ _ (c .before .type-bytes .ensures) (c .type-parts .ensures)
 
 returns : tie.Need-returns Inv-loop μ-loop
 returns c = skip-done _ _ _ _ _ (c .before .loop .inv) (c .loop-test .left)

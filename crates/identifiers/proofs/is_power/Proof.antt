@@ -35,7 +35,12 @@ number-requires : tie.Need-number-requires
 number-requires c κs = (omega arith, omega arith)
 
 returns-4 : tie.Need-returns-4
-returns-4 c = power-is _ _ _ (c .before .before .before .before .before .before .before .pre .2) (λ i. c .before .before .before .before .before .before .shared-slice-known .given i .fits) _ (omega arith) (c .before .before .before .if2 .left) (c .before .if3 .left) (ap (λ (a : ℕ). eqb a (c .before .before .before .before .before .before .before .args .n)) (c .number .ensures))
+returns-4 c =
+    let c₁ = c .before .before .before in
+    let c₂ = c₁ .before .before .before in
+    let c₃ = c₂ .before in
+    power-is _ _ _ (c₃ .pre .2) (λ i. c₂ .shared-slice-known .given i .fits) _ (omega arith) (c₁ .if2 .left) (c .before .if3 .left)
+        (ap (λ (a : ℕ). eqb a (c₃ .args .n)) (c .number .ensures))
 
 pub is-power-spec : {M : Type 1} → statement M
 is-power-spec =

@@ -31,10 +31,16 @@ sub-is-power : tie.Need-sub-is-power
 sub-is-power c = search needs
 
 is-power-requires : tie.Need-is-power-requires
-is-power-requires c κs = (entry-place _ _ _ (c .before .before .before .before .before .before .pre .2) (c .before .before .if1 .left) (c .before .if2 .left) _ (c .wide16 .ensures .0) .0, c .before .before .before .before .before .before .pre .2 .fits, c .before .before .before .before .before .before .pre .0)
+is-power-requires c κs =
+    let c₁ = c .before .before .before .before .before .before in
+    (entry-place _ _ _ (c₁ .pre .2) (c .before .before .if1 .left) (c .before .if2 .left) _
+          (c .wide16 .ensures .0) .0, c₁ .pre .2 .fits, c₁ .pre .0)
 
 returns-3 : tie.Need-returns-3
-returns-3 c = given-place _ _ _ (c .before .before .before .before .before .before .before .pre .2) (c .before .before .before .if1 .left) (c .before .before .if2 .left) _ (c .before .wide16 .ensures .0) _ (c .is-power .ensures)
+returns-3 c =
+    let c₁ = c .before .before .before in
+    let c₂ = c₁ .before .before .before .before in
+    given-place _ _ _ (c₂ .pre .2) (c₁ .if1 .left) (c .before .before .if2 .left) _ (c .before .wide16 .ensures .0) _ (c .is-power .ensures)
 
 pub note-given-spec : {M : Type 1} → statement M
 note-given-spec =

@@ -26,10 +26,14 @@ same-length : tie.Need-same-length
 same-length c = search needs
 
 returns : tie.Need-returns
-returns c = let l = type-room _ _ _ (c .before .before .before .before .pre .2 .fits) (c .before .before .before .before .pre .3) in name-new _ _ _ _ _ (c .before .before .before .before .pre .1) (l .2) (c .if1 .taken)
+returns c =
+    let c₁ = c .before .before .before .before in
+    let l = type-room _ _ _ (c₁ .pre .2 .fits) (c₁ .pre .3) in name-new _ _ _ _ _ (c₁ .pre .1) (l .2) (c .if1 .taken)
 
 is-power-requires : tie.Need-is-power-requires
-is-power-requires c κs = let l = type-room _ _ _ (c .before .before .before .before .before .pre .2 .fits) (c .before .before .before .before .before .pre .3) in (omega arith, c .before .before .before .before .before .pre .2 .fits, c .before .before .before .before .before .pre .0)
+is-power-requires c κs =
+    let c₁ = c .before .before .before .before .before in
+    let l = type-room _ _ _ (c₁ .pre .2 .fits) (c₁ .pre .3) in (omega arith, c₁ .pre .2 .fits, c₁ .pre .0)
 
 returns-2 : tie.Need-returns-2
 returns-2 c = name-mark _ _ _ _ _ (c .before .before .before .before .before .before .pre .0) (c .before .if2 .taken) _ (c .is-power .ensures)
@@ -41,10 +45,18 @@ sub-same-type : tie.Need-sub-same-type
 sub-same-type c = search needs
 
 same-type-requires : tie.Need-same-type-requires
-same-type-requires c κs = let l = type-room _ _ _ (c .before .before .before .before .before .before .pre .2 .fits) (c .before .before .before .before .before .before .pre .3) in (l .0, l .1, entry-place _ _ _ (c .before .before .before .before .before .before .pre .2) (c .before .before .if1 .left) (c .before .if2 .left) _ (c .wide16 .ensures .0) .0, c .before .before .before .before .before .before .pre .2 .fits)
+same-type-requires c κs =
+    let c₁ = c .before .before .before .before .before .before in
+    let l = type-room _ _ _ (c₁ .pre .2 .fits) (c₁ .pre .3) in
+        (l .0, l .1, entry-place _ _ _ (c₁ .pre .2) (c .before .before .if1 .left) (c .before .if2 .left) _
+          (c .wide16 .ensures .0) .0, c₁ .pre .2 .fits)
 
 returns-3 : tie.Need-returns-3
-returns-3 c = name-place _ _ _ _ _ (c .before .before .before .before .before .before .before .pre .2) (c .before .before .before .if1 .left) (c .before .before .if2 .left) _ (c .before .wide16 .ensures .0) _ (c .same-type .ensures)
+returns-3 c =
+    let c₁ = c .before .before .before in
+    let c₂ = c₁ .before .before .before .before in
+    name-place _ _ _ _ _ (c₂ .pre .2) (c₁ .if1 .left) (c .before .before .if2 .left) _
+        (c .before .wide16 .ensures .0) _ (c .same-type .ensures)
 
 pub note-identifier-spec : {M : Type 1} → statement M
 note-identifier-spec =

@@ -22,10 +22,18 @@ enum-known-a : tie.Need-enum-known-a Inv-loop μ-loop
 enum-known-a c = search needs
 
 loop-less : tie.Need-loop-less Inv-loop μ-loop
-loop-less c = omega (arith, over-further _ _ _ _ (c .before .before .before .before .before .before .before .before .loop .inv) (c .before .before .before .before .before .before .before .loop-test .taken) _ _ (c .before .before .before .before .before .note-node .ensures) _ (c .before .a .given .1))
+loop-less c =
+    let c₁ = c .before .before .before .before .before in
+    let c₂ = c₁ .before .before in
+    let c₃ = c₂ .before in
+    omega (arith, over-further _ _ _ _ (c₃ .loop .inv) (c₂ .loop-test .taken) _ _ (c₁ .note-node .ensures) _ (c .before .a .given .1))
 
 loop-again : tie.Need-loop-again Inv-loop μ-loop
-loop-again c = over-next _ _ _ _ (c .before .before .before .before .before .before .before .before .loop .inv) (c .before .before .before .before .before .before .before .loop-test .taken) _ _ (c .before .before .before .before .before .note-node .ensures) _ (c .before .a .given .1)
+loop-again c =
+    let c₁ = c .before .before .before .before .before in
+    let c₂ = c₁ .before .before in
+    let c₃ = c₂ .before in
+    over-next _ _ _ _ (c₃ .loop .inv) (c₂ .loop-test .taken) _ _ (c₁ .note-node .ensures) _ (c .before .a .given .1)
 
 enum-told : tie.Need-enum-told Inv-loop μ-loop
 enum-told c = search needs
@@ -34,7 +42,11 @@ same-length : tie.Need-same-length Inv-loop μ-loop
 same-length c = omega (arith, c .before .before .before .before .before .before .before .loop .inv .size)
 
 returns : tie.Need-returns Inv-loop μ-loop
-returns c = over-clash _ _ _ _ (c .before .before .before .before .before .before .before .loop .inv) (c .before .before .before .before .before .before .loop-test .taken) _ _ (c .before .before .before .before .note-node .ensures) (c .enum-told .given .1)
+returns c =
+    let c₁ = c .before .before .before .before in
+    let c₂ = c₁ .before .before in
+    let c₃ = c₂ .before in
+    over-clash _ _ _ _ (c₃ .loop .inv) (c₂ .loop-test .taken) _ _ (c₁ .note-node .ensures) (c .enum-told .given .1)
 
 enum-told-2 : tie.Need-enum-told-2 Inv-loop μ-loop
 enum-told-2 c = search needs
@@ -43,7 +55,11 @@ same-length-2 : tie.Need-same-length-2 Inv-loop μ-loop
 same-length-2 c = omega (arith, c .before .before .before .before .before .before .before .loop .inv .size)
 
 returns-2 : tie.Need-returns-2 Inv-loop μ-loop
-returns-2 c = over-beyond _ _ _ _ (c .before .before .before .before .before .before .before .loop .inv) (c .before .before .before .before .before .before .loop-test .taken) _ _ (c .before .before .before .before .note-node .ensures) (c .enum-told2 .given .1)
+returns-2 c =
+    let c₁ = c .before .before .before .before in
+    let c₂ = c₁ .before .before in
+    let c₃ = c₂ .before in
+    over-beyond _ _ _ _ (c₃ .loop .inv) (c₂ .loop-test .taken) _ _ (c₁ .note-node .ensures) (c .enum-told2 .given .1)
 
 same-length-3 : tie.Need-same-length-3 Inv-loop μ-loop
 same-length-3 c = c .before .loop .inv .size

@@ -18,7 +18,8 @@ same-bytes-requires : tie.Need-same-bytes-requires
 same-bytes-requires c κs = search needs
 
 returns-2 : tie.Need-returns-2
-returns-2 c = type-bytes _ _ _ _ (c .before .before .before .pre .0) (omega arith) _ (parts _ _ _ _ (omega arith) (omega arith) _ (c .same-bytes .ensures))
+returns-2 c = type-bytes _ _ _ _ (c .before .before .before .pre .0) (omega arith) _
+    (parts _ _ _ _ (omega arith) (omega arith) _ (c .same-bytes .ensures))
 
 pub same-type-spec : {M : Type 1} → statement M
 same-type-spec = tie.close (tie.spec sub-n add-if1 returns same-bytes-requires returns-2)

@@ -20,10 +20,16 @@ fixed-requires-2 : tie.Need-fixed-requires-2
 fixed-requires-2 c κs = search needs
 
 returns-2 : tie.Need-returns-2
-returns-2 c = out-74 _ _ _ _ _ _ (c .before .before .before .before .negates .ensures) (c .before .before .before .if1 .left) _ (c .before .before .negates2 .ensures) (c .before .if2 .taken) _ (c .fixed2 .ensures)
+returns-2 c =
+    let c₁ = c .before .before .before in
+    let c₂ = c₁ .before in
+    out-74 _ _ _ _ _ _ (c₂ .negates .ensures) (c₁ .if1 .left) _ (c .before .before .negates2 .ensures)
+        (c .before .if2 .taken) _ (c .fixed2 .ensures)
 
 returns-3 : tie.Need-returns-3
-returns-3 c = last-none _ _ _ _ _ _ (c .before .before .before .negates .ensures) (c .before .before .if1 .left) _ (c .before .negates2 .ensures) (c .if2 .left)
+returns-3 c =
+    let c₁ = c .before .before .before in
+    last-none _ _ _ _ _ _ (c₁ .negates .ensures) (c .before .before .if1 .left) _ (c .before .negates2 .ensures) (c .if2 .left)
 
 pub implication-last-at-spec : {M : Type 1} → statement M
 implication-last-at-spec =

@@ -17,16 +17,30 @@ first-single-requires : tie.Need-first-single-requires
 first-single-requires c κs = search needs
 
 returns : tie.Need-returns
-returns c = inter-apart _ _ _ _ _ _ (c .before .before .before .before .arity-at .ensures) (c .before .before .before .count-singles .ensures) (sym (c .before .before .is-apart .ensures) ∙ c .before .if1 .taken) _ (c .first-single .ensures)
+returns c =
+    let c₁ = c .before .before .before in
+    let c₂ = c₁ .before in
+    inter-apart _ _ _ _ _ _ (c₂ .arity-at .ensures) (c₁ .count-singles .ensures)
+        (sym (c .before .before .is-apart .ensures) ∙ c .before .if1 .taken) _ (c .first-single .ensures)
 
 any-minus-requires : tie.Need-any-minus-requires
 any-minus-requires c κs = search needs
 
 returns-2 : tie.Need-returns-2
-returns-2 c = inter-within _ _ _ _ _ _ (c .before .before .before .before .before .arity-at .ensures) (c .before .before .before .before .count-singles .ensures) (sym (c .before .before .before .is-apart .ensures) ∙ c .before .before .if1 .left) _ (c .before .any-minus .ensures) (c .if2 .taken)
+returns-2 c =
+    let c₁ = c .before .before .before in
+    let c₂ = c₁ .before in
+    let c₃ = c₂ .before in
+    inter-within _ _ _ _ _ _ (c₃ .arity-at .ensures) (c₂ .count-singles .ensures)
+        (sym (c₁ .is-apart .ensures) ∙ c .before .before .if1 .left) _ (c .before .any-minus .ensures) (c .if2 .taken)
 
 returns-3 : tie.Need-returns-3
-returns-3 c = inter-rests _ _ _ _ _ _ (c .before .before .before .before .before .arity-at .ensures) (c .before .before .before .before .count-singles .ensures) (sym (c .before .before .before .is-apart .ensures) ∙ c .before .before .if1 .left) _ (c .before .any-minus .ensures) (c .if2 .left)
+returns-3 c =
+    let c₁ = c .before .before .before in
+    let c₂ = c₁ .before in
+    let c₃ = c₂ .before in
+    inter-rests _ _ _ _ _ _ (c₃ .arity-at .ensures) (c₂ .count-singles .ensures)
+        (sym (c₁ .is-apart .ensures) ∙ c .before .before .if1 .left) _ (c .before .any-minus .ensures) (c .if2 .left)
 
 pub decide-inter-spec : {M : Type 1} → statement M
 decide-inter-spec =

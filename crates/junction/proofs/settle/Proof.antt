@@ -26,13 +26,17 @@ returns-2 : tie.Need-returns-2
 returns-2 c = c .patterned3 .ensures ∙ settled-one _ _ (c .before .before .before .before .x .given .1) _ _ _ _ _ (c .before .if2 .taken)
 
 returns-3 : tie.Need-returns-3
-returns-3 c = settled-all _ _ (c .before .before .before .before .x .given .1) _ _ _ _ _ (c .before .before .if1 .left) (c .before .if2 .left) (c .if3 .taken)
+returns-3 c =
+    let c₁ = c .before .before .before .before in
+    settled-all _ _ (c₁ .x .given .1) _ _ _ _ _ (c .before .before .if1 .left) (c .before .if2 .left) (c .if3 .taken)
 
 returns-4 : tie.Need-returns-4
 returns-4 c = c .patterned .ensures ∙ settled-decided _ (c .before .enum-told .given .1) _ _ _ _ _
 
 returns-5 : tie.Need-returns-5
-returns-5 c = settled-fewer _ _ (c .before .before .before .before .x .given .1) _ _ _ _ _ (c .before .before .if1 .left) (c .before .if2 .left) (c .if3 .left)
+returns-5 c =
+    let c₁ = c .before .before .before .before in
+    settled-fewer _ _ (c₁ .x .given .1) _ _ _ _ _ (c .before .before .if1 .left) (c .before .if2 .left) (c .if3 .left)
 
 pub settle-spec : {M : Type 1} → statement M
 settle-spec =

@@ -23,7 +23,13 @@ settle-requires : tie.Need-settle-requires
 settle-requires c κs = search needs
 
 returns : tie.Need-returns
-returns c = conj-done _ _ _ _ _ (c .before .before .before .before .before .before .before .arity-at .ensures) _ (c .before .before .before .before .before .before .tag-at .ensures) _ _ _ (c .before .wide16 .ensures .0) _ (c .before .before .before .before .before .if1 .taken) (c .before .before .before .absorb .ensures) (c .settle .ensures)
+returns c =
+    let c₁ = c .before .before .before in
+    let c₂ = c₁ .before .before in
+    let c₃ = c₂ .before in
+    let c₄ = c₃ .before in
+    conj-done _ _ _ _ _ (c₄ .arity-at .ensures) _ (c₃ .tag-at .ensures) _ _ _ (c .before .wide16 .ensures .0) _ (c₂ .if1 .taken)
+        (c₁ .absorb .ensures) (c .settle .ensures)
 
 absorb-requires-2 : tie.Need-absorb-requires-2
 absorb-requires-2 c κs = search needs
@@ -38,7 +44,13 @@ settle-requires-2 : tie.Need-settle-requires-2
 settle-requires-2 c κs = search needs
 
 returns-2 : tie.Need-returns-2
-returns-2 c = disj-done _ _ _ _ _ (c .before .before .before .before .before .before .before .arity-at .ensures) _ (c .before .before .before .before .before .before .tag-at .ensures) _ _ _ (c .before .wide162 .ensures .0) _ (c .before .before .before .before .before .if1 .left) (c .before .before .before .absorb2 .ensures) (c .settle2 .ensures)
+returns-2 c =
+    let c₁ = c .before .before .before in
+    let c₂ = c₁ .before .before in
+    let c₃ = c₂ .before in
+    let c₄ = c₃ .before in
+    disj-done _ _ _ _ _ (c₄ .arity-at .ensures) _ (c₃ .tag-at .ensures) _ _ _ (c .before .wide162 .ensures .0) _ (c₂ .if1 .left)
+        (c₁ .absorb2 .ensures) (c .settle2 .ensures)
 
 pub simplify-assoc-pred-spec : {M : Type 1} → statement M
 simplify-assoc-pred-spec =

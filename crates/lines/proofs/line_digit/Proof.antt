@@ -11,13 +11,23 @@ digit-of-requires : tie.Need-digit-of-requires
 digit-of-requires c κs = search needs
 
 returns : tie.Need-returns
-returns c = digit-after-bad (c .before .before .before .args .state) _ _ _ _ (c .before .before .count-next .ensures) (c .before .digit-of .ensures .0) (c .if1 .taken)
+returns c =
+    let c₁ = c .before .before .before in
+    digit-after-bad (c₁ .args .state) _ _ _ _ (c .before .before .count-next .ensures) (c .before .digit-of .ensures .0) (c .if1 .taken)
 
 returns-2 : tie.Need-returns-2
-returns-2 c = digit-bad (c .before .before .before .before .args .state) _ _ _ _ (c .before .before .before .count-next .ensures) (c .before .before .digit-of .ensures .0) (c .if2 .taken)
+returns-2 c =
+    let c₁ = c .before .before .before in
+    let c₂ = c₁ .before in
+    digit-bad (c₂ .args .state) _ _ _ _ (c₁ .count-next .ensures) (c .before .before .digit-of .ensures .0) (c .if2 .taken)
 
 returns-3 : tie.Need-returns-3
-returns-3 c = digit-even (c .before .before .before .before .before .args .state) _ _ _ _ (c .before .before .before .before .count-next .ensures) (c .before .before .before .digit-of .ensures .0) (c .before .before .if1 .left) (c .before .if2 .left) (c .if3 .taken)
+returns-3 c =
+    let c₁ = c .before .before .before in
+    let c₂ = c₁ .before in
+    let c₃ = c₂ .before in
+    digit-even (c₃ .args .state) _ _ _ _ (c₂ .count-next .ensures) (c₁ .digit-of .ensures .0) (c .before .before .if1 .left)
+        (c .before .if2 .left) (c .if3 .taken)
 
 mul-buf : tie.Need-mul-buf
 mul-buf c = search needs
@@ -29,10 +39,22 @@ element-write-buf : tie.Need-element-write-buf
 element-write-buf c = search needs
 
 returns-4 : tie.Need-returns-4
-returns-4 c = digit-odd (c .before .before .before .before .before .before .args .state) _ _ _ _ (c .before .before .before .before .before .count-next .ensures) (c .before .before .before .before .digit-of .ensures .0) (c .before .before .before .if1 .left) (c .before .before .if2 .left) (c .before .if3 .left) (c .if4 .taken)
+returns-4 c =
+    let c₁ = c .before .before .before in
+    let c₂ = c₁ .before in
+    let c₃ = c₂ .before in
+    let c₄ = c₃ .before in
+    digit-odd (c₄ .args .state) _ _ _ _ (c₃ .count-next .ensures) (c₂ .digit-of .ensures .0) (c₁ .if1 .left) (c .before .before .if2 .left)
+        (c .before .if3 .left) (c .if4 .taken)
 
 returns-5 : tie.Need-returns-5
-returns-5 c = digit-past (c .before .before .before .before .before .before .args .state) _ _ _ _ (c .before .before .before .before .before .count-next .ensures) (c .before .before .before .before .digit-of .ensures .0) (c .before .before .before .if1 .left) (c .before .before .if2 .left) (c .before .if3 .left) (c .if4 .left)
+returns-5 c =
+    let c₁ = c .before .before .before in
+    let c₂ = c₁ .before in
+    let c₃ = c₂ .before in
+    let c₄ = c₃ .before in
+    digit-past (c₄ .args .state) _ _ _ _ (c₃ .count-next .ensures) (c₂ .digit-of .ensures .0) (c₁ .if1 .left) (c .before .before .if2 .left)
+        (c .before .if3 .left) (c .if4 .left)
 
 pub line-digit-spec : {M : Type 1} → statement M
 line-digit-spec =

@@ -30,7 +30,12 @@ loop-less : tie.Need-loop-less Inv-loop μ-loop
 loop-less c = omega arith
 
 loop-again : tie.Need-loop-again Inv-loop μ-loop
-loop-again c = (omega arith, goes-more (c .before .before .before .before .before .before .args .state) (c .before .before .before .before .loop .line) _ (now (c .before .before .before .before .before .before .args .buf)) (c .before .before .before .before .loop .buf) _ (now (c .before .before .before .before .before .before .args .piece)) (c .before .before .before .before .loop .i) (c .before .before .before .loop-test .taken) (c .before .before .before .before .loop .inv .1) (c .line-digit .ensures))
+loop-again c =
+    let c₁ = c .before .before .before in
+    let c₂ = c₁ .before in
+    let c₃ = c₂ .before .before in
+    (omega arith, goes-more (c₃ .args .state) (c₂ .loop .line) _ (now (c₃ .args .buf)) (c₂ .loop .buf) _ (now (c₃ .args .piece))
+          (c₂ .loop .i) (c₁ .loop-test .taken) (c₂ .loop .inv .1) (c .line-digit .ensures))
 
 returns : tie.Need-returns Inv-loop μ-loop
 returns c = goes-all _ _ _ _ (now (c .before .before .before .args .piece)) (c .before .loop .i) (omega arith) (c .before .loop .inv .1)

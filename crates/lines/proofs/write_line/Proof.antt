@@ -34,7 +34,11 @@ mul-out : tie.Need-mul-out Inv-loop μ-loop
 mul-out c = omega arith
 
 slice-write-out : tie.Need-slice-write-out Inv-loop μ-loop
-slice-write-out c = omega (arith, ap (λ (l : List ℕ). length l) (c .before .before .before .loop .inv .2) ∙ length-sets (now (c .before .before .before .before .before .before .before .args .out)) 0 (writeLine (take (c .before .before .before .loop .i) (now (c .before .before .before .before .before .before .before .args .frame)))))
+slice-write-out c =
+    let c₁ = c .before .before .before in
+    let c₂ = c₁ .before .before .before .before in
+    omega (arith, ap (λ (l : List ℕ). length l) (c₁ .loop .inv .2) ∙ length-sets (now (c₂ .args .out)) 0
+          (writeLine (take (c₁ .loop .i) (now (c₂ .args .frame)))))
 
 digit-for-requires-2 : tie.Need-digit-for-requires-2 Inv-loop μ-loop
 digit-for-requires-2 c κs = omega arith
@@ -46,7 +50,12 @@ add-out : tie.Need-add-out Inv-loop μ-loop
 add-out c = omega arith
 
 slice-write-out-2 : tie.Need-slice-write-out-2 Inv-loop μ-loop
-slice-write-out-2 c = omega (arith, ap (λ (l : List ℕ). length l) (c .before .before .before .before .loop .inv .2) ∙ length-sets (now (c .before .before .before .before .before .before .before .before .args .out)) 0 (writeLine (take (c .before .before .before .before .loop .i) (now (c .before .before .before .before .before .before .before .before .args .frame)))), length-set (c .before .before .before .before .loop .out) (2 * c .before .before .before .before .loop .i) (c .before .digit-for .result))
+slice-write-out-2 c =
+    let c₁ = c .before .before .before .before in
+    let c₂ = c₁ .before .before .before .before in
+    omega (arith, ap (λ (l : List ℕ). length l) (c₁ .loop .inv .2) ∙ length-sets (now (c₂ .args .out)) 0
+          (writeLine (take (c₁ .loop .i) (now (c₂ .args .frame)))), length-set (c₁ .loop .out) (2 * c₁ .loop .i)
+          (c .before .digit-for .result))
 
 add-i : tie.Need-add-i Inv-loop μ-loop
 add-i c = omega arith
@@ -55,13 +64,22 @@ loop-less : tie.Need-loop-less Inv-loop μ-loop
 loop-less c = omega arith
 
 loop-again : tie.Need-loop-again Inv-loop μ-loop
-loop-again c = (omega arith, c .before .before .before .before .loop .inv .1, ap (λ (l : List ℕ). set (set l (2 * c .before .before .before .before .loop .i) (c .before .digit-for .result)) (2 * c .before .before .before .before .loop .i + 1) (c .digit-for2 .result)) (c .before .before .before .before .loop .inv .2) ∙ write-more (now (c .before .before .before .before .before .before .before .before .args .frame)) (now (c .before .before .before .before .before .before .before .before .args .out)) (c .before .before .before .before .loop .i) (c .before .before .before .loop-test .taken) _ _ (c .before .digit-for .ensures) (c .digit-for2 .ensures))
+loop-again c =
+    let c₁ = c .before .before .before in
+    let c₂ = c₁ .before in
+    let c₃ = c₂ .before .before .before .before in
+    (omega arith, c₂ .loop .inv .1, ap (λ (l : List ℕ). set (set l (2 * c₂ .loop .i) (c .before .digit-for .result)) (2 * c₂ .loop .i + 1)
+            (c .digit-for2 .result)) (c₂ .loop .inv .2) ∙ write-more (now (c₃ .args .frame)) (now (c₃ .args .out)) (c₂ .loop .i)
+          (c₁ .loop-test .taken) _ _ (c .before .digit-for .ensures) (c .digit-for2 .ensures))
 
 mul-result : tie.Need-mul-result Inv-loop μ-loop
 mul-result c = omega arith
 
 same-length : tie.Need-same-length Inv-loop μ-loop
-same-length c = ap (λ (l : List ℕ). length l) (c .before .loop .inv .2) ∙ length-sets (now (c .before .before .before .before .before .args .out)) 0 (writeLine (take (c .before .loop .i) (now (c .before .before .before .before .before .args .frame))))
+same-length c =
+    let c₁ = c .before .before .before .before .before in
+    ap (λ (l : List ℕ). length l) (c .before .loop .inv .2) ∙ length-sets (now (c₁ .args .out)) 0
+        (writeLine (take (c .before .loop .i) (now (c₁ .args .frame))))
 
 returns-2 : tie.Need-returns-2 Inv-loop μ-loop
 returns-2 c = write-all _ _ _ _ _ (c .before .loop .inv .1) (omega arith) refl (c .before .loop .inv .2)

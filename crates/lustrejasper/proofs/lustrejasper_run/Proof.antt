@@ -9,7 +9,9 @@ run-requires : tie.Need-run-requires
 run-requires c κs = search needs
 
 run-word-requires : tie.Need-run-word-requires
-run-word-requires c κs = run-short _ (λ i. c .before .before .before .before .before .shared-slice-known .given i .fits) _ _ _ (c .before .before .run .ensures .0)
+run-word-requires c κs =
+    let c₁ = c .before .before .before .before .before in
+    run-short _ (λ i. c₁ .shared-slice-known .given i .fits) _ _ _ (c .before .before .run .ensures .0)
 
 same-length : tie.Need-same-length
 same-length c = search needs

@@ -9,7 +9,9 @@ step-requires : tie.Need-step-requires
 step-requires c κs = search needs
 
 step-word-requires : tie.Need-step-word-requires
-step-word-requires c κs = step-short _ (λ i. c .before .before .before .before .before .shared-slice-known .given i .fits) _ _ _ (c .before .before .step .ensures .0)
+step-word-requires c κs =
+    let c₁ = c .before .before .before .before .before in
+    step-short _ (λ i. c₁ .shared-slice-known .given i .fits) _ _ _ (c .before .before .step .ensures .0)
 
 same-length : tie.Need-same-length
 same-length c = search needs

@@ -19,7 +19,9 @@ same-bytes-requires : tie.Need-same-bytes-requires
 same-bytes-requires c κs = early-room _ _ _ _ (c .before .if1 .left) (c .if2 .left) (c .before .before .before .pre)
 
 returns-3 : tie.Need-returns-3
-returns-3 c = early-bytes _ _ _ _ (c .before .before .if1 .left) (c .before .if2 .left) (c .before .before .before .before .pre) _ (c .same-bytes .ensures)
+returns-3 c =
+    let c₁ = c .before .before .before .before in
+    early-bytes _ _ _ _ (c .before .before .if1 .left) (c .before .if2 .left) (c₁ .pre) _ (c .same-bytes .ensures)
 
 pub differ-early-spec : {M : Type 1} → statement M
 differ-early-spec =

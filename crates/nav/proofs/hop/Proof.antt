@@ -31,7 +31,9 @@ loop-less : tie.Need-loop-less Inv-loop μ-loop
 loop-less c = omega arith
 
 loop-again : tie.Need-loop-again Inv-loop μ-loop
-loop-again c = let r = hop-more _ _ _ (c .before .before .before .loop .inv .0) (omega arith) in rw (c .wide16 .ensures .0) (r .0, r .1 ∙ c .before .before .before .loop .inv .1)
+loop-again c =
+    let c₁ = c .before .before .before in
+    let r = hop-more _ _ _ (c₁ .loop .inv .0) (omega arith) in rw (c .wide16 .ensures .0) (r .0, r .1 ∙ c₁ .loop .inv .1)
 
 returns : tie.Need-returns Inv-loop μ-loop
 returns c = sym (hop-none _ _ _ (omega arith)) ∙ c .before .loop .inv .1

@@ -26,28 +26,54 @@ wide16-requires : tie.Need-wide16-requires Inv-loop μ-loop
 wide16-requires c κs = search needs
 
 children-at-requires : tie.Need-children-at-requires Inv-loop μ-loop
-children-at-requires c κs = rw (c .wide16 .ensures .0) (fill-root _ _ _ _ (omega arith) _ (c .before .before .before .loop .inv) _ (c .before .before .before .before .before .pre .framed) .1)
+children-at-requires c κs =
+    let c₁ = c .before .before .before in
+    let c₂ = c₁ .before .before in
+    rw (c .wide16 .ensures .0) (fill-root _ _ _ _ (omega arith) _ (c₁ .loop .inv) _ (c₂ .pre .framed) .1)
 
 add-hop : tie.Need-add-hop Inv-loop μ-loop
-add-hop c = let z = fill-root _ _ _ _ (omega arith) _ (c .before .before .before .before .before .loop .inv) _ (c .before .before .before .before .before .before .before .pre .framed) in omega arith
+add-hop c =
+    let c₁ = c .before .before .before .before .before in
+    let c₂ = c₁ .before .before in
+    let z = fill-root _ _ _ _ (omega arith) _ (c₁ .loop .inv) _ (c₂ .pre .framed) in omega arith
 
 hop-requires : tie.Need-hop-requires Inv-loop μ-loop
-hop-requires c κs = fill-hops _ _ _ _ (omega arith) _ (c .before .before .before .before .before .loop .inv) _ (rw (c .before .before .wide16 .ensures .0) at (c .before .children-at .ensures)) _ (c .before .before .before .before .before .before .before .pre .framed) .0
+hop-requires c κs =
+    let c₁ = c .before .before .before .before .before in
+    let c₂ = c₁ .before .before in
+    fill-hops _ _ _ _ (omega arith) _ (c₁ .loop .inv) _ (rw (c .before .before .wide16 .ensures .0) at
+          (c .before .children-at .ensures)) _ (c₂ .pre .framed) .0
 
 cast-table : tie.Need-cast-table Inv-loop μ-loop
-cast-table c = let z = fill-hops _ _ _ _ (omega arith) _ (c .before .before .before .before .before .before .loop .inv) _ (rw (c .before .before .before .wide16 .ensures .0) at (c .before .before .children-at .ensures)) _ (c .before .before .before .before .before .before .before .before .pre .framed) in omega (arith, c .hop .ensures)
+cast-table c =
+    let c₁ = c .before .before .before in
+    let c₂ = c₁ .before .before .before in
+    let c₃ = c₂ .before .before in
+    let z = fill-hops _ _ _ _ (omega arith) _ (c₂ .loop .inv) _ (rw (c₁ .wide16 .ensures .0) at (c .before .before .children-at .ensures)) _
+        (c₃ .pre .framed) in omega (arith, c .hop .ensures)
 
 mul-table : tie.Need-mul-table Inv-loop μ-loop
-mul-table c = let z = fill-root _ _ _ _ (omega arith) _ (c .before .before .before .before .before .before .loop .inv) _ (c .before .before .before .before .before .before .before .before .pre .framed) in omega arith
+mul-table c =
+    let c₁ = c .before .before .before .before .before .before in
+    let c₂ = c₁ .before .before in
+    let z = fill-root _ _ _ _ (omega arith) _ (c₁ .loop .inv) _ (c₂ .pre .framed) in omega arith
 
 element-write-table : tie.Need-element-write-table Inv-loop μ-loop
-element-write-table c = let z = fill-root _ _ _ _ (omega arith) _ (c .before .before .before .before .before .before .loop .inv) _ (c .before .before .before .before .before .before .before .before .pre .framed) in omega arith
+element-write-table c =
+    let c₁ = c .before .before .before .before .before .before in
+    let c₂ = c₁ .before .before in
+    let z = fill-root _ _ _ _ (omega arith) _ (c₁ .loop .inv) _ (c₂ .pre .framed) in omega arith
 
 loop-less : tie.Need-loop-less Inv-loop μ-loop
 loop-less c = omega arith
 
 loop-again : tie.Need-loop-again Inv-loop μ-loop
-loop-again c = fill-turn _ _ _ _ (omega arith) _ (c .before .before .before .before .before .before .loop .inv) _ (rw (c .before .before .before .wide16 .ensures .0) at (c .before .before .children-at .ensures)) (fill-root _ _ _ _ (omega arith) _ (c .before .before .before .before .before .before .loop .inv) _ (c .before .before .before .before .before .before .before .before .pre .framed) .0) _ (c .hop .ensures)
+loop-again c =
+    let c₁ = c .before .before .before in
+    let c₂ = c₁ .before .before .before in
+    let c₃ = c₂ .before .before in
+    fill-turn _ _ _ _ (omega arith) _ (c₂ .loop .inv) _ (rw (c₁ .wide16 .ensures .0) at (c .before .before .children-at .ensures))
+        (fill-root _ _ _ _ (omega arith) _ (c₂ .loop .inv) _ (c₃ .pre .framed) .0) _ (c .hop .ensures)
 
 returns : tie.Need-returns Inv-loop μ-loop
 returns c = fill-done _ _ _ _ _ (c .before .loop .inv) (omega arith)

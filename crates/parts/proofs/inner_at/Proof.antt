@@ -27,7 +27,8 @@ returns-4 : tie.Need-returns-4
 returns-4 c = inner-elements _ _ _ _ (c .before .before .element-at .ensures) (c .before .match .keys4) _ (c .element-at2 .ensures)
 
 returns-5 : tie.Need-returns-5
-returns-5 c = inner-rest _ _ _ _ (c .before .before .element-at .ensures) (c .before .match .rest .0 .0 .0 .1) (c .before .match .rest .0 .0 .1) (c .before .match .rest .0 .1) (c .before .match .rest .1) _ (c .first-at .ensures)
+returns-5 c = inner-rest _ _ _ _ (c .before .before .element-at .ensures) (c .before .match .rest .0 .0 .0 .1)
+    (c .before .match .rest .0 .0 .1) (c .before .match .rest .0 .1) (c .before .match .rest .1) _ (c .first-at .ensures)
 
 pub inner-at-spec : {M : Type 1} → statement M
 inner-at-spec =

@@ -41,7 +41,9 @@ put-decimal-same-length : (t : ℕ) → put-decimal-lts.Need-same-length (calls-
 put-decimal-same-length t c = search needs
 
 put-decimal-returns : (t : ℕ) → put-decimal-lts.Need-returns (calls-put-decimal t) (put-decimal-at t) put-decimal.Post
-put-decimal-returns t c = appends-as _ _ _ _ _ _ (sym (decimal-one _ (c .before .before .before .before .if1 .taken))) (c .before .before .put-byte .ensures)
+put-decimal-returns t c =
+    let c₁ = c .before .before .before .before in
+    appends-as _ _ _ _ _ _ (sym (decimal-one _ (c₁ .if1 .taken))) (c .before .before .put-byte .ensures)
 
 put-decimal-put-decimal-requires : (t : ℕ) → put-decimal-lts.Need-put-decimal-requires (calls-put-decimal t) (put-decimal-at t) put-decimal.Post
 put-decimal-put-decimal-requires t c κs = (omega arith, omega (arith, decimal-length (c .before .before .before .args .n) (c .before .if1 .left)))
@@ -53,13 +55,21 @@ put-decimal-add-put-byte-2 : (t : ℕ) → put-decimal-lts.Need-add-put-byte-2 (
 put-decimal-add-put-byte-2 t c = omega arith
 
 put-decimal-put-byte-requires-2 : (t : ℕ) → put-decimal-lts.Need-put-byte-requires-2 (calls-put-decimal t) (put-decimal-at t) put-decimal.Post
-put-decimal-put-byte-requires-2 t c κs = omega (arith, decimal-length (c .before .before .before .before .before .before .before .args .n) (c .before .before .before .before .before .if1 .left), c .before .before .before .put-decimal .ensures .after)
+put-decimal-put-byte-requires-2 t c κs =
+    let c₁ = c .before .before .before in
+    let c₂ = c₁ .before .before in
+    let c₃ = c₂ .before .before in
+    omega (arith, decimal-length (c₃ .args .n) (c₂ .if1 .left), c₁ .put-decimal .ensures .after)
 
 put-decimal-same-length-2 : (t : ℕ) → put-decimal-lts.Need-same-length-2 (calls-put-decimal t) (put-decimal-at t) put-decimal.Post
 put-decimal-same-length-2 t c = search needs
 
 put-decimal-returns-2 : (t : ℕ) → put-decimal-lts.Need-returns-2 (calls-put-decimal t) (put-decimal-at t) put-decimal.Post
-put-decimal-returns-2 t c = appends-as _ _ _ _ _ _ (sym (decimal-more _ (c .before .before .before .before .before .before .before .before .if1 .left))) (appends-then _ _ _ _ _ _ _ _ (c .before .before .before .before .before .before .put-decimal .ensures) (c .before .before .put-byte2 .ensures))
+put-decimal-returns-2 t c =
+    let c₁ = c .before .before .before .before .before .before in
+    let c₂ = c₁ .before .before in
+    appends-as _ _ _ _ _ _ (sym (decimal-more _ (c₂ .if1 .left)))
+        (appends-then _ _ _ _ _ _ _ _ (c₁ .put-decimal .ensures) (c .before .before .put-byte2 .ensures))
 
 pub +put-decimal-spec : {M : Type 1} → statement M
 +put-decimal-spec = close μ-put-decimal λ t. put-decimal-lts.spec (calls-put-decimal t)

@@ -18,7 +18,9 @@ write-line-requires : tie.Need-write-line-requires
 write-line-requires c κs = search needs
 
 add-result : tie.Need-add-result
-add-result c = let w = frame-written (now (c .before .before .before .before .before .before .args .out)) _ _ _ _ (c .before .before .before .before .before .before .pre) (c .before .before .write-line .ensures) .after in omega arith
+add-result c =
+    let c₁ = c .before .before .before .before .before .before in
+    let w = frame-written (now (c₁ .args .out)) _ _ _ _ (c₁ .pre) (c .before .before .write-line .ensures) .after in omega arith
 
 same-length : tie.Need-same-length
 same-length c = search needs

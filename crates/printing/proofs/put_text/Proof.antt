@@ -25,7 +25,10 @@ add-out : tie.Need-add-out Inv-loop μ-loop
 add-out c = omega arith
 
 slice-write-out : tie.Need-slice-write-out Inv-loop μ-loop
-slice-write-out c = omega (arith, ap (λ (l : List ℕ). length l) (c .before .before .loop .inv .1) ∙ length-sets (now (c .before .before .before .args .out)) (c .before .before .before .args .at) (take (c .before .before .loop .i) (now (c .before .before .before .args .text))))
+slice-write-out c =
+    let c₁ = c .before .before .before in
+    omega (arith, ap (λ (l : List ℕ). length l) (c .before .before .loop .inv .1) ∙ length-sets (now (c₁ .args .out)) (c₁ .args .at)
+          (take (c .before .before .loop .i) (now (c₁ .args .text))))
 
 add-i : tie.Need-add-i Inv-loop μ-loop
 add-i c = omega arith
@@ -40,7 +43,8 @@ add-result : tie.Need-add-result Inv-loop μ-loop
 add-result c = omega arith
 
 same-length : tie.Need-same-length Inv-loop μ-loop
-same-length c = ap (λ (l : List ℕ). length l) (c .before .loop .inv .1) ∙ length-sets (now (c .before .before .args .out)) (c .before .before .args .at) (take (c .before .loop .i) (now (c .before .before .args .text)))
+same-length c = ap (λ (l : List ℕ). length l) (c .before .loop .inv .1) ∙ length-sets (now (c .before .before .args .out))
+    (c .before .before .args .at) (take (c .before .loop .i) (now (c .before .before .args .text)))
 
 returns : tie.Need-returns Inv-loop μ-loop
 returns c = text-all _ _ _ _ _ (omega arith) (c .before .loop .inv .1)

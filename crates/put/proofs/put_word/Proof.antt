@@ -16,7 +16,10 @@ put-byte-requires-2 : tie.Need-put-byte-requires-2
 put-byte-requires-2 c κs = search needs
 
 returns : tie.Need-returns
-returns c = puts-as _ _ _ _ _ _ (word-bytes (c .before .before .before .before .args .w)) (puts-then _ _ _ _ _ _ _ _ (c .before .before .put-byte .ensures) (c .put-byte2 .ensures))
+returns c =
+    let c₁ = c .before .before .before .before in
+    puts-as _ _ _ _ _ _ (word-bytes (c₁ .args .w)) (puts-then _ _ _ _ _ _ _ _
+          (c .before .before .put-byte .ensures) (c .put-byte2 .ensures))
 
 pub put-word-spec : {M : Type 1} → statement M
 put-word-spec =

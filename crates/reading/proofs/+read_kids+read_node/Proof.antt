@@ -58,16 +58,33 @@ read-kids-sub-read-kids : (t : ℕ) → read-kids-lts.Need-sub-read-kids (calls-
 read-kids-sub-read-kids t c = omega arith
 
 read-kids-read-kids-requires : (t : ℕ) → read-kids-lts.Need-read-kids-requires (calls-read-kids t) (read-kids-at t) read-kids.Post
-read-kids-read-kids-requires t c κs = let r = kids-room _ (c .before .before .before .before .before .before .before .before .args .n) (c .before .before .before .before .before .before .before .before .args .first) (c .before .before .before .before .before .before .before .before .args .later) _ _ _ _ (c .before .before .before .before .before .before .before .before .pre .1) (c .before .before .before .before .before .before .if1 .left) _ (c .before .before .before .before .read-node .ensures) (λ i. c .before .before .before .before .before .before .before .shared-slice-known .given i .fits) _ _ (c .before .before .a .given .1) in (omega (arith, r .1), r .0)
+read-kids-read-kids-requires t c κs =
+    let c₁ = c .before .before .before .before in
+    let c₂ = c₁ .before .before in
+    let c₃ = c₂ .before in
+    let c₄ = c₃ .before in
+    let r = kids-room _ (c₄ .args .n) (c₄ .args .first) (c₄ .args .later) _ _ _ _ (c₄ .pre .1) (c₂ .if1 .left) _ (c₁ .read-node .ensures)
+        (λ i. c₃ .shared-slice-known .given i .fits) _ _ (c .before .before .a .given .1) in (omega (arith, r .1), r .0)
 
 read-kids-enum-known-a-2 : (t : ℕ) → read-kids-lts.Need-enum-known-a-2 (calls-read-kids t) (read-kids-at t) read-kids.Post
 read-kids-enum-known-a-2 t c = search needs
 
 read-kids-returns-2 : (t : ℕ) → read-kids-lts.Need-returns-2 (calls-read-kids t) (read-kids-at t) read-kids.Post
-read-kids-returns-2 t c = kids-more _ _ _ _ _ _ _ _ (c .before .before .before .before .before .before .before .before .before .pre .1) (c .before .before .before .before .before .before .before .if1 .left) _ (c .before .before .before .before .before .read-node .ensures) (λ i. c .before .before .before .before .before .before .before .before .shared-slice-known .given i .fits) _ _ (c .before .before .before .a .given .1) _ _ (c .read-kids .ensures)
+read-kids-returns-2 t c =
+    let c₁ = c .before .before .before in
+    let c₂ = c₁ .before .before in
+    let c₃ = c₂ .before .before in
+    let c₄ = c₃ .before in
+    let c₅ = c₄ .before in
+    kids-more _ _ _ _ _ _ _ _ (c₅ .pre .1) (c₃ .if1 .left) _ (c₂ .read-node .ensures) (λ i. c₄ .shared-slice-known .given i .fits) _ _
+        (c₁ .a .given .1) _ _ (c .read-kids .ensures)
 
 read-kids-returns-3 : (t : ℕ) → read-kids-lts.Need-returns-3 (calls-read-kids t) (read-kids-at t) read-kids.Post
-read-kids-returns-3 t c = kids-refused _ _ _ _ _ _ _ _ (c .before .before .before .before .before .before .before .pre .1) (c .before .before .before .before .before .if1 .left) _ (c .before .before .before .read-node .ensures) _ (c .before .a2 .given .1)
+read-kids-returns-3 t c =
+    let c₁ = c .before .before .before in
+    let c₂ = c₁ .before .before in
+    let c₃ = c₂ .before .before in
+    kids-refused _ _ _ _ _ _ _ _ (c₃ .pre .1) (c₂ .if1 .left) _ (c₁ .read-node .ensures) _ (c .before .a2 .given .1)
 
 read-node-read-head-requires : (t : ℕ) → read-node-lts.Need-read-head-requires (calls-read-node t) (read-node-at t) read-node.Post
 read-node-read-head-requires t c κs = omega arith
@@ -85,19 +102,39 @@ read-node-mul-starts : (t : ℕ) → read-node-lts.Need-mul-starts (calls-read-n
 read-node-mul-starts t c = omega arith
 
 read-node-element-write-starts : (t : ℕ) → read-node-lts.Need-element-write-starts (calls-read-node t) (read-node-at t) read-node.Post
-read-node-element-write-starts t c = let r = node-room _ _ _ _ (now (c .before .before .before .before .before .args .starts)) (now (c .before .before .before .before .before .args .starts)) (c .before .before .before .before .before .pre .1) _ (c .before .before .before .read-head .ensures) (λ i. c .before .before .before .before .shared-slice-known .given i .fits) _ _ _ _ _ _ _ (c .before .h2 .given .1) in omega (arith, r .1, r .0 .within)
+read-node-element-write-starts t c =
+    let c₁ = c .before .before .before in
+    let c₂ = c₁ .before in
+    let c₃ = c₂ .before in
+    let r = node-room _ _ _ _ (now (c₃ .args .starts)) (now (c₃ .args .starts)) (c₃ .pre .1) _ (c₁ .read-head .ensures)
+        (λ i. c₂ .shared-slice-known .given i .fits) _ _ _ _ _ _ _ (c .before .h2 .given .1) in omega (arith, r .1, r .0 .within)
 
 read-node-add-read-kids : (t : ℕ) → read-node-lts.Need-add-read-kids (calls-read-node t) (read-node-at t) read-node.Post
 read-node-add-read-kids t c = omega arith
 
 read-node-read-kids-requires : (t : ℕ) → read-node-lts.Need-read-kids-requires (calls-read-node t) (read-node-at t) read-node.Post
-read-node-read-kids-requires t c κs = let r = node-room _ _ _ _ (now (c .before .before .before .before .before .before .args .starts)) (now (c .before .before .before .before .before .before .args .starts)) (c .before .before .before .before .before .before .pre .1) _ (c .before .before .before .before .read-head .ensures) (λ i. c .before .before .before .before .before .shared-slice-known .given i .fits) _ _ _ _ _ _ _ (c .before .before .h2 .given .1) in (omega (arith, r .1, r .0 .within), r .0)
+read-node-read-kids-requires t c κs =
+    let c₁ = c .before .before .before .before in
+    let c₂ = c₁ .before in
+    let c₃ = c₂ .before in
+    let r = node-room _ _ _ _ (now (c₃ .args .starts)) (now (c₃ .args .starts)) (c₃ .pre .1) _ (c₁ .read-head .ensures)
+        (λ i. c₂ .shared-slice-known .given i .fits) _ _ _ _ _ _ _ (c .before .before .h2 .given .1) in
+        (omega (arith, r .1, r .0 .within), r .0)
 
 read-node-returns : (t : ℕ) → read-node-lts.Need-returns (calls-read-node t) (read-node-at t) read-node.Post
-read-node-returns t c = node-refused _ _ _ _ _ _ (c .before .before .before .before .before .pre .1) _ (c .before .before .before .read-head .ensures) _ (c .before .h .given .1)
+read-node-returns t c =
+    let c₁ = c .before .before .before in
+    let c₂ = c₁ .before .before in
+    node-refused _ _ _ _ _ _ (c₂ .pre .1) _ (c₁ .read-head .ensures) _ (c .before .h .given .1)
 
 read-node-returns-2 : (t : ℕ) → read-node-lts.Need-returns-2 (calls-read-node t) (read-node-at t) read-node.Post
-read-node-returns-2 t c = node-kids _ _ _ _ _ _ (c .before .before .before .before .before .before .before .pre .1) _ (c .before .before .before .before .before .read-head .ensures) (λ i. c .before .before .before .before .before .before .shared-slice-known .given i .fits) _ _ _ _ _ _ _ (c .before .before .before .h2 .given .1) _ (c .read-kids .ensures)
+read-node-returns-2 t c =
+    let c₁ = c .before .before .before in
+    let c₂ = c₁ .before .before in
+    let c₃ = c₂ .before in
+    let c₄ = c₃ .before in
+    node-kids _ _ _ _ _ _ (c₄ .pre .1) _ (c₂ .read-head .ensures) (λ i. c₃ .shared-slice-known .given i .fits) _ _ _ _ _ _ _
+        (c₁ .h2 .given .1) _ (c .read-kids .ensures)
 
 pub +read-kids+read-node-spec : {M : Type 1} → statement M
 +read-kids+read-node-spec = close μ-read-kids μ-read-node (λ t. read-kids-lts.spec (calls-read-kids t)

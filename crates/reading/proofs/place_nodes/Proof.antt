@@ -24,16 +24,23 @@ element-write-starts : tie.Need-element-write-starts Inv-loop μ-loop
 element-write-starts c = let w = c .before .loop .inv .left .room in omega (arith, w .within, w .short, w .room, c .loop-test .taken)
 
 head-end-requires : tie.Need-head-end-requires Inv-loop μ-loop
-head-end-requires c κs = placing-stands _ (λ i. c .before .before .shared-slice-known .given i .fits) _ _ _ _ _ _ (c .before .loop .inv) (c .loop-test .taken)
+head-end-requires c κs = placing-stands _ (λ i. c .before .before .shared-slice-known .given i .fits) _ _ _ _ _ _
+    (c .before .loop .inv) (c .loop-test .taken)
 
 add-j : tie.Need-add-j Inv-loop μ-loop
 add-j c = let w = c .before .before .loop .inv .left .room in omega (arith, w .within, w .short, w .room)
 
 loop-less : tie.Need-loop-less Inv-loop μ-loop
-loop-less c = let g = placing-goes _ (λ i. c .before .before .before .shared-slice-known .given i .fits) _ _ _ _ _ _ (c .before .before .loop .inv) (c .before .loop-test .taken) _ (c .head-end .ensures) in omega (arith, g .0, g .1)
+loop-less c =
+    let c₁ = c .before .before .before in
+    let g = placing-goes _ (λ i. c₁ .shared-slice-known .given i .fits) _ _ _ _ _ _ (c .before .before .loop .inv)
+        (c .before .loop-test .taken) _ (c .head-end .ensures) in omega (arith, g .0, g .1)
 
 loop-again : tie.Need-loop-again Inv-loop μ-loop
-loop-again c = placing-goes _ (λ i. c .before .before .before .shared-slice-known .given i .fits) _ _ _ _ _ _ (c .before .before .loop .inv) (c .before .loop-test .taken) _ (c .head-end .ensures) .2
+loop-again c =
+    let c₁ = c .before .before .before in
+    placing-goes _ (λ i. c₁ .shared-slice-known .given i .fits) _ _ _ _ _ _ (c .before .before .loop .inv) (c .before .loop-test .taken) _
+        (c .head-end .ensures) .2
 
 returns : tie.Need-returns Inv-loop μ-loop
 returns c = placing-done _ (λ i. c .before .before .shared-slice-known .given i .fits) _ _ _ _ _ _ (c .before .loop .inv) (c .loop-test .left)

@@ -26,7 +26,13 @@ refused-requires-3 : tie.Need-refused-requires-3
 refused-requires-3 c κs = search needs
 
 returns-3 : tie.Need-returns-3
-returns-3 c = read-more _ (c .before .before .before .before .before .before .before .before .if1 .left) (c .before .before .before .before .before .before .before .if2 .left) _ _ (c .before .before .before .before .before .read-node .ensures) _ _ (c .before .before .before .a .given .1) (c .before .if3 .taken) _ _ (c .refused3 .ensures)
+returns-3 c =
+    let c₁ = c .before .before .before in
+    let c₂ = c₁ .before .before in
+    let c₃ = c₂ .before .before in
+    let c₄ = c₃ .before in
+    read-more _ (c₄ .if1 .left) (c₃ .if2 .left) _ _ (c₂ .read-node .ensures) _ _ (c₁ .a .given .1)
+        (c .before .if3 .taken) _ _ (c .refused3 .ensures)
 
 enum-known-a-2 : tie.Need-enum-known-a-2
 enum-known-a-2 c = search needs
@@ -35,10 +41,21 @@ refused-requires-4 : tie.Need-refused-requires-4
 refused-requires-4 c κs = search needs
 
 returns-4 : tie.Need-returns-4
-returns-4 c = read-whole _ (c .before .before .before .before .before .before .before .if1 .left) (c .before .before .before .before .before .before .if2 .left) _ _ (c .before .before .before .before .read-node .ensures) _ _ (c .before .before .a .given .1) (λ i. c .before .before .before .before .before .before .before .before .shared-slice-known .given i .fits) (c .if3 .left)
+returns-4 c =
+    let c₁ = c .before .before .before .before in
+    let c₂ = c₁ .before .before in
+    let c₃ = c₂ .before in
+    let c₄ = c₃ .before in
+    read-whole _ (c₃ .if1 .left) (c₂ .if2 .left) _ _ (c₁ .read-node .ensures) _ _ (c .before .before .a .given .1)
+        (λ i. c₄ .shared-slice-known .given i .fits) (c .if3 .left)
 
 returns-5 : tie.Need-returns-5
-returns-5 c = read-refused _ (c .before .before .before .before .before .before .before .if1 .left) (c .before .before .before .before .before .before .if2 .left) _ _ (c .before .before .before .before .read-node .ensures) _ (c .before .before .a2 .given .1) _ _ (c .refused4 .ensures)
+returns-5 c =
+    let c₁ = c .before .before .before .before in
+    let c₂ = c₁ .before .before in
+    let c₃ = c₂ .before in
+    read-refused _ (c₃ .if1 .left) (c₂ .if2 .left) _ _ (c₁ .read-node .ensures) _
+        (c .before .before .a2 .given .1) _ _ (c .refused4 .ensures)
 
 pub read-spec : {M : Type 1} → statement M
 read-spec =

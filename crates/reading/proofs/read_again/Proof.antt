@@ -5,10 +5,13 @@ use Rattle.reading.proofs.read_again.Statement.{statement}
 use Rattle.reading.proofs.read_again.Tie as tie
 
 place-nodes-requires : tie.Need-place-nodes-requires
-place-nodes-requires c κs = again-pre _ (λ i. c .before .shared-slice-known .given i .fits) (c .before .before .pre .0) (c .before .before .pre .1) _ (length-replicate {A = ℕ} 2048 0)
+place-nodes-requires c κs = again-pre _ (λ i. c .before .shared-slice-known .given i .fits) (c .before .before .pre .0)
+    (c .before .before .pre .1) _ (length-replicate {A = ℕ} 2048 0)
 
 returns : tie.Need-returns
-returns c = again _ (λ i. c .before .before .shared-slice-known .given i .fits) (c .before .before .before .pre .0) (c .before .before .before .pre .1) _ _ (c .place-nodes .ensures)
+returns c =
+    let c₁ = c .before .before .before in
+    again _ (λ i. c .before .before .shared-slice-known .given i .fits) (c₁ .pre .0) (c₁ .pre .1) _ _ (c .place-nodes .ensures)
 
 pub read-again-spec : {M : Type 1} → statement M
 read-again-spec = tie.close (tie.spec place-nodes-requires returns)

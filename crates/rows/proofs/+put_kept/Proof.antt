@@ -39,16 +39,30 @@ put-kept-wide16-requires : (t : ℕ) → put-kept-lts.Need-wide16-requires (call
 put-kept-wide16-requires t c κs = tt
 
 put-kept-copy-at-requires : (t : ℕ) → put-kept-lts.Need-copy-at-requires (calls-put-kept t) (put-kept-at t) put-kept.Post
-put-kept-copy-at-requires t c κs = kept-place _ _ _ _ _ (c .before .before .before .before .before .pre .1 .long) _ _ (c .before .before .before .if1 .left) (c .before .before .before .before .before .pre .1) _ (c .before .wide16 .ensures .0)
+put-kept-copy-at-requires t c κs =
+    let c₁ = c .before .before .before in
+    let c₂ = c₁ .before .before in
+    kept-place _ _ _ _ _ (c₂ .pre .1 .long) _ _ (c₁ .if1 .left) (c₂ .pre .1) _ (c .before .wide16 .ensures .0)
 
 put-kept-add-put-kept : (t : ℕ) → put-kept-lts.Need-add-put-kept (calls-put-kept t) (put-kept-at t) put-kept.Post
-put-kept-add-put-kept t c = let z = c .before .before .before .before .before .before .pre .1 .few in let y = c .before .before .before .before .if1 .left in omega arith
+put-kept-add-put-kept t c =
+    let c₁ = c .before .before .before .before in
+    let c₂ = c₁ .before .before in
+    let z = c₂ .pre .1 .few in let y = c₁ .if1 .left in omega arith
 
 put-kept-put-kept-requires : (t : ℕ) → put-kept-lts.Need-put-kept-requires (calls-put-kept t) (put-kept-at t) put-kept.Post
-put-kept-put-kept-requires t c κs = (let z = c .before .before .before .before .before .if1 .left in let y = c .before .before .before .before .before .before .before .pre .0 in omega arith, kept-rest _ _ _ _ _ (c .before .before .before .before .before .before .before .pre .1 .long) _ _ (c .before .before .before .before .before .if1 .left) (c .before .before .before .before .before .before .before .pre .1))
+put-kept-put-kept-requires t c κs =
+    let c₁ = c .before .before .before .before .before in
+    let c₂ = c₁ .before .before in
+    (let z = c₁ .if1 .left in let y = c₂ .pre .0 in omega arith, kept-rest _ _ _ _ _ (c₂ .pre .1 .long) _ _ (c₁ .if1 .left) (c₂ .pre .1))
 
 put-kept-returns-2 : (t : ℕ) → put-kept-lts.Need-returns-2 (calls-put-kept t) (put-kept-at t) put-kept.Post
-put-kept-returns-2 t c = kept-more _ _ _ _ _ (c .before .before .before .before .before .before .before .before .pre .1 .long) _ _ (c .before .before .before .before .before .before .if1 .left) (c .before .before .before .before .before .before .before .before .pre .1 .few) _ (c .before .before .before .before .wide16 .ensures .0) _ _ _ _ (c .before .before .copy-at .ensures) _ _ (c .put-kept .ensures)
+put-kept-returns-2 t c =
+    let c₁ = c .before .before .before .before in
+    let c₂ = c₁ .before .before in
+    let c₃ = c₂ .before .before in
+    kept-more _ _ _ _ _ (c₃ .pre .1 .long) _ _ (c₂ .if1 .left) (c₃ .pre .1 .few) _ (c₁ .wide16 .ensures .0) _ _ _ _
+        (c .before .before .copy-at .ensures) _ _ (c .put-kept .ensures)
 
 pub +put-kept-spec : {M : Type 1} → statement M
 +put-kept-spec = close μ-put-kept λ t. put-kept-lts.spec (calls-put-kept t)

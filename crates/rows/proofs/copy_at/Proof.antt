@@ -11,10 +11,13 @@ end-at-requires : tie.Need-end-at-requires
 end-at-requires c κs = search needs
 
 put-copy-requires : tie.Need-put-copy-requires
-put-copy-requires c κs = copy-range _ _ _ _ _ _ (c .before .before .start-at .ensures .0) _ (c .before .end-at .ensures) (c .before .before .before .before .pre)
+put-copy-requires c κs =
+    let c₁ = c .before .before .before .before in
+    copy-range _ _ _ _ _ _ (c .before .before .start-at .ensures .0) _ (c .before .end-at .ensures) (c₁ .pre)
 
 returns : tie.Need-returns
-returns c = copy-done _ _ _ _ _ _ (c .before .before .before .start-at .ensures .0) _ (c .before .before .end-at .ensures) _ _ _ _ (c .put-copy .ensures)
+returns c = copy-done _ _ _ _ _ _ (c .before .before .before .start-at .ensures .0) _
+    (c .before .before .end-at .ensures) _ _ _ _ (c .put-copy .ensures)
 
 pub copy-at-spec : {M : Type 1} → statement M
 copy-at-spec = tie.close (tie.spec start-at-requires end-at-requires put-copy-requires returns)

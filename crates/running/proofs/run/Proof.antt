@@ -13,10 +13,15 @@ enum-known-a-2 : tie.Need-enum-known-a-2
 enum-known-a-2 c = search needs
 
 returns : tie.Need-returns
-returns c = let z = run-short _ _ _ _ (c .before .before .before .before .check .ensures) _ (c .before .before .a2 .given .1) (c .if1 .taken) in (z .answer, z .output)
+returns c =
+    let c₁ = c .before .before .before .before in
+    let z = run-short _ _ _ _ (c₁ .check .ensures) _ (c .before .before .a2 .given .1) (c .if1 .taken) in (z .answer, z .output)
 
 run-checked-requires : tie.Need-run-checked-requires
-run-checked-requires c κs = run-pre _ 0 _ _ (c .before .before .before .before .before .check .ensures) _ (c .before .before .before .a2 .given .1) (c .before .if1 .left)
+run-checked-requires c κs =
+    let c₁ = c .before .before .before in
+    let c₂ = c₁ .before .before in
+    run-pre _ 0 _ _ (c₂ .check .ensures) _ (c₁ .a2 .given .1) (c .before .if1 .left)
 
 returns-2 : tie.Need-returns-2
 returns-2 c = let z = run-refused _ _ _ _ (c .before .before .before .check .ensures) _ (c .before .a .given .1) in (z .answer, z .output)

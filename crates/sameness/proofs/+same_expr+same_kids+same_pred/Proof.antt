@@ -71,19 +71,28 @@ same-expr-enum-known-h : (t : ℕ) → same-expr-lts.Need-enum-known-h (calls-sa
 same-expr-enum-known-h t c = search needs
 
 same-expr-same-kids-requires : (t : ℕ) → same-expr-lts.Need-same-kids-requires (calls-same-expr t) (same-expr-at t) same-expr.Post
-same-expr-same-kids-requires t c κs = let r = node-both _ _ _ _ _ (c .before .before .before .same-heads .ensures) _ _ _ _ _ (c .before .h .given .1) (c .before .before .before .before .before .pre .1) in (omega (arith, r .1, r .2), r .0)
+same-expr-same-kids-requires t c κs =
+    let c₁ = c .before .before .before in
+    let c₂ = c₁ .before .before in
+    let r = node-both _ _ _ _ _ (c₁ .same-heads .ensures) _ _ _ _ _ (c .before .h .given .1) (c₂ .pre .1) in
+        (omega (arith, r .1, r .2), r .0)
 
 same-expr-returns : (t : ℕ) → same-expr-lts.Need-returns (calls-same-expr t) (same-expr-at t) same-expr.Post
 same-expr-returns t c = node-differ _ _ _ _ _ (c .before .before .same-heads .ensures) (c .enum-told .given .1)
 
 same-expr-returns-2 : (t : ℕ) → same-expr-lts.Need-returns-2 (calls-same-expr t) (same-expr-at t) same-expr.Post
-same-expr-returns-2 t c = node-kids _ _ _ _ _ (c .before .before .before .before .same-heads .ensures) _ _ _ _ _ (c .before .before .h .given .1) _ (c .same-kids .ensures)
+same-expr-returns-2 t c =
+    let c₁ = c .before .before .before .before in
+    node-kids _ _ _ _ _ (c₁ .same-heads .ensures) _ _ _ _ _ (c .before .before .h .given .1) _ (c .same-kids .ensures)
 
 same-kids-returns : (t : ℕ) → same-kids-lts.Need-returns (calls-same-kids t) (same-kids-at t) same-kids.Post
 same-kids-returns t c = kids-none _ _ _ _ _ _ (c .if1 .taken)
 
 same-kids-same-expr-requires : (t : ℕ) → same-kids-lts.Need-same-expr-requires (calls-same-kids t) (same-kids-at t) same-kids.Post
-same-kids-same-expr-requires t c κs = let r = kids-first _ _ (c .before .before .before .args .first) (c .before .before .before .args .later) _ _ (c .before .if1 .left) (c .before .before .before .pre .1) in (omega (arith, r .1), at-sort (c .if2 .taken) (r .0))
+same-kids-same-expr-requires t c κs =
+    let c₁ = c .before .before .before in
+    let r = kids-first _ _ (c₁ .args .first) (c₁ .args .later) _ _ (c .before .if1 .left) (c₁ .pre .1) in
+        (omega (arith, r .1), at-sort (c .if2 .taken) (r .0))
 
 same-kids-enum-told : (t : ℕ) → same-kids-lts.Need-enum-told (calls-same-kids t) (same-kids-at t) same-kids.Post
 same-kids-enum-told t c = search needs
@@ -95,10 +104,19 @@ same-kids-sub-same-kids : (t : ℕ) → same-kids-lts.Need-sub-same-kids (calls-
 same-kids-sub-same-kids t c = omega arith
 
 same-kids-same-kids-requires : (t : ℕ) → same-kids-lts.Need-same-kids-requires (calls-same-kids t) (same-kids-at t) same-kids.Post
-same-kids-same-kids-requires t c κs = let r = kids-rest _ _ (c .before .before .before .before .before .before .before .args .first) (c .before .before .before .before .before .before .before .args .later) _ _ (c .before .before .before .before .before .if1 .left) _ (of-sort (c .before .before .before .before .if2 .taken) (c .before .before .before .same-expr .ensures)) _ _ (c .before .x .given .1) (c .before .before .before .before .before .before .before .pre .1) in (omega (arith, r .1, r .2), r .0)
+same-kids-same-kids-requires t c κs =
+    let c₁ = c .before .before .before in
+    let c₂ = c₁ .before in
+    let c₃ = c₂ .before in
+    let c₄ = c₃ .before .before in
+    let r = kids-rest _ _ (c₄ .args .first) (c₄ .args .later) _ _ (c₃ .if1 .left) _ (of-sort (c₂ .if2 .taken) (c₁ .same-expr .ensures)) _ _
+        (c .before .x .given .1) (c₄ .pre .1) in (omega (arith, r .1, r .2), r .0)
 
 same-kids-same-pred-requires : (t : ℕ) → same-kids-lts.Need-same-pred-requires (calls-same-kids t) (same-kids-at t) same-kids.Post
-same-kids-same-pred-requires t c κs = let r = kids-first _ _ (c .before .before .before .args .first) (c .before .before .before .args .later) _ _ (c .before .if1 .left) (c .before .before .before .pre .1) in (omega (arith, r .1), at-sort (c .if2 .left) (r .0))
+same-kids-same-pred-requires t c κs =
+    let c₁ = c .before .before .before in
+    let r = kids-first _ _ (c₁ .args .first) (c₁ .args .later) _ _ (c .before .if1 .left) (c₁ .pre .1) in
+        (omega (arith, r .1), at-sort (c .if2 .left) (r .0))
 
 same-kids-enum-told-2 : (t : ℕ) → same-kids-lts.Need-enum-told-2 (calls-same-kids t) (same-kids-at t) same-kids.Post
 same-kids-enum-told-2 t c = search needs
@@ -110,19 +128,47 @@ same-kids-sub-same-kids-2 : (t : ℕ) → same-kids-lts.Need-sub-same-kids-2 (ca
 same-kids-sub-same-kids-2 t c = omega arith
 
 same-kids-same-kids-requires-2 : (t : ℕ) → same-kids-lts.Need-same-kids-requires-2 (calls-same-kids t) (same-kids-at t) same-kids.Post
-same-kids-same-kids-requires-2 t c κs = let r = kids-rest _ _ (c .before .before .before .before .before .before .before .args .first) (c .before .before .before .before .before .before .before .args .later) _ _ (c .before .before .before .before .before .if1 .left) _ (of-sort (c .before .before .before .before .if2 .left) (c .before .before .before .same-pred .ensures)) _ _ (c .before .x2 .given .1) (c .before .before .before .before .before .before .before .pre .1) in (omega (arith, r .1, r .2), r .0)
+same-kids-same-kids-requires-2 t c κs =
+    let c₁ = c .before .before .before in
+    let c₂ = c₁ .before in
+    let c₃ = c₂ .before in
+    let c₄ = c₃ .before .before in
+    let r = kids-rest _ _ (c₄ .args .first) (c₄ .args .later) _ _ (c₃ .if1 .left) _ (of-sort (c₂ .if2 .left) (c₁ .same-pred .ensures)) _ _
+        (c .before .x2 .given .1) (c₄ .pre .1) in (omega (arith, r .1, r .2), r .0)
 
 same-kids-returns-2 : (t : ℕ) → same-kids-lts.Need-returns-2 (calls-same-kids t) (same-kids-at t) same-kids.Post
-same-kids-returns-2 t c = kids-no _ _ (c .before .before .before .before .before .before .args .first) (c .before .before .before .before .before .before .args .later) _ _ (c .before .before .before .before .if1 .left) _ (of-sort (c .before .before .before .if2 .taken) (c .before .before .same-expr .ensures)) (c .enum-told .given .1)
+same-kids-returns-2 t c =
+    let c₁ = c .before .before .before in
+    let c₂ = c₁ .before in
+    let c₃ = c₂ .before .before in
+    kids-no _ _ (c₃ .args .first) (c₃ .args .later) _ _ (c₂ .if1 .left) _
+        (of-sort (c₁ .if2 .taken) (c .before .before .same-expr .ensures)) (c .enum-told .given .1)
 
 same-kids-returns-3 : (t : ℕ) → same-kids-lts.Need-returns-3 (calls-same-kids t) (same-kids-at t) same-kids.Post
-same-kids-returns-3 t c = kids-yes _ _ (c .before .before .before .before .before .before .before .before .args .first) (c .before .before .before .before .before .before .before .before .args .later) _ _ (c .before .before .before .before .before .before .if1 .left) _ (of-sort (c .before .before .before .before .before .if2 .taken) (c .before .before .before .before .same-expr .ensures)) _ _ (c .before .before .x .given .1) _ (c .same-kids .ensures)
+same-kids-returns-3 t c =
+    let c₁ = c .before .before .before .before in
+    let c₂ = c₁ .before in
+    let c₃ = c₂ .before in
+    let c₄ = c₃ .before .before in
+    kids-yes _ _ (c₄ .args .first) (c₄ .args .later) _ _ (c₃ .if1 .left) _ (of-sort (c₂ .if2 .taken) (c₁ .same-expr .ensures)) _ _
+        (c .before .before .x .given .1) _ (c .same-kids .ensures)
 
 same-kids-returns-4 : (t : ℕ) → same-kids-lts.Need-returns-4 (calls-same-kids t) (same-kids-at t) same-kids.Post
-same-kids-returns-4 t c = kids-no _ _ (c .before .before .before .before .before .before .args .first) (c .before .before .before .before .before .before .args .later) _ _ (c .before .before .before .before .if1 .left) _ (of-sort (c .before .before .before .if2 .left) (c .before .before .same-pred .ensures)) (c .enum-told2 .given .1)
+same-kids-returns-4 t c =
+    let c₁ = c .before .before .before in
+    let c₂ = c₁ .before in
+    let c₃ = c₂ .before .before in
+    kids-no _ _ (c₃ .args .first) (c₃ .args .later) _ _ (c₂ .if1 .left) _ (of-sort (c₁ .if2 .left) (c .before .before .same-pred .ensures))
+        (c .enum-told2 .given .1)
 
 same-kids-returns-5 : (t : ℕ) → same-kids-lts.Need-returns-5 (calls-same-kids t) (same-kids-at t) same-kids.Post
-same-kids-returns-5 t c = kids-yes _ _ (c .before .before .before .before .before .before .before .before .args .first) (c .before .before .before .before .before .before .before .before .args .later) _ _ (c .before .before .before .before .before .before .if1 .left) _ (of-sort (c .before .before .before .before .before .if2 .left) (c .before .before .before .before .same-pred .ensures)) _ _ (c .before .before .x2 .given .1) _ (c .same-kids2 .ensures)
+same-kids-returns-5 t c =
+    let c₁ = c .before .before .before .before in
+    let c₂ = c₁ .before in
+    let c₃ = c₂ .before in
+    let c₄ = c₃ .before .before in
+    kids-yes _ _ (c₄ .args .first) (c₄ .args .later) _ _ (c₃ .if1 .left) _ (of-sort (c₂ .if2 .left) (c₁ .same-pred .ensures)) _ _
+        (c .before .before .x2 .given .1) _ (c .same-kids2 .ensures)
 
 same-pred-same-heads-requires : (t : ℕ) → same-pred-lts.Need-same-heads-requires (calls-same-pred t) (same-pred-at t) same-pred.Post
 same-pred-same-heads-requires t c κs = c .before .pre .1
@@ -134,13 +180,19 @@ same-pred-enum-known-h : (t : ℕ) → same-pred-lts.Need-enum-known-h (calls-sa
 same-pred-enum-known-h t c = search needs
 
 same-pred-same-kids-requires : (t : ℕ) → same-pred-lts.Need-same-kids-requires (calls-same-pred t) (same-pred-at t) same-pred.Post
-same-pred-same-kids-requires t c κs = let r = node-both _ _ _ _ _ (c .before .before .before .same-heads .ensures) _ _ _ _ _ (c .before .h .given .1) (c .before .before .before .before .before .pre .1) in (omega (arith, r .1, r .2), r .0)
+same-pred-same-kids-requires t c κs =
+    let c₁ = c .before .before .before in
+    let c₂ = c₁ .before .before in
+    let r = node-both _ _ _ _ _ (c₁ .same-heads .ensures) _ _ _ _ _ (c .before .h .given .1) (c₂ .pre .1) in
+        (omega (arith, r .1, r .2), r .0)
 
 same-pred-returns : (t : ℕ) → same-pred-lts.Need-returns (calls-same-pred t) (same-pred-at t) same-pred.Post
 same-pred-returns t c = node-differ _ _ _ _ _ (c .before .before .same-heads .ensures) (c .enum-told .given .1)
 
 same-pred-returns-2 : (t : ℕ) → same-pred-lts.Need-returns-2 (calls-same-pred t) (same-pred-at t) same-pred.Post
-same-pred-returns-2 t c = node-kids _ _ _ _ _ (c .before .before .before .before .same-heads .ensures) _ _ _ _ _ (c .before .before .h .given .1) _ (c .same-kids .ensures)
+same-pred-returns-2 t c =
+    let c₁ = c .before .before .before .before in
+    node-kids _ _ _ _ _ (c₁ .same-heads .ensures) _ _ _ _ _ (c .before .before .h .given .1) _ (c .same-kids .ensures)
 
 pub +same-expr+same-kids+same-pred-spec : {M : Type 1} → statement M
 +same-expr+same-kids+same-pred-spec =

@@ -9,16 +9,28 @@ end-at-requires : tie.Need-end-at-requires
 end-at-requires c κs = splice-in _ _ _ _ _ _ _ _ _ (c .before .before .pre)
 
 put-copy-requires : tie.Need-put-copy-requires
-put-copy-requires c κs = splice-range _ _ _ _ _ _ _ _ _ (c .before .before .before .before .pre) _ (c .before .before .start-at .ensures .0) _ (c .before .end-at .ensures)
+put-copy-requires c κs =
+    let c₁ = c .before .before .before .before in
+    splice-range _ _ _ _ _ _ _ _ _ (c₁ .pre) _ (c .before .before .start-at .ensures .0) _ (c .before .end-at .ensures)
 
 build-requires : tie.Need-build-requires
 build-requires c κs = splice-build _ _ _ _ _ _ _ _ _ (c .before .before .before .before .before .before .pre)
 
 put-copy-requires-2 : tie.Need-put-copy-requires-2
-put-copy-requires-2 c κs = splice-rest _ _ _ _ _ _ _ _ _ (c .before .before .before .before .before .before .before .before .pre) _ (c .before .before .before .before .before .before .start-at .ensures .0) _ (c .before .before .before .before .before .end-at .ensures)
+put-copy-requires-2 c κs =
+    let c₁ = c .before .before .before .before .before in
+    let c₂ = c₁ .before in
+    let c₃ = c₂ .before .before in
+    splice-rest _ _ _ _ _ _ _ _ _ (c₃ .pre) _ (c₂ .start-at .ensures .0) _ (c₁ .end-at .ensures)
 
 returns : tie.Need-returns
-returns c = splice-done _ _ _ _ _ _ _ _ _ (c .before .before .before .before .before .before .before .before .before .pre) _ (c .before .before .before .before .before .before .before .start-at .ensures .0) _ (c .before .before .before .before .before .before .end-at .ensures) _ _ (c .before .before .before .before .put-copy .ensures) _ _ (c .before .before .build .ensures) _ _ (c .put-copy2 .ensures)
+returns c =
+    let c₁ = c .before .before .before .before in
+    let c₂ = c₁ .before .before in
+    let c₃ = c₂ .before in
+    let c₄ = c₃ .before .before in
+    splice-done _ _ _ _ _ _ _ _ _ (c₄ .pre) _ (c₃ .start-at .ensures .0) _ (c₂ .end-at .ensures) _ _ (c₁ .put-copy .ensures) _ _
+        (c .before .before .build .ensures) _ _ (c .put-copy2 .ensures)
 
 pub splice-spec : {M : Type 1} → statement M
 splice-spec =

@@ -14,7 +14,12 @@ enum-known-a-2 : tie.Need-enum-known-a-2
 enum-known-a-2 c = search needs
 
 step-held-requires : tie.Need-step-held-requires
-step-held-requires c κs = read-held _ (λ i. c .before .before .before .before .before .before .before .before .shared-slice-known .given i .fits) _ _ (c .before .before .before .before .before .before .before .before .before .pre) _ _ (c .before .before .before .before .before .check-tree .ensures) _ (c .before .before .before .a2 .given .1)
+step-held-requires c κs =
+    let c₁ = c .before .before .before in
+    let c₂ = c₁ .before .before in
+    let c₃ = c₂ .before .before .before in
+    let c₄ = c₃ .before in
+    read-held _ (λ i. c₃ .shared-slice-known .given i .fits) _ _ (c₄ .pre) _ _ (c₂ .check-tree .ensures) _ (c₁ .a2 .given .1)
 
 returns : tie.Need-returns
 returns c = read-refused _ _ _ _ _ (c .before .before .before .check-tree .ensures) _ (c .before .a .given .1)

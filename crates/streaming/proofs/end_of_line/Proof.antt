@@ -29,7 +29,9 @@ loop-less : tie.Need-loop-less Inv-loop μ-loop
 loop-less c = omega arith
 
 loop-again : tie.Need-loop-again Inv-loop μ-loop
-loop-again c = (omega arith, omega arith, end-more _ _ _ (c .before .before .before .loop .inv .0) (c .before .before .loop-test .taken) (c .if1 .left) (c .before .before .before .loop .inv .2))
+loop-again c =
+    let c₁ = c .before .before .before in
+    (omega arith, omega arith, end-more _ _ _ (c₁ .loop .inv .0) (c .before .before .loop-test .taken) (c .if1 .left) (c₁ .loop .inv .2))
 
 returns-2 : tie.Need-returns-2 Inv-loop μ-loop
 returns-2 c = record { from = omega arith; within = omega arith; none = c .before .loop .inv .2; ends = λ l. absurd (omega arith) }

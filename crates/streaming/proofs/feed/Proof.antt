@@ -10,7 +10,8 @@ use Rattle.streaming.proofs.feed.Statement.{statement}
 use Rattle.streaming.proofs.feed.Tie as tie
 
 abbrev Inv-loop : tie.InvT-loop
-Inv-loop piece buf₀ out₀ line₀ at₀ n₀ buf out line at n = Fed (take at piece) line₀ buf₀ out₀ line buf out n × (at ≤ length piece) × (n ≤ length out) × (length out ≡ length out₀) × (n ≤ longest * at)
+Inv-loop piece buf₀ out₀ line₀ at₀ n₀ buf out line at n = Fed (take at piece) line₀ buf₀ out₀ line buf out n × (at ≤ length piece)
+    × (n ≤ length out) × (length out ≡ length out₀) × (n ≤ longest * at)
 
 abbrev μ-loop : tie.MeasureT-loop
 μ-loop piece buf₀ out₀ line₀ at₀ n₀ buf out line at n = length piece - at
@@ -25,7 +26,8 @@ same-length : tie.Need-same-length Inv-loop μ-loop
 same-length c = c .before .before .loop .inv .3
 
 returns : tie.Need-returns Inv-loop μ-loop
-returns c = record { fed = c .before .before .loop .inv .0; some = λ r l. omega (arith, r); within = c .before .before .loop .inv .1; room = c .before .before .loop .inv .2 }
+returns c = record { fed = c .before .before .loop .inv .0; some = λ r l. omega (arith, r); within = c .before .before .loop .inv .1;
+      room = c .before .before .loop .inv .2 }
 
 end-of-line-requires : tie.Need-end-of-line-requires Inv-loop μ-loop
 end-of-line-requires c κs = omega arith
@@ -46,7 +48,11 @@ same-length-2 : tie.Need-same-length-2 Inv-loop μ-loop
 same-length-2 c = c .before .before .before .before .before .before .before .loop .inv .3
 
 returns-2 : tie.Need-returns-2 Inv-loop μ-loop
-returns-2 c = record { fed = fed-part _ _ _ _ _ _ (c .before .before .before .before .end-of-line .ensures) _ _ _ _ (c .before .before .before .before .before .before .before .loop .inv .0) _ _ (c .before .line-piece .ensures); some = λ r l. omega arith; within = c .before .before .before .before .end-of-line .ensures .within; room = c .before .before .before .before .before .before .before .loop .inv .2 }
+returns-2 c =
+    let c₁ = c .before .before .before .before in
+    let c₂ = c₁ .before .before .before in
+    record { fed = fed-part _ _ _ _ _ _ (c₁ .end-of-line .ensures) _ _ _ _ (c₂ .loop .inv .0) _ _
+          (c .before .line-piece .ensures); some = λ r l. omega arith; within = c₁ .end-of-line .ensures .within; room = c₂ .loop .inv .2 }
 
 put-line-requires : tie.Need-put-line-requires Inv-loop μ-loop
 put-line-requires c κs = omega arith
@@ -61,7 +67,16 @@ loop-less : tie.Need-loop-less Inv-loop μ-loop
 loop-less c = omega (arith, c .before .before .before .before .before .before .before .before .before .before .end-of-line .ensures .from)
 
 loop-again : tie.Need-loop-again Inv-loop μ-loop
-loop-again c = (fed-end _ _ _ _ _ _ (c .before .before .before .before .before .before .before .before .before .before .end-of-line .ensures) (c .before .before .before .before .before .before .if2 .left) _ _ _ _ (fed-part _ _ _ _ _ _ (c .before .before .before .before .before .before .before .before .before .before .end-of-line .ensures) _ _ _ _ (c .before .before .before .before .before .before .before .before .before .before .before .before .before .loop .inv .0) _ _ (c .before .before .before .before .before .before .before .line-piece .ensures)) _ _ (c .before .before .before .put-line .ensures) _ (c .line-start .ensures), omega arith, omega (arith, c .before .before .before .put-line .ensures .room), omega arith, omega (arith, c .before .before .before .put-line .ensures .room, c .before .before .before .before .before .before .before .before .before .before .end-of-line .ensures .from))
+loop-again c =
+    let c₁ = c .before .before .before in
+    let c₂ = c₁ .before .before .before in
+    let c₃ = c₂ .before in
+    let c₄ = c₃ .before .before .before in
+    let c₅ = c₄ .before .before .before in
+    (fed-end _ _ _ _ _ _ (c₄ .end-of-line .ensures) (c₂ .if2 .left) _ _ _ _
+          (fed-part _ _ _ _ _ _ (c₄ .end-of-line .ensures) _ _ _ _ (c₅ .loop .inv .0) _ _ (c₃ .line-piece .ensures)) _ _
+          (c₁ .put-line .ensures) _ (c .line-start .ensures), omega arith, omega (arith, c₁ .put-line .ensures .room), omega arith,
+          omega (arith, c₁ .put-line .ensures .room, c₄ .end-of-line .ensures .from))
 
 same-length-3 : tie.Need-same-length-3 Inv-loop μ-loop
 same-length-3 c = c .before .loop .inv .3

@@ -17,7 +17,9 @@ same-length : tie.Need-same-length
 same-length c = search needs
 
 returns-3 : tie.Need-returns-3
-returns-3 c = finish-line _ _ _ (c .before .before .before .before .before .if1 .left) (omega arith) _ _ (omega arith) (c .before .before .put-line .ensures)
+returns-3 c =
+    let c₁ = c .before .before .before .before .before in
+    finish-line _ _ _ (c₁ .if1 .left) (omega arith) _ _ (omega arith) (c .before .before .put-line .ensures)
 
 pub finish-spec : {M : Type 1} → statement M
 finish-spec = tie.close (tie.spec returns returns-2 put-line-requires same-length returns-3)

@@ -10,13 +10,24 @@ wide32-requires : tie.Need-wide32-requires
 wide32-requires c κs = tt
 
 judge-types-requires : tie.Need-judge-types-requires
-judge-types-requires c κs = leaf-judge (c .before .before .before .before .before .before .before .args .first) (c .before .before .before .before .before .before .before .args .s .now) (c .before .before .before .before .before .before .before .args .leaves .now) (c .before .before .before .before .before .before .before .args .types .now) (c .before .before .before .before .before .before .before .args .start) (c .before .before .before .before .before .before .before .pre) (c .before .before .before .if1 .taken) _ (c .wide32 .ensures .0)
+judge-types-requires c κs =
+    let c₁ = c .before .before .before in
+    let c₂ = c₁ .before .before .before .before in
+    leaf-judge (c₂ .args .first) (c₂ .args .s .now) (c₂ .args .leaves .now) (c₂ .args .types .now) (c₂ .args .start) (c₂ .pre)
+        (c₁ .if1 .taken) _ (c .wide32 .ensures .0)
 
 same-length : tie.Need-same-length
 same-length c = search needs
 
 returns : tie.Need-returns
-returns c = leaf-turns (c .before .before .before .before .before .before .before .before .before .before .args .first) (c .before .before .before .before .before .before .before .before .before .before .args .s .now) (c .before .before .before .before .before .before .before .before .before .before .args .leaves .now) (c .before .before .before .before .before .before .before .before .before .before .args .types .now) (c .before .before .before .before .before .before .before .before .before .before .args .start) (c .before .before .before .before .before .before .before .before .before .before .pre) (c .before .before .before .before .before .before .if1 .taken) _ (λ i. c .slice-known2 .given i .fits) _ _ _ (c .before .before .before .before .before .wide16 .ensures .0) (c .before .before .before .wide32 .ensures .0) (c .before .before .judge-types .ensures)
+returns c =
+    let c₁ = c .before .before .before in
+    let c₂ = c₁ .before .before in
+    let c₃ = c₂ .before in
+    let c₄ = c₃ .before .before .before .before in
+    leaf-turns (c₄ .args .first) (c₄ .args .s .now) (c₄ .args .leaves .now) (c₄ .args .types .now) (c₄ .args .start) (c₄ .pre)
+        (c₃ .if1 .taken) _ (λ i. c .slice-known2 .given i .fits) _ _ _ (c₂ .wide16 .ensures .0) (c₁ .wide32 .ensures .0)
+        (c .before .before .judge-types .ensures)
 
 lent-turns-requires : tie.Need-lent-turns-requires
 lent-turns-requires c κs = search needs

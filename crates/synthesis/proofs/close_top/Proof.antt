@@ -16,7 +16,9 @@ same-length : tie.Need-same-length
 same-length c = search needs
 
 returns : tie.Need-returns
-returns c = close-last _ _ _ _ _ _ (c .before .before .before .before .before .before .judge-types .ensures) _ (c .before .before .t .given .1) (c .if1 .taken)
+returns c =
+    let c₁ = c .before .before .before .before .before .before in
+    close-last _ _ _ _ _ _ (c₁ .judge-types .ensures) _ (c .before .before .t .given .1) (c .if1 .taken)
 
 sub-t14 : tie.Need-sub-t14
 sub-t14 c = search needs
@@ -31,7 +33,9 @@ same-length-3 : tie.Need-same-length-3
 same-length-3 c = search needs
 
 returns-3 : tie.Need-returns-3
-returns-3 c = close-on _ _ _ _ _ _ (c .before .before .before .before .before .before .judge-types .ensures) _ (c .before .before .t .given .1) (c .if1 .left)
+returns-3 c =
+    let c₁ = c .before .before .before .before .before .before in
+    close-on _ _ _ _ _ _ (c₁ .judge-types .ensures) _ (c .before .before .t .given .1) (c .if1 .left)
 
 pub close-top-spec : {M : Type 1} → statement M
 close-top-spec =

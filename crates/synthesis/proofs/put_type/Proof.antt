@@ -14,19 +14,30 @@ returns : tie.Need-returns
 returns c = put-bad _ _ _ _ _ (c .before .type-end .ensures) (c .if1 .taken)
 
 copy-in-requires : tie.Need-copy-in-requires
-copy-in-requires c κs = let p = put-room _ _ _ _ _ (c .before .before .type-end .ensures) (c .before .before .before .before .before .pre) in omega (arith, c .before .before .before .before .before .pre .room)
+copy-in-requires c κs =
+    let c₁ = c .before .before .before .before .before in
+    let p = put-room _ _ _ _ _ (c .before .before .type-end .ensures) (c₁ .pre) in omega (arith, c₁ .pre .room)
 
 sub-t6 : tie.Need-sub-t6
-sub-t6 c = put-room _ _ _ _ _ (c .before .before .before .before .before .type-end .ensures) (c .before .before .before .before .before .before .before .before .pre) .0
+sub-t6 c =
+    let c₁ = c .before .before .before .before .before in
+    let c₂ = c₁ .before .before .before in
+    put-room _ _ _ _ _ (c₁ .type-end .ensures) (c₂ .pre) .0
 
 add-t11 : tie.Need-add-t11
-add-t11 c = omega (arith, c .before .before .before .before .before .before .before .before .pre .room, c .before .before .before .before .before .before .before .before .good)
+add-t11 c =
+    let c₁ = c .before .before .before .before .before .before .before .before in
+    omega (arith, c₁ .pre .room, c₁ .good)
 
 same-length : tie.Need-same-length
 same-length c = search needs
 
 returns-2 : tie.Need-returns-2
-returns-2 c = put-is _ _ _ _ _ (c .before .before .before .before .before .type-end .ensures) (c .before .before .before .before .before .before .before .before .pre) (c .before .before .before .before .if1 .left) _ (c .before .before .copy-in .ensures)
+returns-2 c =
+    let c₁ = c .before .before .before .before in
+    let c₂ = c₁ .before in
+    let c₃ = c₂ .before .before .before in
+    put-is _ _ _ _ _ (c₂ .type-end .ensures) (c₃ .pre) (c₁ .if1 .left) _ (c .before .before .copy-in .ensures)
 
 pub put-type-spec : {M : Type 1} → statement M
 put-type-spec =

@@ -14,7 +14,8 @@ returns-2 : tie.Need-returns-2
 returns-2 c = ap highFor (sym (c .match .keys2) ∙ c .before .layout-of .ensures) ∙ high-at (c .before .before .args .form) (c .before .before .pre)
 
 returns-3 : tie.Need-returns-3
-returns-3 c = high-rest (c .before .before .args .form) (c .before .before .pre) _ (c .before .layout-of .ensures) (c .match .rest .1) (c .match .rest .0 .1)
+returns-3 c = high-rest (c .before .before .args .form) (c .before .before .pre) _ (c .before .layout-of .ensures)
+    (c .match .rest .1) (c .match .rest .0 .1)
 
 pub high-of-spec : {M : Type 1} → statement M
 high-of-spec = tie.close (tie.spec layout-of-requires returns returns-2 returns-3)

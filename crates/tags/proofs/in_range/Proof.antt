@@ -18,13 +18,22 @@ low-of-requires : tie.Need-low-of-requires
 low-of-requires c κs = search needs
 
 returns-2 : tie.Need-returns-2
-returns-2 c = sym (range-low (layoutAt (c .before .before .before .before .args .form)) (c .before .before .before .before .args .x) (omega (arith, c .before .before .before .layout-of .ensures)) (omega (arith, c .before .low-of .ensures)))
+returns-2 c =
+    let c₁ = c .before .before .before in
+    let c₂ = c₁ .before in
+    sym (range-low (layoutAt (c₂ .args .form)) (c₂ .args .x) (omega (arith, c₁ .layout-of .ensures))
+          (omega (arith, c .before .low-of .ensures)))
 
 high-of-requires : tie.Need-high-of-requires
 high-of-requires c κs = search needs
 
 returns-3 : tie.Need-returns-3
-returns-3 c = ap (λ (i : ℕ). leb (c .before .before .before .before .before .args .x) i) (c .high-of .ensures) ∙ sym (range-high (layoutAt (c .before .before .before .before .before .args .form)) (c .before .before .before .before .before .args .x) (omega (arith, c .before .before .before .before .layout-of .ensures)) (omega (arith, c .before .before .low-of .ensures)))
+returns-3 c =
+    let c₁ = c .before .before .before .before in
+    let c₂ = c₁ .before in
+    ap (λ (i : ℕ). leb (c₂ .args .x) i) (c .high-of .ensures) ∙ sym
+        (range-high (layoutAt (c₂ .args .form)) (c₂ .args .x) (omega (arith, c₁ .layout-of .ensures))
+          (omega (arith, c .before .before .low-of .ensures)))
 
 pub in-range-spec : {M : Type 1} → statement M
 in-range-spec =

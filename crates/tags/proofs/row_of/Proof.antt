@@ -18,13 +18,19 @@ shr-entry : tie.Need-shr-entry
 shr-entry c = search needs
 
 returns-2 : tie.Need-returns-2
-returns-2 c = row-none (c .before .before .before .args .tag) (c .before .before .if1 .left) _ (ap (λ (w : ℕ). w / 2 ^ (16 * (c .before .before .before .args .tag / 50 % 4)) % 65536) (c .before .block-word .ensures)) (c .if2 .taken)
+returns-2 c =
+    let c₁ = c .before .before .before in
+    row-none (c₁ .args .tag) (c .before .before .if1 .left) _
+        (ap (λ (w : ℕ). w / 2 ^ (16 * (c₁ .args .tag / 50 % 4)) % 65536) (c .before .block-word .ensures)) (c .if2 .taken)
 
 add-result : tie.Need-add-result
 add-result c = search needs
 
 returns-3 : tie.Need-returns-3
-returns-3 c = row-some (c .before .before .before .args .tag) (c .before .before .if1 .left) _ (ap (λ (w : ℕ). w / 2 ^ (16 * (c .before .before .before .args .tag / 50 % 4)) % 65536) (c .before .block-word .ensures)) (c .if2 .left)
+returns-3 c =
+    let c₁ = c .before .before .before in
+    row-some (c₁ .args .tag) (c .before .before .if1 .left) _
+        (ap (λ (w : ℕ). w / 2 ^ (16 * (c₁ .args .tag / 50 % 4)) % 65536) (c .before .block-word .ensures)) (c .if2 .left)
 
 pub row-of-spec : {M : Type 1} → statement M
 row-of-spec =

@@ -12,10 +12,12 @@ shr-code : tie.Need-shr-code
 shr-code c = search needs
 
 returns : tie.Need-returns
-returns c = let z = width-eight (c .before .args .form) (c .before .pre) (c .if1 .taken) in (z, subst (λ (x : ℕ). x ≤ 8) (sym z) (width-small (c .before .args .form) (c .before .pre)))
+returns c = let z = width-eight (c .before .args .form) (c .before .pre) (c .if1 .taken) in
+    (z, subst (λ (x : ℕ). x ≤ 8) (sym z) (width-small (c .before .args .form) (c .before .pre)))
 
 returns-2 : tie.Need-returns-2
-returns-2 c = let z = width-own (c .before .args .form) (c .before .pre) (c .if1 .left) in (z, subst (λ (x : ℕ). x ≤ 8) (sym z) (width-small (c .before .args .form) (c .before .pre)))
+returns-2 c = let z = width-own (c .before .args .form) (c .before .pre) (c .if1 .left) in
+    (z, subst (λ (x : ℕ). x ≤ 8) (sym z) (width-small (c .before .args .form) (c .before .pre)))
 
 pub width-of-spec : {M : Type 1} → statement M
 width-of-spec = tie.close (tie.spec mul-code shr-code returns returns-2)

@@ -15,7 +15,9 @@ add-same-at : tie.Need-add-same-at
 add-same-at c = let z = placed-root _ _ _ (c .before .before .before .pre .left) .0 in omega arith
 
 same-at-requires : tie.Need-same-at-requires
-same-at-requires c κs = record { left = inner-placed _ _ _ _ (c .before .tag-at .ensures) (c .if1 .left) (c .before .before .before .pre .left); right = c .before .before .before .pre .right }
+same-at-requires c κs =
+    let c₁ = c .before .before .before in
+    record { left = inner-placed _ _ _ _ (c .before .tag-at .ensures) (c .if1 .left) (c₁ .pre .left); right = c₁ .pre .right }
 
 returns-2 : tie.Need-returns-2
 returns-2 c = negates-inner _ _ _ _ _ (c .before .before .tag-at .ensures) (c .before .if1 .left) _ (c .same-at .ensures)

@@ -12,7 +12,9 @@ add-same-at : tie.Need-add-same-at
 add-same-at c = let z = placed-root _ _ _ (c .before .before .before .pre .right) .0 in omega arith
 
 same-at-requires : tie.Need-same-at-requires
-same-at-requires c κs = record { left = c .before .before .before .pre .left; right = inner-placed _ _ _ _ (c .before .tag-at .ensures) (c .if1 .taken) (c .before .before .before .pre .right) }
+same-at-requires c κs =
+    let c₁ = c .before .before .before in
+    record { left = c₁ .pre .left; right = inner-placed _ _ _ _ (c .before .tag-at .ensures) (c .if1 .taken) (c₁ .pre .right) }
 
 returns : tie.Need-returns
 returns c = opposite-child _ _ _ _ _ (c .before .before .tag-at .ensures) (c .before .if1 .taken) _ (c .same-at .ensures)

@@ -20,10 +20,16 @@ rewrite-equals-empty-set-requires-2 : tie.Need-rewrite-equals-empty-set-requires
 rewrite-equals-empty-set-requires-2 c κs = search needs
 
 returns-2 : tie.Need-returns-2
-returns-2 c = empty-left _ _ _ _ _ _ (c .before .before .before .before .tag-at .ensures) (c .before .before .before .if1 .left) _ (c .before .before .tag-at2 .ensures) (c .before .if2 .taken) _ (c .rewrite-equals-empty-set2 .ensures)
+returns-2 c =
+    let c₁ = c .before .before .before in
+    let c₂ = c₁ .before in
+    empty-left _ _ _ _ _ _ (c₂ .tag-at .ensures) (c₁ .if1 .left) _ (c .before .before .tag-at2 .ensures) (c .before .if2 .taken) _
+        (c .rewrite-equals-empty-set2 .ensures)
 
 returns-3 : tie.Need-returns-3
-returns-3 c = empty-none _ _ _ _ _ _ (c .before .before .before .tag-at .ensures) (c .before .before .if1 .left) _ (c .before .tag-at2 .ensures) (c .if2 .left)
+returns-3 c =
+    let c₁ = c .before .before .before in
+    empty-none _ _ _ _ _ _ (c₁ .tag-at .ensures) (c .before .before .if1 .left) _ (c .before .tag-at2 .ensures) (c .if2 .left)
 
 pub empty-rules-at-spec : {M : Type 1} → statement M
 empty-rules-at-spec =

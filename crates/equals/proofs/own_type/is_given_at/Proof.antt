@@ -18,7 +18,8 @@ add-is-power : tie.Need-add-is-power
 add-is-power c = search needs
 
 is-power-requires : tie.Need-is-power-requires
-is-power-requires c κs = let z = name-read _ _ _ _ (c .before .start-at .ensures .0) (c .before .before .before .pre) in (z .1, z .2, rw (c .number .ensures) (z .3))
+is-power-requires c κs = let z = name-read _ _ _ _ (c .before .start-at .ensures .0) (c .before .before .before .pre) in
+    (z .1, z .2, rw (c .number .ensures) (z .3))
 
 returns : tie.Need-returns
 returns c = name-done _ _ _ _ (c .before .before .start-at .ensures .0) _ (c .before .number .ensures) _ (c .is-power .ensures)

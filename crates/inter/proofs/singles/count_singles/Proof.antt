@@ -23,7 +23,9 @@ loop-holds : tie.Need-loop-holds Inv-loop μ-loop
 loop-holds c = (omega arith, omega arith, count-first _ _ _ _)
 
 is-single-requires : tie.Need-is-single-requires Inv-loop μ-loop
-is-single-requires c κs = inter-child _ _ _ _ _ _ (c .before .before .arity-at .ensures) _ _ (c .before .loop .inv .2) (c .loop-test .taken) (c .before .before .before .before .pre) .0
+is-single-requires c κs =
+    let c₁ = c .before .before .before .before in
+    inter-child _ _ _ _ _ _ (c .before .before .arity-at .ensures) _ _ (c .before .loop .inv .2) (c .loop-test .taken) (c₁ .pre) .0
 
 one-if-requires : tie.Need-one-if-requires Inv-loop μ-loop
 one-if-requires c κs = search needs
@@ -32,7 +34,11 @@ add-m : tie.Need-add-m Inv-loop μ-loop
 add-m c = let z = one-small (c .before .is-single .result) _ (c .one-if .ensures) in omega arith
 
 next-at-requires : tie.Need-next-at-requires Inv-loop μ-loop
-next-at-requires c κs = inter-child _ _ _ _ _ _ (c .before .before .before .before .arity-at .ensures) _ _ (c .before .before .before .loop .inv .2) (c .before .before .loop-test .taken) (c .before .before .before .before .before .before .pre) .1
+next-at-requires c κs =
+    let c₁ = c .before .before .before in
+    let c₂ = c₁ .before in
+    let c₃ = c₂ .before .before in
+    inter-child _ _ _ _ _ _ (c₂ .arity-at .ensures) _ _ (c₁ .loop .inv .2) (c .before .before .loop-test .taken) (c₃ .pre) .1
 
 add-i : tie.Need-add-i Inv-loop μ-loop
 add-i c = omega arith
@@ -41,7 +47,13 @@ loop-less : tie.Need-loop-less Inv-loop μ-loop
 loop-less c = omega arith
 
 loop-again : tie.Need-loop-again Inv-loop μ-loop
-loop-again c = (omega arith, (let z = one-small (c .before .before .is-single .result) _ (c .before .one-if .ensures) in omega arith), count-next _ _ _ _ _ (c .before .before .before .before .before .arity-at .ensures) _ _ _ (c .before .before .before .before .loop .inv .2) (c .before .before .before .loop-test .taken) _ (c .before .before .is-single .ensures) _ (c .before .one-if .ensures) _ (c .next-at .ensures .0))
+loop-again c =
+    let c₁ = c .before .before .before in
+    let c₂ = c₁ .before in
+    let c₃ = c₂ .before in
+    (omega arith, (let z = one-small (c .before .before .is-single .result) _ (c .before .one-if .ensures) in omega arith), count-next _ _ _
+          _ _ (c₃ .arity-at .ensures) _ _ _ (c₂ .loop .inv .2) (c₁ .loop-test .taken) _ (c .before .before .is-single .ensures) _
+          (c .before .one-if .ensures) _ (c .next-at .ensures .0))
 
 returns : tie.Need-returns Inv-loop μ-loop
 returns c = count-end _ _ _ _ _ (c .before .before .arity-at .ensures) _ _ _ (c .before .loop .inv .2) (c .loop-test .left)

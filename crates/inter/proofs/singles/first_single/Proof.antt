@@ -22,13 +22,23 @@ loop-holds : tie.Need-loop-holds Inv-loop μ-loop
 loop-holds c = (omega arith, first-first _ _ _ _)
 
 is-single-requires : tie.Need-is-single-requires Inv-loop μ-loop
-is-single-requires c κs = inter-child _ _ _ _ _ _ (c .before .before .arity-at .ensures) _ _ (c .before .loop .inv .1) (c .loop-test .taken) (c .before .before .before .before .pre) .0
+is-single-requires c κs =
+    let c₁ = c .before .before .before .before in
+    inter-child _ _ _ _ _ _ (c .before .before .arity-at .ensures) _ _ (c .before .loop .inv .1) (c .loop-test .taken) (c₁ .pre) .0
 
 returns : tie.Need-returns Inv-loop μ-loop
-returns c = first-found _ _ _ _ _ (c .before .before .before .before .arity-at .ensures) _ _ (c .before .before .before .loop .inv .1) (c .before .before .loop-test .taken) _ (c .before .is-single .ensures) (c .if1 .taken)
+returns c =
+    let c₁ = c .before .before .before in
+    let c₂ = c₁ .before in
+    first-found _ _ _ _ _ (c₂ .arity-at .ensures) _ _ (c₁ .loop .inv .1) (c .before .before .loop-test .taken) _
+        (c .before .is-single .ensures) (c .if1 .taken)
 
 next-at-requires : tie.Need-next-at-requires Inv-loop μ-loop
-next-at-requires c κs = inter-child _ _ _ _ _ _ (c .before .before .before .before .arity-at .ensures) _ _ (c .before .before .before .loop .inv .1) (c .before .before .loop-test .taken) (c .before .before .before .before .before .before .pre) .1
+next-at-requires c κs =
+    let c₁ = c .before .before .before in
+    let c₂ = c₁ .before in
+    let c₃ = c₂ .before .before in
+    inter-child _ _ _ _ _ _ (c₂ .arity-at .ensures) _ _ (c₁ .loop .inv .1) (c .before .before .loop-test .taken) (c₃ .pre) .1
 
 add-i : tie.Need-add-i Inv-loop μ-loop
 add-i c = omega arith
@@ -37,7 +47,12 @@ loop-less : tie.Need-loop-less Inv-loop μ-loop
 loop-less c = omega arith
 
 loop-again : tie.Need-loop-again Inv-loop μ-loop
-loop-again c = (omega arith, first-next _ _ _ _ _ (c .before .before .before .before .before .arity-at .ensures) _ _ (c .before .before .before .before .loop .inv .1) (c .before .before .before .loop-test .taken) _ (c .before .before .is-single .ensures) (c .before .if1 .left) _ (c .next-at .ensures .0))
+loop-again c =
+    let c₁ = c .before .before .before in
+    let c₂ = c₁ .before in
+    let c₃ = c₂ .before in
+    (omega arith, first-next _ _ _ _ _ (c₃ .arity-at .ensures) _ _ (c₂ .loop .inv .1) (c₁ .loop-test .taken) _
+          (c .before .before .is-single .ensures) (c .before .if1 .left) _ (c .next-at .ensures .0))
 
 returns-2 : tie.Need-returns-2 Inv-loop μ-loop
 returns-2 c = first-none _ _ _ _ _ (c .before .before .arity-at .ensures) _ _ (c .before .loop .inv .1) (c .loop-test .left)

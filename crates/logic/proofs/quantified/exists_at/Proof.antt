@@ -21,10 +21,18 @@ each-under-requires : tie.Need-each-under-requires
 each-under-requires c κs = search needs
 
 returns-2 : tie.Need-returns-2
-returns-2 c = out-86 _ _ _ _ _ (c .before .before .before .before .tag-at .ensures) _ (c .before .before .tag-at2 .ensures) (c .before .before .before .if1 .left) (c .before .if2 .taken) _ (c .each-under .ensures)
+returns-2 c =
+    let c₁ = c .before .before .before in
+    let c₂ = c₁ .before in
+    out-86 _ _ _ _ _ (c₂ .tag-at .ensures) _ (c .before .before .tag-at2 .ensures) (c₁ .if1 .left)
+        (c .before .if2 .taken) _ (c .each-under .ensures)
 
 second-of-requires : tie.Need-second-of-requires
-second-of-requires c κs = here-few (exists-here _ _ _ _ _ (c .before .before .before .before .tag-at .ensures) (c .before .before .before .if1 .left) (c .before .before .before .before .before .before .pre))
+second-of-requires c κs =
+    let c₁ = c .before .before .before in
+    let c₂ = c₁ .before in
+    let c₃ = c₂ .before .before in
+    here-few (exists-here _ _ _ _ _ (c₂ .tag-at .ensures) (c₁ .if1 .left) (c₃ .pre))
 
 add-fixed : tie.Need-add-fixed
 add-fixed c = let z = here-few (c .before .before .before .before .before .before .before .pre) in omega arith
@@ -33,10 +41,19 @@ fixed-requires : tie.Need-fixed-requires
 fixed-requires c κs = search needs
 
 returns-3 : tie.Need-returns-3
-returns-3 c = out-87 _ _ _ _ _ (c .before .before .before .before .before .before .tag-at .ensures) _ (c .before .before .before .before .tag-at2 .ensures) (c .before .before .before .before .before .if1 .left) (c .before .before .if3 .taken) _ (c .before .second-of .ensures) _ (c .fixed .ensures)
+returns-3 c =
+    let c₁ = c .before .before .before .before in
+    let c₂ = c₁ .before in
+    let c₃ = c₂ .before in
+    out-87 _ _ _ _ _ (c₃ .tag-at .ensures) _ (c₁ .tag-at2 .ensures) (c₂ .if1 .left) (c .before .before .if3 .taken) _
+        (c .before .second-of .ensures) _ (c .fixed .ensures)
 
 returns-4 : tie.Need-returns-4
-returns-4 c = exists-none _ _ _ _ _ (c .before .before .before .before .tag-at .ensures) _ (c .before .before .tag-at2 .ensures) (c .before .before .before .if1 .left) (c .before .if2 .left) (c .if3 .left)
+returns-4 c =
+    let c₁ = c .before .before .before in
+    let c₂ = c₁ .before in
+    exists-none _ _ _ _ _ (c₂ .tag-at .ensures) _ (c .before .before .tag-at2 .ensures) (c₁ .if1 .left)
+        (c .before .if2 .left) (c .if3 .left)
 
 pub exists-at-spec : {M : Type 1} → statement M
 exists-at-spec =

@@ -21,10 +21,16 @@ each-under-requires : tie.Need-each-under-requires
 each-under-requires c κs = search needs
 
 returns-2 : tie.Need-returns-2
-returns-2 c = out-85 _ _ _ _ _ (c .before .before .before .before .tag-at .ensures) _ (c .before .before .tag-at2 .ensures) (c .before .before .before .if1 .left) (c .before .if2 .taken) _ (c .each-under .ensures)
+returns-2 c =
+    let c₁ = c .before .before .before in
+    let c₂ = c₁ .before in
+    out-85 _ _ _ _ _ (c₂ .tag-at .ensures) _ (c .before .before .tag-at2 .ensures) (c₁ .if1 .left)
+        (c .before .if2 .taken) _ (c .each-under .ensures)
 
 returns-3 : tie.Need-returns-3
-returns-3 c = forall-none _ _ _ _ _ (c .before .before .before .tag-at .ensures) _ (c .before .tag-at2 .ensures) (c .before .before .if1 .left) (c .if2 .left)
+returns-3 c =
+    let c₁ = c .before .before .before in
+    forall-none _ _ _ _ _ (c₁ .tag-at .ensures) _ (c .before .tag-at2 .ensures) (c .before .before .if1 .left) (c .if2 .left)
 
 pub forall-at-spec : {M : Type 1} → statement M
 forall-at-spec =

@@ -1,7 +1,9 @@
 use mathlib.Core.Path.{refl}
 use native.Mathlib.Omega.{arith}
 use Rattle.decision.proofs.Shapes.{here-few, here-placed}
-use Rattle.predicates.proofs.FiniteTurns.{finite-node, finite-6, finite-child, finite-8, set-here, finite-set, restricted-here, finite-restricted, finite-none}
+use Rattle.predicates.proofs.FiniteTurns.{
+  finite-node, finite-6, finite-child, finite-8, set-here, finite-set, restricted-here, finite-restricted, finite-none
+}
 use borrow.Author.Needs.{needs}
 use Rattle.predicates.proofs.finite.rewrite_finite.Statement.{statement}
 use Rattle.predicates.proofs.finite.rewrite_finite.Tie as tie
@@ -55,7 +57,9 @@ finite-set-at-requires : tie.Need-finite-set-at-requires
 finite-set-at-requires c κs = set-here _ _ _ _ _ (c .before .before .tag-at .ensures) (c .match .keys13) (c .before .before .before .before .pre)
 
 finite-restricted-at-requires : tie.Need-finite-restricted-at-requires
-finite-restricted-at-requires c κs = restricted-here _ _ _ _ _ (c .before .before .tag-at .ensures) (c .match .keys14) _ (c .before .second-of .ensures) (c .before .before .before .before .pre)
+finite-restricted-at-requires c κs =
+    let c₁ = c .before .before .before .before in
+    restricted-here _ _ _ _ _ (c .before .before .tag-at .ensures) (c .match .keys14) _ (c .before .second-of .ensures) (c₁ .pre)
 
 fixed-requires-12 : tie.Need-fixed-requires-12
 fixed-requires-12 c κs = search needs
@@ -91,7 +95,9 @@ returns-9 : tie.Need-returns-9
 returns-9 c = finite-child _ _ _ _ _ (c .before .before .before .tag-at .ensures) 752 7 refl (c .before .match .keys9) _ (c .fixed8 .ensures)
 
 returns-10 : tie.Need-returns-10
-returns-10 c = finite-8 _ _ _ _ _ (c .before .before .before .tag-at .ensures) (c .before .match .keys10) _ (c .before .before .second-of .ensures) _ (c .fixed9 .ensures)
+returns-10 c =
+    let c₁ = c .before .before .before in
+    finite-8 _ _ _ _ _ (c₁ .tag-at .ensures) (c .before .match .keys10) _ (c .before .before .second-of .ensures) _ (c .fixed9 .ensures)
 
 returns-11 : tie.Need-returns-11
 returns-11 c = finite-child _ _ _ _ _ (c .before .before .before .tag-at .ensures) 763 9 refl (c .before .match .keys11) _ (c .fixed10 .ensures)
@@ -103,7 +109,10 @@ returns-13 : tie.Need-returns-13
 returns-13 c = finite-set _ _ _ _ _ (c .before .before .before .tag-at .ensures) (c .before .match .keys13) _ (c .finite-set-at .ensures)
 
 returns-14 : tie.Need-returns-14
-returns-14 c = finite-restricted _ _ _ _ _ (c .before .before .before .tag-at .ensures) (c .before .match .keys14) _ (c .before .before .second-of .ensures) _ (c .finite-restricted-at .ensures)
+returns-14 c =
+    let c₁ = c .before .before .before in
+    finite-restricted _ _ _ _ _ (c₁ .tag-at .ensures) (c .before .match .keys14) _ (c .before .before .second-of .ensures) _
+        (c .finite-restricted-at .ensures)
 
 returns-15 : tie.Need-returns-15
 returns-15 c = finite-node _ _ _ _ _ (c .before .before .before .tag-at .ensures) 410 13 refl (c .before .match .keys15) _ (c .fixed12 .ensures)
@@ -112,7 +121,13 @@ returns-16 : tie.Need-returns-16
 returns-16 c = finite-node _ _ _ _ _ (c .before .before .before .tag-at .ensures) 411 13 refl (c .before .match .keys16) _ (c .fixed13 .ensures)
 
 returns-17 : tie.Need-returns-17
-returns-17 c = finite-none _ _ _ _ _ (c .before .before .tag-at .ensures) (c .match .rest .0 .0 .0 .0 .0 .0 .0 .0 .0 .0 .0 .0 .0 .0 .0 .1) (c .match .rest .0 .0 .0 .0 .0 .0 .0 .0 .0 .0 .0 .0 .0 .0 .1) (c .match .rest .0 .0 .0 .0 .0 .0 .0 .0 .0 .0 .0 .0 .0 .1) (c .match .rest .0 .0 .0 .0 .0 .0 .0 .0 .0 .0 .0 .0 .1) (c .match .rest .0 .0 .0 .0 .0 .0 .0 .0 .0 .0 .0 .1) (c .match .rest .0 .0 .0 .0 .0 .0 .0 .0 .0 .0 .1) (c .match .rest .0 .0 .0 .0 .0 .0 .0 .0 .0 .1) (c .match .rest .0 .0 .0 .0 .0 .0 .0 .0 .1) (c .match .rest .0 .0 .0 .0 .0 .0 .0 .1) (c .match .rest .0 .0 .0 .0 .0 .0 .1) (c .match .rest .0 .0 .0 .0 .0 .1) (c .match .rest .0 .0 .0 .0 .1) (c .match .rest .0 .0 .0 .1) (c .match .rest .0 .0 .1) (c .match .rest .0 .1) (c .match .rest .1)
+returns-17 c = finite-none _ _ _ _ _ (c .before .before .tag-at .ensures) (c .match .rest .0 .0 .0 .0 .0 .0 .0 .0 .0 .0 .0 .0 .0 .0 .0 .1)
+    (c .match .rest .0 .0 .0 .0 .0 .0 .0 .0 .0 .0 .0 .0 .0 .0 .1) (c .match .rest .0 .0 .0 .0 .0 .0 .0 .0 .0 .0 .0 .0 .0 .1)
+    (c .match .rest .0 .0 .0 .0 .0 .0 .0 .0 .0 .0 .0 .0 .1) (c .match .rest .0 .0 .0 .0 .0 .0 .0 .0 .0 .0 .0 .1)
+    (c .match .rest .0 .0 .0 .0 .0 .0 .0 .0 .0 .0 .1) (c .match .rest .0 .0 .0 .0 .0 .0 .0 .0 .0 .1)
+    (c .match .rest .0 .0 .0 .0 .0 .0 .0 .0 .1) (c .match .rest .0 .0 .0 .0 .0 .0 .0 .1) (c .match .rest .0 .0 .0 .0 .0 .0 .1)
+    (c .match .rest .0 .0 .0 .0 .0 .1) (c .match .rest .0 .0 .0 .0 .1) (c .match .rest .0 .0 .0 .1) (c .match .rest .0 .0 .1)
+    (c .match .rest .0 .1) (c .match .rest .1)
 
 pub rewrite-finite-spec : {M : Type 1} → statement M
 rewrite-finite-spec =

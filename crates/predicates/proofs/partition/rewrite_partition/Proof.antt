@@ -24,16 +24,29 @@ fixed-requires : tie.Need-fixed-requires
 fixed-requires c κs = search needs
 
 returns-2 : tie.Need-returns-2
-returns-2 c = part-14 _ _ _ _ _ (c .before .before .before .before .before .tag-at .ensures) (c .before .before .before .before .if1 .left) _ (c .before .before .arity-at .ensures) (c .before .if2 .taken) _ (c .fixed .ensures)
+returns-2 c =
+    let c₁ = c .before .before .before .before in
+    let c₂ = c₁ .before in
+    part-14 _ _ _ _ _ (c₂ .tag-at .ensures) (c₁ .if1 .left) _ (c .before .before .arity-at .ensures)
+        (c .before .if2 .taken) _ (c .fixed .ensures)
 
 fixed-requires-2 : tie.Need-fixed-requires-2
 fixed-requires-2 c κs = search needs
 
 returns-3 : tie.Need-returns-3
-returns-3 c = part-15 _ _ _ _ _ (c .before .before .before .before .before .before .tag-at .ensures) (c .before .before .before .before .before .if1 .left) _ (c .before .before .before .arity-at .ensures) (c .before .if3 .taken) _ (c .before .before .before .before .second-of .ensures) _ (c .fixed2 .ensures)
+returns-3 c =
+    let c₁ = c .before .before .before in
+    let c₂ = c₁ .before in
+    let c₃ = c₂ .before in
+    let c₄ = c₃ .before in
+    part-15 _ _ _ _ _ (c₄ .tag-at .ensures) (c₃ .if1 .left) _ (c₁ .arity-at .ensures) (c .before .if3 .taken) _
+        (c₂ .second-of .ensures) _ (c .fixed2 .ensures)
 
 returns-4 : tie.Need-returns-4
-returns-4 c = part-none _ _ _ _ _ (c .before .before .before .before .before .tag-at .ensures) (c .before .before .before .before .if1 .left) _ (c .before .before .arity-at .ensures) (c .before .if2 .left) (c .if3 .left)
+returns-4 c =
+    let c₁ = c .before .before .before .before in
+    let c₂ = c₁ .before in
+    part-none _ _ _ _ _ (c₂ .tag-at .ensures) (c₁ .if1 .left) _ (c .before .before .arity-at .ensures) (c .before .if2 .left) (c .if3 .left)
 
 pub rewrite-partition-spec : {M : Type 1} → statement M
 rewrite-partition-spec =

@@ -25,7 +25,11 @@ put-copy-requires-2 : tie.Need-put-copy-requires-2
 put-copy-requires-2 c κs = search needs
 
 returns : tie.Need-returns
-returns c = puts-then _ _ _ _ _ _ _ _ (puts-then _ _ _ _ _ _ _ _ (puts-then _ _ _ _ _ _ _ _ (c .before .before .before .before .before .before .put-word .ensures) (c .before .before .before .before .put-copy .ensures)) (c .before .before .put-byte .ensures)) (c .put-copy2 .ensures)
+returns c =
+    let c₁ = c .before .before .before .before in
+    let c₂ = c₁ .before .before in
+    puts-then _ _ _ _ _ _ _ _ (puts-then _ _ _ _ _ _ _ _ (puts-then _ _ _ _ _ _ _ _ (c₂ .put-word .ensures) (c₁ .put-copy .ensures))
+          (c .before .before .put-byte .ensures)) (c .put-copy2 .ensures)
 
 pub given-expression-spec : {M : Type 1} → statement M
 given-expression-spec =

@@ -19,22 +19,36 @@ second-of-requires : tie.Need-second-of-requires
 second-of-requires c κs = here-few (c .before .before .pre .here)
 
 simplify-assoc-pred-requires : tie.Need-simplify-assoc-pred-requires
-simplify-assoc-pred-requires c κs = junction-here _ _ _ _ _ (c .before .before .before .tag-at .ensures) (inl (c .before .match .keys1)) (c .before .before .before .before .before .pre .here) _ (c .before .before .before .before .before .pre .long)
+simplify-assoc-pred-requires c κs =
+    let c₁ = c .before .before .before in
+    let c₂ = c₁ .before .before in
+    junction-here _ _ _ _ _ (c₁ .tag-at .ensures) (inl (c .before .match .keys1)) (c₂ .pre .here) _ (c₂ .pre .long)
 
 simplify-assoc-pred-requires-2 : tie.Need-simplify-assoc-pred-requires-2
-simplify-assoc-pred-requires-2 c κs = junction-here _ _ _ _ _ (c .before .before .before .tag-at .ensures) (inr (c .before .match .keys2)) (c .before .before .before .before .before .pre .here) _ (c .before .before .before .before .before .pre .long)
+simplify-assoc-pred-requires-2 c κs =
+    let c₁ = c .before .before .before in
+    let c₂ = c₁ .before .before in
+    junction-here _ _ _ _ _ (c₁ .tag-at .ensures) (inr (c .before .match .keys2)) (c₂ .pre .here) _ (c₂ .pre .long)
 
 implication-at-requires : tie.Need-implication-at-requires
 unfolding lookup classOf formAt
-implication-at-requires c κs = two-here _ _ _ _ _ (c .before .before .tag-at .ensures) 251 (c .match .keys3) predicate predicate (λ x. refl) _ (c .before .second-of .ensures) (c .before .before .before .before .pre .here)
+implication-at-requires c κs =
+    let c₁ = c .before .before .before .before in
+    two-here _ _ _ _ _ (c .before .before .tag-at .ensures) 251 (c .match .keys3) predicate predicate (λ x. refl) _
+        (c .before .second-of .ensures) (c₁ .pre .here)
 
 equivalence-at-requires : tie.Need-equivalence-at-requires
 unfolding lookup classOf formAt
-equivalence-at-requires c κs = two-here _ _ _ _ _ (c .before .before .tag-at .ensures) 252 (c .match .keys4) predicate predicate (λ x. refl) _ (c .before .second-of .ensures) (c .before .before .before .before .pre .here)
+equivalence-at-requires c κs =
+    let c₁ = c .before .before .before .before in
+    two-here _ _ _ _ _ (c .before .before .tag-at .ensures) 252 (c .match .keys4) predicate predicate (λ x. refl) _
+        (c .before .second-of .ensures) (c₁ .pre .here)
 
 negation-at-requires : tie.Need-negation-at-requires
 unfolding lookup classOf formAt
-negation-at-requires c κs = here-child _ _ _ _ _ (c .before .before .tag-at .ensures) 701 (c .match .keys5) predicate (λ x. refl) (c .before .before .before .before .pre .here)
+negation-at-requires c κs =
+    let c₁ = c .before .before .before .before in
+    here-child _ _ _ _ _ (c .before .before .tag-at .ensures) 701 (c .match .keys5) predicate (λ x. refl) (c₁ .pre .here)
 
 forall-at-requires : tie.Need-forall-at-requires
 forall-at-requires c κs = search needs
@@ -43,28 +57,51 @@ exists-at-requires : tie.Need-exists-at-requires
 exists-at-requires c κs = search needs
 
 returns : tie.Need-returns
-returns c = junction-done _ _ _ _ _ (c .before .before .before .before .tag-at .ensures) (inl (c .before .before .match .keys1)) _ _ (c .simplify-assoc-pred .ensures)
+returns c =
+    let c₁ = c .before .before .before .before in
+    junction-done _ _ _ _ _ (c₁ .tag-at .ensures) (inl (c .before .before .match .keys1)) _ _ (c .simplify-assoc-pred .ensures)
 
 returns-2 : tie.Need-returns-2
-returns-2 c = junction-done _ _ _ _ _ (c .before .before .before .before .tag-at .ensures) (inr (c .before .before .match .keys2)) _ _ (c .simplify-assoc-pred2 .ensures)
+returns-2 c =
+    let c₁ = c .before .before .before .before in
+    junction-done _ _ _ _ _ (c₁ .tag-at .ensures) (inr (c .before .before .match .keys2)) _ _ (c .simplify-assoc-pred2 .ensures)
 
 returns-3 : tie.Need-returns-3
-returns-3 c = into _ _ _ _ _ _ (c .before .before .before .before .before .pre .long) _ (to-imp _ _ _ _ _ (c .before .before .before .tag-at .ensures) _ (c .before .before .second-of .ensures) (c .before .match .keys3) _ (c .implication-at .ensures))
+returns-3 c =
+    let c₁ = c .before .before .before in
+    let c₂ = c₁ .before .before in
+    into _ _ _ _ _ _ (c₂ .pre .long) _ (to-imp _ _ _ _ _ (c₁ .tag-at .ensures) _ (c .before .before .second-of .ensures)
+          (c .before .match .keys3) _ (c .implication-at .ensures))
 
 returns-4 : tie.Need-returns-4
-returns-4 c = into _ _ _ _ _ _ (c .before .before .before .before .before .pre .long) _ (to-eqv _ _ _ _ _ (c .before .before .before .tag-at .ensures) _ (c .before .before .second-of .ensures) (c .before .match .keys4) _ (c .equivalence-at .ensures))
+returns-4 c =
+    let c₁ = c .before .before .before in
+    let c₂ = c₁ .before .before in
+    into _ _ _ _ _ _ (c₂ .pre .long) _ (to-eqv _ _ _ _ _ (c₁ .tag-at .ensures) _ (c .before .before .second-of .ensures)
+          (c .before .match .keys4) _ (c .equivalence-at .ensures))
 
 returns-5 : tie.Need-returns-5
-returns-5 c = into _ _ _ _ _ _ (c .before .before .before .before .before .pre .long) _ (to-not _ _ _ _ _ (c .before .before .before .tag-at .ensures) (c .before .match .keys5) _ (c .negation-at .ensures))
+returns-5 c =
+    let c₁ = c .before .before .before in
+    let c₂ = c₁ .before .before in
+    into _ _ _ _ _ _ (c₂ .pre .long) _ (to-not _ _ _ _ _ (c₁ .tag-at .ensures) (c .before .match .keys5) _ (c .negation-at .ensures))
 
 returns-6 : tie.Need-returns-6
-returns-6 c = into _ _ _ _ _ _ (c .before .before .before .before .before .pre .long) _ (to-forall _ _ _ _ _ (c .before .before .before .tag-at .ensures) (c .before .match .keys6) _ (c .forall-at .ensures))
+returns-6 c =
+    let c₁ = c .before .before .before in
+    let c₂ = c₁ .before .before in
+    into _ _ _ _ _ _ (c₂ .pre .long) _ (to-forall _ _ _ _ _ (c₁ .tag-at .ensures) (c .before .match .keys6) _ (c .forall-at .ensures))
 
 returns-7 : tie.Need-returns-7
-returns-7 c = into _ _ _ _ _ _ (c .before .before .before .before .before .pre .long) _ (to-exists _ _ _ _ _ (c .before .before .before .tag-at .ensures) (c .before .match .keys7) _ (c .exists-at .ensures))
+returns-7 c =
+    let c₁ = c .before .before .before in
+    let c₂ = c₁ .before .before in
+    into _ _ _ _ _ _ (c₂ .pre .long) _ (to-exists _ _ _ _ _ (c₁ .tag-at .ensures) (c .before .match .keys7) _ (c .exists-at .ensures))
 
 returns-8 : tie.Need-returns-8
-returns-8 c = into _ _ _ _ _ _ (c .before .before .before .before .pre .long) _ (to-none _ _ _ _ _ (c .before .before .tag-at .ensures) (c .match .rest))
+returns-8 c =
+    let c₁ = c .before .before .before .before in
+    into _ _ _ _ _ _ (c₁ .pre .long) _ (to-none _ _ _ _ _ (c .before .before .tag-at .ensures) (c .match .rest))
 
 pub simplify-predicate-node-spec : {M : Type 1} → statement M
 simplify-predicate-node-spec =

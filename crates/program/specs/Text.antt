@@ -5,6 +5,7 @@ use mathlib.Core.Bool.{Bool, true, false}
 use mathlib.Core.List.{List, [], _∷_, _++_}
 use lib.Dec.{ltb}
 use Rattle.frame.specs.Lines.{Line, frame, badLine, readLine, writeLine}
+use Rattle.frame.specs.Texts.{codes}
 use Rattle.run.specs.Run.{Word, REST, SPENT, FULL, RunOutcome, ended, turnedDown, run}
 
 abbrev pub space : ℕ
@@ -31,12 +32,12 @@ decimal n = decimalIn n n
 
 -- ---- an answer
 abbrev pub wordText : Word → List ℕ
-wordText REST = 0x52 ∷ 0x45 ∷ 0x53 ∷ 0x54 ∷ []
-wordText SPENT = 0x53 ∷ 0x50 ∷ 0x45 ∷ 0x4E ∷ 0x54 ∷ []
-wordText FULL = 0x46 ∷ 0x55 ∷ 0x4C ∷ 0x4C ∷ []
+wordText REST = codes "REST"
+wordText SPENT = codes "SPENT"
+wordText FULL = codes "FULL"
 
 abbrev pub refusedWord : List ℕ
-refusedWord = 0x52 ∷ 0x45 ∷ 0x46 ∷ 0x55 ∷ 0x53 ∷ 0x45 ∷ 0x44 ∷ []
+refusedWord = codes "REFUSED"
 
 -- "the answer word, the step count in decimal and the frame, [..] with one space between"
 unfoldable pub endedText : List ℕ → ℕ → List ℕ → List ℕ

@@ -4,7 +4,7 @@ use Prim.Native.Nat.{ℕ}
 use mathlib.Core.Bool.{Bool, true, false}
 use mathlib.Core.List.{List, [], _∷_, _++_}
 use lib.Dec.{eqb}
-use Rattle.printing.specs.Text.{newline, lineText}
+use Rattle.program.specs.Text.{newline, lineText}
 
 -- `held` are the characters of the line so far; `go` goes on with those of the line then begun
 abbrev pub answersAt : Bool → List ℕ → ℕ → (List ℕ → List ℕ) → List ℕ

@@ -1,0 +1,44 @@
+-- Document 01's own example of the program, by one evaluation of `simplified`: "Input 026C012D02000501019501970300, 02BD0262, 02, an
+-- empty line. Output, whole: [..]"
+use mathlib.Core.Path.{_≡_, refl}
+use Prim.Native.String.{String}
+use Rattle.frame.specs.Trees.{nodes}
+use Rattle.frame.specs.Tags.{lookup, classOf, formAt}
+use Rattle.frame.specs.Lines.{digitOf, readLine, digitFor, writeLine}
+use Rattle.frame.specs.Texts.{codes}
+use Rattle.frame.specs.Encoding.{encNumber, encTy, encTys, encHead, enc}
+use Rattle.frame.specs.Reading.{numberAt, tyCase, readTy, readTys, withNumber, withForm, readHead, readMany, readNode, parse}
+use Rattle.frame.specs.Places.{find, replace}
+use Rattle.frame.specs.Sameness.{sameTy, sameTys, sameTree}
+use Rattle.typing.specs.Typing.{typeAt, typeOf, nodeTyped, typedTree}
+use Rattle.typing.specs.Binding.{closedTree}
+use Rattle.typing.specs.Identifiers.{givensTy, givensTys, idents, givens, agrees, spares, consistent, namesAgree}
+use Rattle.typing.specs.Check.{checkTree, check}
+use Rattle.typing.specs.TypeExpression.{toExpression}
+use Rattle.rules.specs.Change.{onTag, contains}
+use Rattle.rules.specs.Simplify.{makeNeg, verdict, scan, simplifyAssocPred, simplifyPredicateNode}
+use Rattle.rules.specs.Negation.{rewriteNot, rewritePartition}
+use Rattle.rules.specs.Finite.{uses, recovers, functionalCheck, rewriteFinite}
+use Rattle.rules.specs.EqualsEmptySet.{anySingle, firstSingle, anyMinus, minuends, subtrahends, interEmpty, rewriteEqualsEmptySet}
+use Rattle.rules.specs.EqualsType.{rewriteEqualsType}
+use Rattle.rules.specs.Dispatch.{dispatch}
+use Rattle.step.specs.Step.{stepTree}
+use Rattle.run.specs.Run.{firstFrom, firstStep, runTree, run}
+use Rattle.program.specs.Text.{decimalIn, decimal, endedText, refusedText, answerText, lineText}
+use Rattle.program.specs.Stream.{answers, lastLine, simplified}
+
+abbrev input : String
+input = "026C012D02000501019501970300\n02BD0262\n02\n\n"
+
+abbrev output : String
+output = "REST 4 0262\nREST 1 0263\nREFUSED 3\nREFUSED 2\n"
+
+sample : simplified (codes input) ≡ codes output
+unfolding digitOf readLine digitFor writeLine nodes lookup classOf formAt encNumber encTy encTys encHead enc numberAt tyCase readTy
+    readTys
+    withNumber withForm readHead readMany readNode parse find replace sameTy sameTys sameTree typeAt typeOf nodeTyped typedTree closedTree
+    givensTy givensTys idents givens agrees spares consistent namesAgree checkTree check toExpression onTag contains makeNeg verdict scan
+    simplifyAssocPred simplifyPredicateNode rewriteNot rewritePartition uses recovers functionalCheck rewriteFinite anySingle firstSingle
+    anyMinus minuends subtrahends interEmpty rewriteEqualsEmptySet rewriteEqualsType dispatch stepTree firstFrom firstStep runTree run
+    decimalIn decimal endedText refusedText answerText lineText answers lastLine simplified
+sample = refl

@@ -1,0 +1,1 @@
+// What the program `simplify` prints, line by line.
