@@ -2,17 +2,19 @@
 use Prim.Native.Nat.{ℕ, zero, suc}
 use Prim.Native.Char.{code}
 use Prim.Native.String.{String, [], _∷_, _++_}
-use mathlib.Core.List.{List, [] as none, _∷_ as _then_}
+use mathlib.Core.List.{List, [] as []ᴸ, _∷_ as _∷ᴸ_}
 use Rattle.frame.specs.Lines.{Line, frame, badLine, readLine}
 
+-- the characters of a text, each by its code
 abbrev pub codes : String → List ℕ
-codes [] = none
-codes (c ∷ t) = code c then codes t
+codes [] = []ᴸ
+codes (c ∷ t) = code c ∷ᴸ codes t
 
 abbrev frameOf : Line → List ℕ
 frameOf (frame s) = s
-frameOf badLine = none
+frameOf badLine = []ᴸ
 
+-- the bytes that it stands for; none if it is no line
 unfoldable pub bytes : String → List ℕ
 bytes t = frameOf (readLine (codes t))
 

@@ -41,17 +41,17 @@ a = "0001000800"
 abbrev b : String
 b = "0001000700"
 
--- "S and T are 1 and 2 of type ℙ(BOOL)"; ∅ of that type
+-- "S and T are 1 and 2 of type ℙ(BOOL)"; and ∅ of that type
 abbrev S : String
 S = "000100010300"
 
 abbrev T : String
 T = "000100020300"
 
-abbrev ∅ : String
-∅ = "01970300"
+abbrev empty : String
+empty = "01970300"
 
--- "p, q, r are 3, 4, 5 of type ℙ(BOOL×BOOL)"; ∅ of that type
+-- "p, q, r are 3, 4, 5 of type ℙ(BOOL×BOOL)"; and ∅ of that type
 abbrev p : String
 p = "0001000303040000"
 
@@ -61,8 +61,8 @@ q = "0001000403040000"
 abbrev r : String
 r = "0001000503040000"
 
-abbrev ∅ᵣ : String
-∅ᵣ = "019703040000"
+abbrev emptyRelation : String
+emptyRelation = "019703040000"
 
 -- each operator with its tag: ¬ 701, = 101, {E} 5 with one member
 abbrev not : String → String
@@ -87,17 +87,17 @@ starred =
     -- "¬(b = FALSE) to P"
     ∷ changed (not (equal b "0196")) P
     -- "partition of one S to S = ∅"
-    ∷ changed ("038501" ++ S) (equal S ∅)
+    ∷ changed ("038501" ++ S) (equal S empty)
     -- "of S, T to S = T"
     ∷ changed ("038502" ++ S ++ T) (equal S T)
     -- "of three unchanged"
     ∷ unchanged ("038503" ++ S ++ T ++ S)
     -- "{a} ∩ {b} = ∅ to ¬(a ∈ {b})"
-    ∷ changed (equal ("012E02" ++ single a ++ single b) ∅) (not ("006B" ++ a ++ single b))
+    ∷ changed (equal ("012E02" ++ single a ++ single b) empty) (not ("006B" ++ a ++ single b))
     -- "{a} ∩ {b} ∩ S = ∅ unchanged"
-    ∷ unchanged (equal ("012E03" ++ single a ++ single b ++ S) ∅)
+    ∷ unchanged (equal ("012E03" ++ single a ++ single b ++ S) empty)
     -- "p;q;r = ∅ unchanged"
-    ∷ unchanged (equal ("013003" ++ p ++ q ++ r) ∅ᵣ)
+    ∷ unchanged (equal ("013003" ++ p ++ q ++ r) emptyRelation)
     ∷ []
 
 abbrev frameOf : Case → List ℕ
