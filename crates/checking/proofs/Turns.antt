@@ -21,13 +21,13 @@ use Rattle.typing.specs.Typing.{typedTree}
 use Rattle.typing.specs.Binding.{closedTree}
 use Rattle.typing.specs.Identifiers.{namesAgree}
 use Rattle.typing.specs.Leaves.{LeavesAt}
-use Rattle.typing.specs.Check.{accepted, checkTree, checkParsed, check}
+use Rattle.typing.specs.Check.{accepted, checkTree, checkParsed, check, checkAnswer}
 use Rattle.typing.proofs.Decides.{check-accepted}
 use Rattle.synthesis.specs.TypingPosts.{TypePre, TypePost, Typing}
 use Rattle.patterns.specs.declared.Typed.{Typed}
 use Rattle.patterns.specs.declared.Typed.the-variants as T
-use Rattle.checking.specs.Posts.{checkAnswer, TypedPre, TypedPost, ReadPre, TreePost}
-use Rattle.checking.specs.declared.CheckAnswer.the-variants as A
+use Rattle.checking.specs.Posts.{TypedPre, TypedPost, ReadPre, TreePost}
+use Rattle.typing.specs.declared.CheckAnswer.the-variants as A
 
 -- ---- typing
 few-nodes : (s : List ℕ) → Bytes s → (t : Tree) → IsAt s predicate 0 t (length s) → nodes t + nodes t ≤ length s

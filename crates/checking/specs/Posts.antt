@@ -10,16 +10,8 @@ use Rattle.frame.specs.Reading.{tree, parse, frameLimit}
 use Rattle.frame.specs.At.{IsAt}
 use Rattle.typing.specs.Typing.{typedTree}
 use Rattle.typing.specs.Leaves.{LeavesAt}
-use Rattle.typing.specs.Check.{Checked, accepted, refused, check}
-use Rattle.checking.specs.declared.CheckAnswer.{CheckAnswer}
-use Rattle.checking.specs.declared.CheckAnswer.the-variants as A
-
--- "Where an answer is an enum, a definition gives this paper's number and values for each case of the enum. The promises use that
--- definition." The contract of the entry `check` is an equation with it: "The contract of each entry gives answer, count and every
--- byte of the output afterwards, refusals too"; the answer has the number of nodes, and there is no output here.
-abbrev pub checkAnswer : Checked → CheckAnswer
-checkAnswer (accepted t) = A.Accepted (nodes t)
-checkAnswer (refused n) = A.Refused n
+use Rattle.typing.specs.Check.{accepted, check, checkAnswer}
+use Rattle.typing.specs.declared.CheckAnswer.{CheckAnswer}
 
 -- a closed tree stands in the frame, and the table has the types of its bound identifiers
 pub record TypedPre (s leaves : List ℕ) : Type 0 where

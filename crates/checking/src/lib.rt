@@ -7,19 +7,12 @@ use identifiers::names_ok;
 use patterns::Typed;
 use reading::FrameAnswer;
 use synthesis::type_tree;
+use typing::CheckAnswer;
 ghost use mathlib.Core.Path.{_≡_};
-ghost use Rattle.typing.specs.Check.{check as checked};
+ghost use Rattle.typing.specs.Check.{check as checked, checkAnswer};
 ghost use Prim.Native.Nat.{_+_, _*_, _≤_};
 ghost use lib.ListN.{length};
-ghost use Rattle.checking.specs.Posts.{TypedPre, TypedPost, ReadPre, TreePost, checkAnswer};
-
-// What a check answers.
-pub enum CheckAnswer {
-    // how many nodes the frame has
-    Accepted(usize),
-    // a number of document 01, 2 to 10
-    Refused(u8),
-}
+ghost use Rattle.checking.specs.Posts.{TypedPre, TypedPost, ReadPre, TreePost};
 
 // Whether every node of a frame's tree is typed; the buffer has room for a type of 64 bytes for each node.
 fn typed_with(s: &[u8], leaves: &[u16; 2048], types: &mut [u8]) -> bool

@@ -2,12 +2,12 @@
 // checks say of it, or REFUSED and the number.
 ghost use Prim.Native.Nat.{_≤_};
 ghost use lib.ListN.{length};
-use checking::CheckAnswer;
 use libc::STDIN_FILENO;
 use libc::STDOUT_FILENO;
 use lines::LineAnswer;
 use lines::LineState;
 use reading::FrameAnswer;
+use typing::CheckAnswer;
 
 fn print_refused(c: u8) {
     io::write_all(STDOUT_FILENO, b"REFUSED ");

@@ -13,7 +13,7 @@ use Rattle.frame.specs.Trees.{Tree}
 use Rattle.frame.specs.Tags.{pick}
 use Rattle.frame.specs.Encoding.{enc}
 use Rattle.frame.specs.Spans.{Bytes}
-use Rattle.typing.specs.Check.{accepted, check}
+use Rattle.typing.specs.Check.{accepted, check, checkAnswer}
 use Rattle.type_bytes.specs.Buffers.{Copied}
 use Rattle.typing.specs.Signature.{signature}
 use Rattle.typing.proofs.Checked.{check-accepts, check-back}
@@ -21,10 +21,9 @@ use Rattle.put.specs.Out.{Wrote}
 use Rattle.put.proofs.Puts.{wrote-held, wrote-full}
 use Rattle.step.proofs.Steps.{step-accepted}
 use Rattle.output.proofs.OutTurns.{copied-front}
-use Rattle.checking.specs.Posts.{checkAnswer}
-use Rattle.checking.specs.declared.CheckAnswer.{CheckAnswer}
-use Rattle.checking.specs.declared.CheckAnswer.the-variants as C
-use Rattle.checking.proofs.Answers.{accepted-is, refused-is}
+use Rattle.typing.specs.declared.CheckAnswer.{CheckAnswer}
+use Rattle.typing.specs.declared.CheckAnswer.the-variants as C
+use Rattle.typing.proofs.Answers.{accepted-is, refused-is}
 use Rattle.run.specs.Run.{
   First, next, nowhere, firstStep, Word, REST, SPENT, FULL, ran, atEnd, goOn, runTree, RunOutcome, ended, turnedDown, endedBy,
   runOn, run, wordAnswer, runAnswer, runOutput

@@ -1,5 +1,4 @@
 // A run: steps at the first place where a rule applies, until none applies, the budget is used, or the next frame is too long.
-use checking::CheckAnswer;
 use frame::limits::FRAME_LIMIT;
 use frame::refusals::NO_ROOM;
 use run::RunAnswer;
@@ -10,6 +9,7 @@ ghost use Rattle.run.specs.Run.{run as ran, runAnswer, runOutput};
 ghost use Rattle.running.specs.Posts.{RoundsPre, RoundsPost, CheckedPre, RunPost};
 use searching::Next;
 use searching::first_step;
+use typing::CheckAnswer;
 
 // How a run ended: what it answers, and the length of the last frame.
 pub struct Ended {

@@ -15,7 +15,7 @@ use Rattle.frame.specs.Spans.{Bytes}
 use Rattle.frame.specs.Places.{Ctx, found, find, replace}
 use Rattle.frame.proofs.Splices.{find-some, find-none}
 use Rattle.frame.proofs.Frames.{parse-enc}
-use Rattle.typing.specs.Check.{accepted, refused, checkTree, checkParsed, check}
+use Rattle.typing.specs.Check.{accepted, refused, checkTree, checkParsed, check, checkAnswer}
 use Rattle.typing.specs.Accepted.{Accepted}
 use Rattle.typing.proofs.Checked.{check-accepts}
 use Rattle.typing.proofs.Decides.{check-accepted}
@@ -36,13 +36,13 @@ use Rattle.step.specs.Step.{
 use Rattle.step.specs.declared.StepAnswer.{StepAnswer}
 use Rattle.step.specs.declared.StepAnswer.the-variants as A
 use Rattle.step.proofs.Steps.{step-predicate, step-expression}
-use Rattle.checking.specs.Posts.{checkAnswer, TreePost}
-use Rattle.checking.specs.declared.CheckAnswer.{CheckAnswer}
-use Rattle.checking.specs.declared.CheckAnswer.the-variants as C
+use Rattle.checking.specs.Posts.{TreePost}
+use Rattle.typing.specs.declared.CheckAnswer.{CheckAnswer}
+use Rattle.typing.specs.declared.CheckAnswer.the-variants as C
 use Rattle.splicing.specs.SplicePosts.{Decided, SplicePre, SplicePost}
 use Rattle.output.specs.OutPosts.{OutPre, OutPost}
 use Rattle.checking.specs.Posts.{ReadPre as WasRead}
-use Rattle.checking.proofs.Answers.{accepted-is, refused-is}
+use Rattle.typing.proofs.Answers.{accepted-is, refused-is}
 use Rattle.stepping.specs.Posts.{HeldPre, ReadPre, StepPost}
 
 -- ---- `step_held`

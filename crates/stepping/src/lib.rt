@@ -1,5 +1,4 @@
 // One step at a place of a frame: the frame is checked, the rules decide at the place, the new frame is written.
-use checking::CheckAnswer;
 use decision::contains::rests;
 use frame::refusals::NO_PLACE;
 use nav::is_expression_at;
@@ -13,6 +12,7 @@ ghost use Rattle.step.specs.Step.{step as stepped, stepAnswer, stepOutput};
 ghost use Rattle.stepping.specs.Posts.{HeldPre, ReadPre, StepPost};
 use output::write_out;
 use splicing::splice;
+use typing::CheckAnswer;
 
 // The step at place k of an accepted frame with n nodes.
 fn step_held(

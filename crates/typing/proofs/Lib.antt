@@ -5,3 +5,4 @@ pub mod Members
 pub mod Names
 pub mod Decides
 pub mod Checked
+pub mod Answers

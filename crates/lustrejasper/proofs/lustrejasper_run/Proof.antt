@@ -1,5 +1,5 @@
-use Rattle.lustrejasper.proofs.Short.{run-short}
-use Rattle.lustrejasper.specs.Words.{runWord}
+use Rattle.words.proofs.Short.{run-short}
+use Rattle.words.specs.Words.{runWord}
 use mathlib.Core.Path.{_∙_, ap}
 use borrow.Author.Needs.{needs}
 use Rattle.lustrejasper.proofs.lustrejasper_run.Statement.{statement}

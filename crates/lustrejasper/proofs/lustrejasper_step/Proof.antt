@@ -1,5 +1,5 @@
-use Rattle.lustrejasper.proofs.Short.{step-short}
-use Rattle.lustrejasper.specs.Words.{stepWord}
+use Rattle.words.proofs.Short.{step-short}
+use Rattle.words.specs.Words.{stepWord}
 use mathlib.Core.Path.{_∙_, ap}
 use borrow.Author.Needs.{needs}
 use Rattle.lustrejasper.proofs.lustrejasper_step.Statement.{statement}

@@ -4,9 +4,8 @@ use mathlib.Core.Path.{_≡_, refl, ap}
 use Prim.Native.Nat.{ℕ}
 use native.Mathlib.Omega.{arith}
 use Rattle.frame.specs.Trees.{Tree, nodes}
-use Rattle.typing.specs.Check.{Checked, accepted, refused}
-use Rattle.checking.specs.Posts.{checkAnswer}
-use Rattle.checking.specs.declared.CheckAnswer.the-variants as C
+use Rattle.typing.specs.Check.{Checked, accepted, refused, checkAnswer}
+use Rattle.typing.specs.declared.CheckAnswer.the-variants as C
 
 pub accepted-is : (x : Checked) (m : ℕ) → C.Accepted m ≡ checkAnswer x → (t : Tree) × ((x ≡ accepted t) × (m ≡ nodes t))
 accepted-is (accepted t) m e = (t, (refl, cc))

@@ -11,7 +11,7 @@ use Rattle.run.specs.Run as R
 use Rattle.run.specs.Run.{REST, SPENT, FULL, RunOutcome, ended, run, runAnswer}
 use Rattle.run.specs.declared.RunAnswer.{RunAnswer}
 use Rattle.run.proofs.Sizes.{run-small}
-use Rattle.lustrejasper.specs.Posts.{ShortStep, ShortRun}
+use Rattle.words.specs.Posts.{ShortStep, ShortRun}
 
 pub step-short : (s : List ℕ) → Bytes s → (k c : ℕ) (a : StepAnswer) → a ≡ stepAnswer (step s k c) → ShortStep a
 step-short s b k c a e = subst ShortStep (sym e) (go (step s k c) refl)

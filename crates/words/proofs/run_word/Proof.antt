@@ -1,10 +1,10 @@
-use Rattle.lustrejasper.specs.Words.{runWord}
-use Rattle.lustrejasper.specs.Posts.{ShortRun}
+use Rattle.words.specs.Words.{runWord}
+use Rattle.words.specs.Posts.{ShortRun}
 use native.Mathlib.Omega.{arith}
 use mathlib.Core.Path.{sym, _∙_, ap, subst}
 use borrow.Author.Needs.{needs}
-use Rattle.lustrejasper.proofs.run_word.Statement.{statement}
-use Rattle.lustrejasper.proofs.run_word.Tie as tie
+use Rattle.words.proofs.run_word.Statement.{statement}
+use Rattle.words.proofs.run_word.Tie as tie
 
 enum-known-a : tie.Need-enum-known-a
 enum-known-a c = search needs

@@ -1,10 +1,10 @@
-use Rattle.lustrejasper.specs.Words.{stepWord}
-use Rattle.lustrejasper.specs.Posts.{ShortStep}
+use Rattle.words.specs.Words.{stepWord}
+use Rattle.words.specs.Posts.{ShortStep}
 use native.Mathlib.Omega.{arith}
 use mathlib.Core.Path.{sym, ap, subst}
 use borrow.Author.Needs.{needs}
-use Rattle.lustrejasper.proofs.step_word.Statement.{statement}
-use Rattle.lustrejasper.proofs.step_word.Tie as tie
+use Rattle.words.proofs.step_word.Statement.{statement}
+use Rattle.words.proofs.step_word.Tie as tie
 
 enum-told : tie.Need-enum-told
 enum-told c = search needs

@@ -2,8 +2,8 @@
 -- same in C. "Where an answer is an enum, a definition gives this paper's number and values for each case of the enum. The promises
 -- use that definition."
 use Prim.Native.Nat.{ℕ, _+_, _*_, _^_}
-use Rattle.checking.specs.declared.CheckAnswer.{CheckAnswer}
-use Rattle.checking.specs.declared.CheckAnswer.the-variants as C
+use Rattle.typing.specs.declared.CheckAnswer.{CheckAnswer}
+use Rattle.typing.specs.declared.CheckAnswer.the-variants as C
 use Rattle.step.specs.declared.StepAnswer.{StepAnswer}
 use Rattle.step.specs.declared.StepAnswer.the-variants as S
 use Rattle.run.specs.declared.RunAnswer.{RunAnswer}
