@@ -1,24 +1,27 @@
--- `frame_test::end_of_line` meets its contract.
+-- `trials::kept` meets its contract.
 use lib.ListN.{length}
-use Prim.Native.Nat.{_-_, _≤_}
+use Prim.Native.Nat.{_-_}
 use native.Mathlib.Omega.{arith}
-use Rattle.frame_test.proofs.end_of_line.Statement.{statement}
-use Rattle.frame_test.proofs.end_of_line.Tie as tie
+use Rattle.trials.proofs.kept.Statement.{statement}
+use Rattle.trials.proofs.kept.Tie as tie
 
 abbrev Inv-loop : tie.InvT-loop
-Inv-loop s from i₀ i = (from ≤ i) × (i ≤ length s)
+Inv-loop out from i₀ i = Unit {0}
 
 abbrev μ-loop : tie.MeasureT-loop
-μ-loop s from i₀ i = length s - i
+μ-loop out from i₀ i = length out - i
 
 loop-holds : tie.Need-loop-holds Inv-loop μ-loop
-loop-holds c = omega arith
+loop-holds c = tt
 
 shared-slice-read-if1 : tie.Need-shared-slice-read-if1 Inv-loop μ-loop
 shared-slice-read-if1 c = omega arith
 
+pattern-requires : tie.Need-pattern-requires Inv-loop μ-loop
+pattern-requires c κs = tt
+
 returns : tie.Need-returns Inv-loop μ-loop
-returns c = omega arith
+returns c = tt
 
 add-i : tie.Need-add-i Inv-loop μ-loop
 add-i c = omega arith
@@ -27,19 +30,20 @@ loop-less : tie.Need-loop-less Inv-loop μ-loop
 loop-less c = omega arith
 
 loop-again : tie.Need-loop-again Inv-loop μ-loop
-loop-again c = omega arith
+loop-again c = tt
 
 returns-2 : tie.Need-returns-2 Inv-loop μ-loop
-returns-2 c = omega arith
+returns-2 c = tt
 
-pub end-of-line-spec : {M : Type 1} → statement M
-end-of-line-spec =
+pub kept-spec : {M : Type 1} → statement M
+kept-spec =
     tie.close
     (tie.spec
     Inv-loop
     μ-loop
     loop-holds
     shared-slice-read-if1
+    pattern-requires
     returns
     add-i
     loop-less

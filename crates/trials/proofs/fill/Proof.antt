@@ -1,10 +1,10 @@
--- `step_test::fill` meets its contract.
+-- `trials::fill` meets its contract.
 use lib.ListN.{length, length-set}
 use Prim.Native.Nat.{_-_, _≤_}
 use native.Mathlib.Omega.{arith}
 use mathlib.Core.Path.{_≡_, _∙_}
-use Rattle.step_test.proofs.fill.Statement.{statement}
-use Rattle.step_test.proofs.fill.Tie as tie
+use Rattle.trials.proofs.fill.Statement.{statement}
+use Rattle.trials.proofs.fill.Tie as tie
 
 abbrev Inv-loop : tie.InvT-loop
 Inv-loop out₀ i₀ out i = (i ≤ length out₀) × (length out ≡ length out₀)

@@ -1,9 +1,9 @@
--- `step_test::print_changed` meets its contract.
+-- `trials::print_changed` meets its contract.
 use lib.Seq.{length-take-le}
 use mathlib.Core.Path.{sym}
 use borrow.Author.Needs.{needs}
-use Rattle.step_test.proofs.print_changed.Statement.{statement}
-use Rattle.step_test.proofs.print_changed.Tie as tie
+use Rattle.trials.proofs.print_changed.Statement.{statement}
+use Rattle.trials.proofs.print_changed.Tie as tie
 
 slice-aggregate-write-all : tie.Need-slice-aggregate-write-all
 slice-aggregate-write-all c = search needs

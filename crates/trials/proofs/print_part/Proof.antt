@@ -1,9 +1,9 @@
--- `step_test::print_part` meets its contract.
+-- `trials::print_part` meets its contract.
 use lib.Seq.{length-take-le}
 use mathlib.Core.Path.{sym}
 use borrow.Author.Needs.{needs}
-use Rattle.step_test.proofs.print_part.Statement.{statement}
-use Rattle.step_test.proofs.print_part.Tie as tie
+use Rattle.trials.proofs.print_part.Statement.{statement}
+use Rattle.trials.proofs.print_part.Tie as tie
 
 slice-aggregate-write-all : tie.Need-slice-aggregate-write-all
 slice-aggregate-write-all c = sym (length-take-le _ _ (c .before .if1 .taken))
