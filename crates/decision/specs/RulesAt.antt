@@ -8,10 +8,10 @@ use Rattle.frame.specs.Operators.{
   #FComp, #QUnion, #Not, #Finite, #Partition, #SubsetEq, #Forall, #Exists, #BTrue, #BFalse, #LAnd
 }
 use Rattle.frame.specs.Places.{Ctx}
-use Rattle.rules.specs.Change.{Change, to, _orElse_, when, isTag, onTag, unary, binary, quantifier, contains}
+use Rattle.rules.specs.Change.{Change, to, _orElse_, when, isTag, isIdOrProjection, onTag, unary, binary, quantifier, contains}
 use Rattle.rules.specs.Simplify.{makeNeg, simplifyForall, simplifyExists}
 use Rattle.rules.specs.Negation.{rewriteNot, rewriteNotInner, rewritePartition}
-use Rattle.rules.specs.Finite.{finite, isProjection, rewriteFinite}
+use Rattle.rules.specs.Finite.{finite, rewriteFinite}
 use Rattle.rules.specs.EqualsType.{rewriteEqualsType}
 use Rattle.rules.specs.Dispatch.{isOwnType, equalRules, subsetRules}
 
@@ -36,7 +36,7 @@ lookedUp =
 
 -- finite(a ◁ b)
 abbrev pub finiteRestricted : Tree → Tree → Change
-finiteRestricted a b = when (isProjection b) (to 12 (finite a))
+finiteRestricted a b = when (isIdOrProjection b) (to 12 (finite a))
 
 -- partition(S, …)
 abbrev pub partitionOf : Ctx → Tree → Change

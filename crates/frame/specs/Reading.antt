@@ -25,13 +25,14 @@ abbrev pub thenT : TyRes → (Ty → ℕ → TyRes) → TyRes
 thenT (okT t p) k = k t p
 thenT (noT c) k = noT c
 
--- the next byte of a type that has to end by lim, in a frame s, handed on to k.
+-- whether it is past the limit, whether it is past the end, and the byte, handed on to k.
 -- "6. [..] 64 bytes leave a type unfinished" comes before "3. [..] the bytes end inside a [..] type": the byte past the limit is not read.
 abbrev pub tyByte : Bool → Bool → ℕ → (ℕ → TyRes) → TyRes
 tyByte true e b k = noT 6
 tyByte false true b k = noT 3
 tyByte false false b k = k b
 
+-- the next byte of a type that has to end by lim, in a frame s
 abbrev pub byteOf : ℕ → List ℕ → ℕ → (ℕ → TyRes) → TyRes
 byteOf lim s p k = tyByte (leb lim p) (leb (length s) p) (getD s p 0) k
 

@@ -1,6 +1,7 @@
 -- Sameness (document 01, "The type record": "Sameness of trees is the same tag, payload and types; binder names play no part.").
--- In the source `kind_eq` of expression.rs (document 008) compares expressions, and in it `alpha_eq` of decl.rs (010) binders, by
--- their types alone. "If the Rust compares otherwise, ours holds; docs/DIFFERENCES.md says so, and frames where that, or a place
+-- In the source `eq` of expression.rs (document 008) compares the types of two expressions, then `kind_eq` the rest, and in it `alpha_eq`
+-- of decl.rs (010) binders, by their types alone. Here the types that trees carry are compared: the other types follow from them, since
+-- the two trees stand in one binder context. "If the Rust compares otherwise, ours holds; docs/DIFFERENCES.md says so, and frames where that, or a place
 -- left out as above, changes an answer are the only ones excused from equality with the Rust."
 use mathlib.Core.Bool.{Bool, true, false, _&&_}
 use mathlib.Core.List.{List, [], _∷_}

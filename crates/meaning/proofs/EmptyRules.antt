@@ -12,7 +12,7 @@ use Rattle.frame.specs.Operators.{
 }
 use Rattle.frame.specs.Places.{Ctx}
 use Rattle.typing.specs.Typing.{element, relation, typeOf}
-use Rattle.rules.specs.Equations.{⊥ᵖ, ¬ᵖ, _⇔_, ⋀, ⋁, _⊆_, ext, dom, ran, ⋂, ∅, _≐∅}
+use Rattle.rules.specs.Equations.{⊥ᵖ, ¬ᵖ, _⇔_, ⋀, ⋁, _⊆_, ext, dom, ran, inters, ∅, _≐∅}
 use Rattle.meaning.specs.Lists.{any}
 use Rattle.meaning.specs.Operations.{opAt, opOf}
 use Rattle.meaning.specs.Meaning.{Interpretation, Vals, setOf, relOf, some, every, holds, valueOf, means}
@@ -42,7 +42,7 @@ module _ (I : Interpretation) (σ : ℕ → Ty) (Γ : Ctx) where
 
   -- ---- a set and a relation
   module _ (s r : Tree) (u v : Ty) (hs : typeOf s Γ ≡ pow u) (hr : typeOf r Γ ≡ relation u v) where
-    pub domres-emptied : SingleIntegers (two #DomRes s r) Γ → Emptied I σ Γ (two #DomRes s r) (_≐∅ Γ (⋂ (pair (dom r) s)))
+    pub domres-emptied : SingleIntegers (two #DomRes s r) Γ → Emptied I σ Γ (two #DomRes s r) (_≐∅ Γ (inters (pair (dom r) s)))
     unfolding SingleIntegers NoInterOverNothing means valueOf typeOf opOf opAt classOf lookup formAt
     domres-emptied f =
         let n = kit.no-int r Γ (prod u v) (f .3 .1 .0) hr in
@@ -73,7 +73,7 @@ module _ (I : Interpretation) (σ : ℕ → Ty) (Γ : Ctx) where
         ∙ ap (some I v) (sym (empty.image-is I Γ r u v hr ρ s)))
 
   module _ (r s : Tree) (u v : Ty) (hr : typeOf r Γ ≡ relation u v) (hs : typeOf s Γ ≡ pow v) where
-    pub ranres-emptied : SingleIntegers (two #RanRes r s) Γ → Emptied I σ Γ (two #RanRes r s) (_≐∅ Γ (⋂ (pair (ran r) s)))
+    pub ranres-emptied : SingleIntegers (two #RanRes r s) Γ → Emptied I σ Γ (two #RanRes r s) (_≐∅ Γ (inters (pair (ran r) s)))
     unfolding SingleIntegers NoInterOverNothing means valueOf typeOf opOf opAt classOf lookup formAt
     ranres-emptied f =
         let n = kit.no-int r Γ (prod u v) (f .3 .0) hr in
@@ -96,7 +96,7 @@ module _ (I : Interpretation) (σ : ℕ → Ty) (Γ : Ctx) where
   -- ---- two relations
   module _ (p q : Tree) (u v w : Ty) where
     pub dprod-emptied : typeOf p Γ ≡ relation u v → typeOf q Γ ≡ relation u w → SingleIntegers (two #DProd p q) Γ
-        → Emptied I σ Γ (two #DProd p q) (_≐∅ Γ (⋂ (pair (dom p) (dom q))))
+        → Emptied I σ Γ (two #DProd p q) (_≐∅ Γ (inters (pair (dom p) (dom q))))
     unfolding SingleIntegers NoInterOverNothing means valueOf typeOf opOf opAt classOf lookup formAt
     dprod-emptied hp hq f =
         let n = kit.no-int p Γ (prod u v) (f .3 .0) hp in
@@ -112,7 +112,7 @@ module _ (I : Interpretation) (σ : ℕ → Ty) (Γ : Ctx) where
         → SingleIntegers q Γ → (NoInterOverNothing I e Γ → NoInterOverNothing I p Γ) → (NoInterOverNothing I e Γ → NoInterOverNothing I q Γ)
         → ((ρ : Vals I Γ) → setOf I (means I e Γ) ρ (prod u w) ≡
           (λ a. some I v (λ z. relOf I (means I p Γ) ρ u v (a .0) z && relOf I (means I q Γ) ρ v w z (a .1))))
-        → Emptied I σ Γ e (_≐∅ Γ (⋂ (pair (ran p) (dom q))))
+        → Emptied I σ Γ e (_≐∅ Γ (inters (pair (ran p) (dom q))))
     composed e he hp hq s r k l is =
         let n = kit.no-int p Γ (prod u v) s hp in
         let m = kit.no-int q Γ (prod v w) r hq in
@@ -125,14 +125,14 @@ module _ (I : Interpretation) (σ : ℕ → Ty) (Γ : Ctx) where
 
   module _ (p q : Tree) (u v w : Ty) where
     pub forward-emptied : typeOf p Γ ≡ relation u v → typeOf q Γ ≡ relation v w → SingleIntegers (many #FComp (pair p q)) Γ
-        → Emptied I σ Γ (many #FComp (pair p q)) (_≐∅ Γ (⋂ (pair (ran p) (dom q))))
+        → Emptied I σ Γ (many #FComp (pair p q)) (_≐∅ Γ (inters (pair (ran p) (dom q))))
     unfolding SingleIntegers NoInterOverNothing typeOf opOf opAt classOf lookup formAt
     forward-emptied hp hq f =
         composed p q u v w (many #FComp (pair p q)) (rw (hp, hq)) hp hq (f .3 .0) (f .3 .1 .0) (λ l. l .2 .0) (λ l. l .2 .1 .0)
             (λ ρ. empty.forward-is I Γ p u v hp ρ q w)
 
     pub backward-emptied : typeOf p Γ ≡ relation v w → typeOf q Γ ≡ relation u v → SingleIntegers (many #BComp (pair p q)) Γ
-        → Emptied I σ Γ (many #BComp (pair p q)) (_≐∅ Γ (⋂ (pair (ran q) (dom p))))
+        → Emptied I σ Γ (many #BComp (pair p q)) (_≐∅ Γ (inters (pair (ran q) (dom p))))
     unfolding SingleIntegers NoInterOverNothing typeOf opOf opAt classOf lookup formAt
     backward-emptied hp hq f =
         composed q p u v w (many #BComp (pair p q)) (rw (hp, hq)) hq hp (f .3 .1 .0) (f .3 .0) (λ l. l .2 .1 .0) (λ l. l .2 .0)

@@ -11,7 +11,7 @@ use Rattle.frame.specs.Places.{Ctx}
 use Rattle.typing.specs.Typing.{first, second, source, target, relation, ty, typeOf, typesIn}
 use Rattle.typing.specs.Accepted.{TysOk, Accepted}
 use Rattle.rules.specs.Equations.{
-  ⊥ᵖ, ¬ᵖ, ⋀, _∈ᵖ_, _⊆_, ext, ⋂, over, Subtracted, Empties, _≐∅, «SIMP_SETENUM_EQUAL_EMPTY», «SIMP_BINTER_SING_EQUAL_EMPTY»,
+  ⊥ᵖ, ¬ᵖ, ⋀, _∈ᵖ_, _⊆_, ext, inters, over, Subtracted, Empties, _≐∅, «SIMP_SETENUM_EQUAL_EMPTY», «SIMP_BINTER_SING_EQUAL_EMPTY»,
   «SIMP_BINTER_SETMINUS_EQUAL_EMPTY», «SIMP_BUNION_EQUAL_EMPTY», «SIMP_SETMINUS_EQUAL_EMPTY», «SIMP_CPROD_EQUAL_EMPTY»,
   «SIMP_UPTO_EQUAL_EMPTY», «SIMP_SREL_EQUAL_EMPTY», «SIMP_STREL_EQUAL_EMPTY», «SIMP_DOMRES_EQUAL_EMPTY»,
   «SIMP_DOMSUB_EQUAL_EMPTY», «SIMP_RANRES_EQUAL_EMPTY», «SIMP_RANSUB_EQUAL_EMPTY», «SIMP_RELIMAGE_EQUAL_EMPTY»,
@@ -44,7 +44,7 @@ types-of σ Γ e t (cons k ks) h = (h .0 .type, types-of σ Γ e t ks (h .1))
 
 module _ (I : Interpretation) (σ : ℕ → Ty) (Γ : Ctx) where
   -- ---- operands and types, out of what is accepted
-  cap-type : (ks : Forest) (u : Ty) → Operands σ Γ expression (pow u) ks → typeOf (⋂ ks) Γ ≡ pow u
+  cap-type : (ks : Forest) (u : Ty) → Operands σ Γ expression (pow u) ks → typeOf (inters ks) Γ ≡ pow u
   unfolding typeOf classOf lookup formAt
   cap-type ks u o = let l = o .some in many-rule.head-type (pow u) ks Γ (omega arith) (types-of σ Γ expression (pow u) ks (o .each))
 
@@ -52,17 +52,17 @@ module _ (I : Interpretation) (σ : ℕ → Ty) (Γ : Ctx) where
   unfolding classOf lookup formAt
   ext-rule as′ h s = many-rule.ext-emptied I σ Γ as′ (within 1 255 (count as′) (top h .formed .range) .0) s
 
-  single-rule : (a : Tree) (left right : Forest) {t : Ty} → Has σ Γ (⋂ (append left (cons (ext (sole a)) right))) t
-      → SingleIntegers (⋂ (append left (cons (ext (sole a)) right))) Γ
-      → Emptied I σ Γ (⋂ (append left (cons (ext (sole a)) right))) (¬ᵖ (a ∈ᵖ over #BInter (append left right)))
+  single-rule : (a : Tree) (left right : Forest) {t : Ty} → Has σ Γ (inters (append left (cons (ext (sole a)) right))) t
+      → SingleIntegers (inters (append left (cons (ext (sole a)) right))) Γ
+      → Emptied I σ Γ (inters (append left (cons (ext (sole a)) right))) (¬ᵖ (a ∈ᵖ over #BInter (append left right)))
   single-rule a left right h s =
       let ks = append left (cons (ext (sole a)) right) in
       let o = of-cap ks h in
       cap-rule.single-emptied I σ Γ a left right (o .0) (cap-type ks (o .0) (o .1))
           (of-single (every-mid (λ k. Has σ Γ k (pow (o .0))) left (ext (sole a)) right (o .1 .each) .0) .type) s
 
-  subtracted-rule : (ks ls ms : Forest) → Subtracted ks ls ms → {t : Ty} → Has σ Γ (⋂ ks) t → SingleIntegers (⋂ ks) Γ
-      → Emptied I σ Γ (⋂ ks) (over #BInter ls ⊆ over #BUnion ms)
+  subtracted-rule : (ks ls ms : Forest) → Subtracted ks ls ms → {t : Ty} → Has σ Γ (inters ks) t → SingleIntegers (inters ks) Γ
+      → Emptied I σ Γ (inters ks) (over #BInter ls ⊆ over #BUnion ms)
   subtracted-rule ks ls ms d h s =
       let o = of-cap ks h in
       let c = subtracted-same d in

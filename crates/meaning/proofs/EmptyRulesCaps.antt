@@ -9,7 +9,7 @@ use Rattle.frame.specs.Tags.{classOf, lookup, formAt}
 use Rattle.frame.specs.Operators.{#SetMinus, #BUnion, #BInter, #In, #Not}
 use Rattle.frame.specs.Places.{Ctx}
 use Rattle.typing.specs.Typing.{ty, typeOf, typesIn}
-use Rattle.rules.specs.Equations.{¬ᵖ, _∈ᵖ_, _⊆_, ext, ⋂, over, Subtracted, none, minus, other}
+use Rattle.rules.specs.Equations.{¬ᵖ, _∈ᵖ_, _⊆_, ext, inters, over, Subtracted, none, minus, other}
 use Rattle.rules.proofs.Operands.{every-mid, minuends-every, subtrahends-every}
 use Rattle.meaning.specs.Lists.{any, all}
 use Rattle.meaning.specs.Operations.{opAt, opOf}
@@ -39,7 +39,7 @@ module _ (I : Interpretation) (Γ : Ctx) where
   over-alive g f (cons k (cons l ks)) a = kit.many-alive I Γ g f (cons k (cons l ks)) a
 
   module _ (ρ : Vals I Γ) (u : Ty) (x : Val I u) where
-    cap-is : (ks : Forest) → setOf I (means I (⋂ ks) Γ) ρ u x ≡ all (λ k. setOf I k ρ u x) (meansAll I ks Γ)
+    cap-is : (ks : Forest) → setOf I (means I (inters ks) Γ) ρ u x ≡ all (λ k. setOf I k ρ u x) (meansAll I ks Γ)
     unfolding means valueOf opOf opAt classOf lookup
     cap-is ks = refl
 
@@ -67,7 +67,7 @@ module _ (I : Interpretation) (σ : ℕ → Ty) (Γ : Ctx) (a : Tree) (left righ
   rest : Tree
   rest = over #BInter (append left right)
 
-  single-some : (u : Ty) → NoInt u → (ρ : Vals I Γ) → some I u (setOf I (means I (⋂ with-a) Γ) ρ u) ≡ setOf I (means I rest Γ) ρ u
+  single-some : (u : Ty) → NoInt u → (ρ : Vals I Γ) → some I u (setOf I (means I (inters with-a) Γ) ρ u) ≡ setOf I (means I rest Γ) ρ u
       (val I (means I a Γ) ρ u)
   unfolding with-a rest means
   single-some u n ρ =
@@ -77,19 +77,19 @@ module _ (I : Interpretation) (σ : ℕ → Ty) (Γ : Ctx) (a : Tree) (left righ
           (λ y. alone-is I Γ ρ u y a)
       ∙ ap (all (λ k. setOf I k ρ u x)) (sym (append-means I Γ left right)) ∙ sym (cap-over-is I Γ ρ u x (append left right))
 
-  pub single-emptied : (u : Ty) → typeOf (⋂ (append left (cons (ext (sole a)) right))) Γ ≡ pow u → typeOf a Γ ≡ u
-      → SingleIntegers (⋂ (append left (cons (ext (sole a)) right))) Γ
-      → Emptied I σ Γ (⋂ (append left (cons (ext (sole a)) right))) (¬ᵖ (a ∈ᵖ over #BInter (append left right)))
+  pub single-emptied : (u : Ty) → typeOf (inters (append left (cons (ext (sole a)) right))) Γ ≡ pow u → typeOf a Γ ≡ u
+      → SingleIntegers (inters (append left (cons (ext (sole a)) right))) Γ
+      → Emptied I σ Γ (inters (append left (cons (ext (sole a)) right))) (¬ᵖ (a ∈ᵖ over #BInter (append left right)))
   unfolding with-a rest SingleIntegers NoInterOverNothing typeOf opOf opAt classOf lookup formAt
   single-emptied u he ha s =
       let r = every-mid (λ k. SingleIntegers k Γ) left (ext (sole a)) right (single-each Γ with-a (s .3)) in
-      emptied I σ Γ (⋂ with-a) (¬ᵖ (a ∈ᵖ rest)) u he (refl, refl)
+      emptied I σ Γ (inters with-a) (¬ᵖ (a ∈ᵖ rest)) u he (refl, refl)
       (kit.one-single I Γ #Not (refl, refl) (a ∈ᵖ rest) (kit.two-single I Γ #In (refl, refl) a rest (r .0 .3 .0)
       (over-single Γ #BInter (λ k. refl) (append left right) (single-all Γ (append left right) (r .1)))))
       (λ l. (let k = every-mid (λ k. NoInterOverNothing I k Γ) left (ext (sole a)) right (alive-each I Γ with-a (l .2)) in
       kit.one-alive I Γ #Not (refl, refl) (a ∈ᵖ rest) (kit.two-alive I Γ #In (refl, refl) a rest (k .0 .2 .0)
       (over-alive I Γ #BInter (refl, refl) (append left right) (alive-all I Γ (append left right) (k .1))))))
-      (λ l ρ. kit.not-truth I Γ (a ∈ᵖ rest) ρ ∙ ap not (kit.member-truth I Γ a rest u ha ρ ∙ sym (single-some u (kit.no-int (⋂ with-a) Γ u s he) ρ)))
+      (λ l ρ. kit.not-truth I Γ (a ∈ᵖ rest) ρ ∙ ap not (kit.member-truth I Γ a rest u ha ρ ∙ sym (single-some u (kit.no-int (inters with-a) Γ u s he) ρ)))
 
 -- ---- (A ∖ B) ∩ C ∩ (D ∖ E) = ∅ is A ∩ C ∩ D ⊆ B ∪ E
 module _ (I : Interpretation) (Γ : Ctx) where
@@ -114,8 +114,8 @@ module _ (I : Interpretation) (Γ : Ctx) where
         ap (λ c. has (means I k Γ) && c) (subtracted-is d) ∙ sym
             (and-assoc (has (means I k Γ)) (all has (meansAll I ls Γ)) (not (any has (meansAll I ms Γ))))
 
-  pub subtracted-emptied : (σ : ℕ → Ty) (ks ls ms : Forest) (u : Ty) → Subtracted ks ls ms → typeOf (⋂ ks) Γ ≡ pow u
-      → typeOf (over #BInter ls) Γ ≡ pow u → SingleIntegers (⋂ ks) Γ → Emptied I σ Γ (⋂ ks) (over #BInter ls ⊆ over #BUnion ms)
+  pub subtracted-emptied : (σ : ℕ → Ty) (ks ls ms : Forest) (u : Ty) → Subtracted ks ls ms → typeOf (inters ks) Γ ≡ pow u
+      → typeOf (over #BInter ls) Γ ≡ pow u → SingleIntegers (inters ks) Γ → Emptied I σ Γ (inters ks) (over #BInter ls ⊆ over #BUnion ms)
   unfolding SingleIntegers NoInterOverNothing typeOf opOf opAt classOf lookup formAt
   subtracted-emptied σ ks ls ms u d he hl s =
       let a = over #BInter ls in
@@ -123,7 +123,7 @@ module _ (I : Interpretation) (Γ : Ctx) where
       let parts : (x y : Tree) → SingleIntegers (two #SetMinus x y) Γ → SingleIntegers x Γ × SingleIntegers y Γ = λ x y t. (t .3 .0, t .3 .1 .0) in
       let lives : (x y : Tree) → NoInterOverNothing I (two #SetMinus x y) Γ
           → NoInterOverNothing I x Γ × NoInterOverNothing I y Γ = λ x y t. (t .2 .0, t .2 .1 .0) in
-      within-emptied I Γ σ (⋂ ks) u he a b u hl (over-single Γ #BInter (λ k. refl) ls
+      within-emptied I Γ σ (inters ks) u he a b u hl (over-single Γ #BInter (λ k. refl) ls
             (single-all Γ ls (minuends-every (λ k. SingleIntegers k Γ) parts d (single-each Γ ks (s .3)))))
           (over-single Γ #BUnion (λ k. refl) ms (single-all Γ ms
               (subtrahends-every (λ k. SingleIntegers k Γ) parts d (single-each Γ ks (s .3)))))

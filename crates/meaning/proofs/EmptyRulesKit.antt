@@ -11,7 +11,7 @@ use Rattle.frame.specs.Tags.{classOf, lookup, formAt}
 use Rattle.frame.specs.Operators.{#RelImage, #FComp, #BComp, #BInter, #SubsetEq, #LOr, #KDom, #KRan}
 use Rattle.frame.specs.Places.{Ctx}
 use Rattle.typing.specs.Typing.{relation, typeOf}
-use Rattle.rules.specs.Equations.{⊥ᵖ, ⋀, ⋁, _⊆_, dom, ran, ⋂, _≐∅}
+use Rattle.rules.specs.Equations.{⊥ᵖ, ⋀, ⋁, _⊆_, dom, ran, inters, _≐∅}
 use Rattle.meaning.specs.Lists.{any, all}
 use Rattle.meaning.specs.Operations.{Operator, operator, domain, range, image, forward, backward, opAt, opOf}
 use Rattle.meaning.specs.Meaning.{Interpretation, Vals, truth, val, setOf, relOf, some, every, onward, backwards, holds, valueOf, means}
@@ -86,15 +86,15 @@ module _ (I : Interpretation) (Γ : Ctx) where
 
   -- ---- A ∩ B
   module _ (a b : Tree) where
-    meet-single : SingleIntegers a Γ → SingleIntegers b Γ → SingleIntegers (⋂ (pair a b)) Γ
+    meet-single : SingleIntegers a Γ → SingleIntegers b Γ → SingleIntegers (inters (pair a b)) Γ
     unfolding SingleIntegers typeOf classOf lookup formAt
     meet-single s r = (tt, kit.single-type a Γ s, tt, (s, (r, tt)))
 
-    meet-type : (u : Ty) → typeOf a Γ ≡ pow u → typeOf (⋂ (pair a b)) Γ ≡ pow u
+    meet-type : (u : Ty) → typeOf a Γ ≡ pow u → typeOf (inters (pair a b)) Γ ≡ pow u
     unfolding typeOf classOf lookup formAt
     meet-type u h = h
 
-    meet-is : (u : Ty) (ρ : Vals I Γ) → setOf I (means I (⋂ (pair a b)) Γ) ρ u ≡ (λ x. setOf I (means I a Γ) ρ u x && setOf I (means I b Γ) ρ u x)
+    meet-is : (u : Ty) (ρ : Vals I Γ) → setOf I (means I (inters (pair a b)) Γ) ρ u ≡ (λ x. setOf I (means I a Γ) ρ u x && setOf I (means I b Γ) ρ u x)
     unfolding means valueOf opOf opAt classOf lookup all
     meet-is u ρ = fun-ext (λ x. ap (λ c. setOf I (means I a Γ) ρ u x && c) (and-true (setOf I (means I b Γ) ρ u x)))
 
@@ -109,9 +109,9 @@ module _ (I : Interpretation) (Γ : Ctx) where
         (k : NoInterOverNothing I e Γ → NoInterOverNothing I a Γ) (l : NoInterOverNothing I e Γ → NoInterOverNothing I b Γ) where
       -- A ∩ B = ∅
       pub meet-emptied : ((ρ : Vals I Γ) → some I u (λ x. setOf I (means I a Γ) ρ u x && setOf I (means I b Γ) ρ u x) ≡ some I w
-            (setOf I (means I e Γ) ρ w)) → Emptied I σ Γ e (_≐∅ Γ (⋂ (pair a b)))
+            (setOf I (means I e Γ) ρ w)) → Emptied I σ Γ e (_≐∅ Γ (inters (pair a b)))
       meet-emptied m =
-          emptied-by I σ Γ e (⋂ (pair a b)) w u he (meet-type a b u ha) (meet-single a b s r)
+          emptied-by I σ Γ e (inters (pair a b)) w u he (meet-type a b u ha) (meet-single a b s r)
               (λ x. kit.two-alive I Γ #BInter (refl, refl) a b (k x) (l x))
           (λ x ρ. ap (some I u) (meet-is a b u ρ) ∙ m ρ)
 

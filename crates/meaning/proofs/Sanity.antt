@@ -22,7 +22,7 @@ use Rattle.typing.specs.Typing.{typeOf, typeAt, nodeTyped, typedTree}
 use Rattle.typing.specs.TypeExpression.{toExpression}
 use Rattle.typing.specs.Check.{accepted, checkTree, check}
 use Rattle.typing.specs.Binding.{closedTree}
-use Rattle.typing.specs.Identifiers.{givensTy, givensTys, idents, givens, agrees, spares, consistent, namesAgree}
+use Rattle.typing.specs.Identifiers.{givensTy, givensTys, idents, givens, agrees, agreesWithGivens, consistent, namesAgree}
 use Rattle.typing.specs.Members.{In}
 use Rattle.rules.specs.Equations.{⊤, ¬ᵖ, ⋀, ∀ᵖ, ∃ᵖ, _≐_, _⊆_, ext, ∅}
 use Rattle.meaning.specs.Lists.{any, all}
@@ -222,6 +222,6 @@ samples =
 
 pub samples-accepted : map (λ t. check (enc t)) samples ≡ map accepted samples
 unfolding lookup classOf formAt encNumber encTy encTys encHead enc numberAt tyCase readTy readTys withNumber withForm readHead readMany
-    readNode parse sameTy sameTys typeAt typeOf nodeTyped typedTree closedTree givensTy givensTys idents givens agrees spares consistent
+    readNode parse sameTy sameTys typeAt typeOf nodeTyped typedTree closedTree givensTy givensTys idents givens agrees agreesWithGivens consistent
     namesAgree checkTree check
 samples-accepted = refl

@@ -17,7 +17,7 @@ use Rattle.typing.specs.TypeExpression.{toExpression}
 use Rattle.typing.specs.Accepted.{Accepted, TysOk}
 use Rattle.typing.proofs.TypeExpression.{express-type}
 use Rattle.rules.specs.Equations.{
-  _⇒_, ⋀, ∀ᵖ, _≐_, ext, ⋂, Fills, _≐∅, _≐Ty, «SIMP_BINTER_EQUAL_TYPE», «SIMP_SETMINUS_EQUAL_TYPE», «SIMP_CPROD_EQUAL_TYPE»,
+  _⇒_, ⋀, ∀ᵖ, _≐_, ext, inters, Fills, _≐∅, _≐Ty, «SIMP_BINTER_EQUAL_TYPE», «SIMP_SETMINUS_EQUAL_TYPE», «SIMP_CPROD_EQUAL_TYPE»,
   «SIMP_UPTO_EQUAL_INTEGER», «SIMP_DOMRES_EQUAL_TYPE», «SIMP_DOMSUB_EQUAL_TYPE», «SIMP_RANRES_EQUAL_TYPE»,
   «SIMP_RANSUB_EQUAL_TYPE», «SIMP_DPROD_EQUAL_TYPE», «SIMP_PPROD_EQUAL_TYPE», «SIMP_KINTER_EQUAL_TYPE»,
   «SIMP_CONVERSE_EQUAL_TYPE», «SIMP_QINTER_EQUAL_TYPE»
@@ -162,11 +162,11 @@ module _ (I : Interpretation) (σ : ℕ → Ty) (Γ : Ctx) where
   upto-filled i j new s = absurd (s .1)
 
   -- ---- A ∩ … ∩ B
-  cap-filled : (ks : Forest) → Each (pow (element (typeOf (⋂ ks) Γ))) (typesIn ks Γ) → SingleIntegers (⋂ ks) Γ
-      → Filled I σ Γ (⋂ ks) (⋀ (mapF (_≐Ty Γ) ks))
+  cap-filled : (ks : Forest) → Each (pow (element (typeOf (inters ks) Γ))) (typesIn ks Γ) → SingleIntegers (inters ks) Γ
+      → Filled I σ Γ (inters ks) (⋀ (mapF (_≐Ty Γ) ks))
   unfolding SingleIntegers NoInterOverNothing typeOf means valueOf opOf opAt classOf lookup formAt
   cap-filled ks h s =
-      let u = element (typeOf (⋂ ks) Γ) in
+      let u = element (typeOf (inters ks) Γ) in
       record {
         formula = (refl, refl);
         single = kit.many-single I Γ #LAnd (refl, refl) (mapF (_≐Ty Γ) ks) (map-single (_≐Ty Γ) Γ Γ (λ k. kit.full-single I Γ k) ks (s .3));
@@ -228,9 +228,9 @@ module _ (I : Interpretation) (σ : ℕ → Ty) (Γ : Ctx) where
       ∙ set.qinter-full (I .size) u (kit.no-int e Δ u (s .3 .1 .0) he) (truth I (means I p Δ)) (λ τ. setOf I (means I e Δ) τ u) (choices I xs Γ ρ))
 
   -- ---- every equation
-  capped : (ks : Forest) → Accepted σ (⋂ ks) Γ expression → Each (pow (element (typeOf (⋂ ks) Γ))) (typesIn ks Γ)
+  capped : (ks : Forest) → Accepted σ (inters ks) Γ expression → Each (pow (element (typeOf (inters ks) Γ))) (typesIn ks Γ)
   unfolding Accepted typeOf classOf lookup formAt
-  capped ks a = each-alike (pow (element (typeOf (⋂ ks) Γ))) (typesIn ks Γ) (a .fits)
+  capped ks a = each-alike (pow (element (typeOf (inters ks) Γ))) (typesIn ks Γ) (a .fits)
 
   filled-of : {place : ℕ} {e new : Tree} → Fills Γ place e new → Accepted σ e Γ expression → SingleIntegers e Γ
       → Has σ Γ e (typeOf e Γ) → Filled I σ Γ e new

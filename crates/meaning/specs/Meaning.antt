@@ -38,6 +38,7 @@ leInt (negsuc m) (negsuc n) = leb n m
 pub record Interpretation : Type 0 where
   -- a given set has one element more
   pub size : ℕ → ℕ
+  -- by number and type: in an accepted tree a number has one type (number 9)
   pub value : ℕ → (t : Ty) → Value size t
   -- "any fixed function of operator, operand values and result type, its value always of that type"; a truth value is of
   -- type BOOL

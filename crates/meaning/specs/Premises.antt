@@ -14,7 +14,7 @@ use Rattle.meaning.specs.Meaning.{Interpretation, Vals, truth, kid, setO
 
 -- ---- "Integers only as single numbers: no type in the first tree, carried or derived, holds 01 inside another type, and
 -- no binder has type 01"
--- the type holds no integers; none but the type itself
+-- `NoInt`: 01 stands nowhere in the type. `Single`: 01 stands nowhere inside another type
 abbrev pub NoInt : Ty → Type 0
 NoInt bool = Unit {0}
 NoInt int = ⊥
@@ -47,7 +47,8 @@ unfoldable mutual
   SingleIntegersIn (cons t ts) Γ = SingleIntegers t Γ × SingleIntegersIn ts Γ
 
 -- ---- "No intersection over nothing: at each 755 and 802 of the first tree, for every choice of values of the binders
--- around that node, the operand of 755 has a member, and the predicate of 802 is true for some values of its own binders"
+-- around that node, the operand of 755 has a member, and the predicate of 802 is true for some values of its own binders". 755 has no
+-- binders of its own, so there Δ is Γ.
 module _ (I : Interpretation) where
   unfoldable mutual
     pub NoInterOverNothing : Tree → Ctx → Type 0

@@ -6,6 +6,7 @@ use mathlib.Core.List.{List, [], _∷_, _++_}
 use lib.Dec.{ltb}
 use Rattle.frame.specs.Lines.{Line, frame, badLine, readLine, writeLine}
 use Rattle.frame.specs.Texts.{codes}
+use Rattle.frame.specs.Reading.{frameLimit}
 use Rattle.run.specs.Run.{Word, REST, SPENT, FULL, RunOutcome, ended, turnedDown, run}
 
 abbrev pub space : ℕ
@@ -26,7 +27,7 @@ unfoldable pub decimalIn : ℕ → ℕ → List ℕ
 decimalIn zero n = (48 + n) ∷ []
 decimalIn (suc k) n = withLast (ltb n 10) n (decimalIn k)
 
--- a number has no more digits before its last than it counts
+-- n has at most n digits before its last
 unfoldable pub decimal : ℕ → List ℕ
 decimal n = decimalIn n n
 
@@ -56,9 +57,9 @@ answerText (turnedDown c) = refusedText c
 abbrev pub budget : ℕ
 budget = 65535
 
--- the program lends a run 4,096 bytes
+-- the program lends a run as many bytes as a frame may have, so that 12 never arises
 abbrev pub lent : ℕ
-lent = 4096
+lent = frameLimit
 
 -- "1. A text line has an odd count of characters or one outside 0-9, A-F."
 abbrev pub lineOutcome : Line → RunOutcome

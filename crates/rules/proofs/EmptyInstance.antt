@@ -24,7 +24,7 @@ use Rattle.rules.specs.EqualsEmptySet.{
   rewriteEqualsEmptySet
 }
 use Rattle.rules.specs.Equations
-use Rattle.rules.specs.Equations.{Empties, Subtracted, over, ext, ⋂}
+use Rattle.rules.specs.Equations.{Empties, Subtracted, over, ext, inters}
 use Rattle.rules.proofs.Shapes.{
   Is, gives, nothing, or-else, by-test, either, Ok, OkAll, on-many, on-two, on-one, on-bodied, is-leaf, is-many, is-two, is-typed
 }
@@ -75,7 +75,7 @@ unfolding firstSingle
 first-in σ Γ nil a = tt
 first-in σ Γ (cons k ks) a = next-in k ks (singleOf k) (firstSingle ks) (single-at σ Γ k (a .0)) (first-in σ Γ ks (a .1))
 
-single-empties : (Γ : Ctx) (ks : Forest) (s : Singled) → SingledIn ks s → Is (λ p u. Empties Γ p (⋂ ks) u) (interSingle s)
+single-empties : (Γ : Ctx) (ks : Forest) (s : Singled) → SingledIn ks s → Is (λ p u. Empties Γ p (inters ks) u) (interSingle s)
 single-empties Γ ks (singled a rest) w =
     by-test (eqb (count rest) 1 || not (anySingle rest)) (λ h. gives
           (rw (joined-over #BInter rest, w .3) (Equations.«SIMP_BINTER_SING_EQUAL_EMPTY» a ks (w .0) (w .1) (w .2))))
@@ -123,14 +123,14 @@ some-subtrahend (cons k ks) h = go (minusOf k) h (some-subtrahend ks)
     go (whole t) h r = r h
 
 minus-empties : (σ : ℕ → Ty) (Γ : Ctx) (ks : Forest) → OkAll σ Γ ks → anyMinus ks ≡ true
-    → Empties Γ 38 (⋂ ks) (two 111 (joined #BInter (minuends ks)) (joined #BUnion (subtrahends ks)))
+    → Empties Γ 38 (inters ks) (two 111 (joined #BInter (minuends ks)) (joined #BUnion (subtrahends ks)))
 minus-empties σ Γ ks a h =
     let w = some-subtrahend ks h in
     let s = rw (w .2) at (subtracted σ Γ ks a) in
     rw (joined-over #BInter (minuends ks), joined-over #BUnion (subtrahends ks), w .2)
     (Equations.«SIMP_BINTER_SETMINUS_EQUAL_EMPTY» ks (minuends ks) (w .0) (w .1) s)
 
-inter-empties : (σ : ℕ → Ty) (Γ : Ctx) (ks : Forest) → OkAll σ Γ ks → Is (λ p u. Empties Γ p (⋂ ks) u) (interEmpty ks)
+inter-empties : (σ : ℕ → Ty) (Γ : Ctx) (ks : Forest) → OkAll σ Γ ks → Is (λ p u. Empties Γ p (inters ks) u) (interEmpty ks)
 unfolding interEmpty
 inter-empties σ Γ ks a =
     or-else (single-empties Γ ks (firstSingle ks) (first-in σ Γ ks a)) (by-test (anyMinus ks) (λ h. gives (minus-empties σ Γ ks a h)))

@@ -18,7 +18,7 @@ use Rattle.typing.specs.Typing.{alike, relation}
 use Rattle.typing.specs.TypeExpression.{toExpression}
 use Rattle.typing.specs.Accepted.{TyOk, TysOk}
 use Rattle.typing.proofs.TypeExpression.{type-expression}
-use Rattle.rules.specs.Equations.{⊤, ⊥ᵖ, ¬ᵖ, _⇒_, _⇔_, ⋀, ⋁, ∀ᵖ, ∃ᵖ, _≐_, _∈ᵖ_, _⊆_, fin, ext, dom, ran, ⋂, over, ∅, _≐∅, _≐Ty}
+use Rattle.rules.specs.Equations.{⊤, ⊥ᵖ, ¬ᵖ, _⇒_, _⇔_, ⋀, ⋁, ∀ᵖ, ∃ᵖ, _≐_, _∈ᵖ_, _⊆_, fin, ext, dom, ran, inters, over, ∅, _≐∅, _≐Ty}
 use Rattle.rules.proofs.Nodes.{
   Are, Holds, Has, Each, Binders, short, ok-of, are-none, are-more, are-one, are-two, build, these-head, counted-head,
   binding-head
@@ -183,7 +183,7 @@ module _ {σ : ℕ → Ty} {Γ : Ctx} where
   set-has {xs} {p} {e} b l h k = build 803 0 xs (pair p e) _ (binding-head 803 2 (lit< tt) refl refl tt refl b) refl l (are-two h k)
 
   pub cap-has : (k : Tree) (ks : Forest) (u : Ty) → 1 ≤ count ks → count ks ≤ 254 → Each σ Γ expression (pow u) (cons k ks)
-      → Has σ Γ (⋂ (cons k ks)) (pow u)
+      → Has σ Γ (inters (cons k ks)) (pow u)
   unfolding classOf lookup formAt
   cap-has k ks u l m h =
       build 302 0 [] (cons k ks) (copies (pow u) (cons k ks))
@@ -198,7 +198,7 @@ module _ {σ : ℕ → Ty} {Γ : Ctx} where
           (counted-head 301 (suc (count ks)) (lit< tt) refl refl tt refl (omega arith) (omega arith) (lit< tt))
       (alike-copies (pow u) (cons k ks)) (short (h .0)) (are-each expression (pow u) (cons k ks) h)
 
-  pub cap-two : {a b : Tree} {u : Ty} → Has σ Γ a (pow u) → Has σ Γ b (pow u) → Has σ Γ (⋂ (pair a b)) (pow u)
+  pub cap-two : {a b : Tree} {u : Ty} → Has σ Γ a (pow u) → Has σ Γ b (pow u) → Has σ Γ (inters (pair a b)) (pow u)
   cap-two {a} {b} {u} h k = cap-has a (sole b) u (lit≤ tt) (lit≤ tt) (h, (k, tt))
 
   over-has : (g : ℕ) (u : Ty) → ((k : Tree) (ks : Forest) → 1 ≤ count ks → count ks ≤ 254 → Each σ Γ expression (pow u) (cons k ks)

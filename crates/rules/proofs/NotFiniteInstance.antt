@@ -18,9 +18,9 @@ use Rattle.frame.specs.Operators.{
 use Rattle.frame.specs.Places.{Ctx, push}
 use Rattle.frame.proofs.Booleans.{both-true, or-then}
 use Rattle.typing.specs.Typing.{source, first, second}
-use Rattle.rules.specs.Change.{to, _orElse_, when, isTag}
+use Rattle.rules.specs.Change.{to, _orElse_, when, isTag, isIdOrProjection}
 use Rattle.rules.specs.Negation.{rewriteNotInner, rewriteNot, rewritePartition}
-use Rattle.rules.specs.Finite.{uses, recovers, functionalCheck, finiteLambda, isProjection, rewriteFinite}
+use Rattle.rules.specs.Finite.{uses, recovers, functionalCheck, finiteLambda, rewriteFinite}
 use Rattle.rules.specs.Equations
 use Rattle.rules.specs.Equations.{Equation, fin, ¬ᵖ, _≐_}
 use Rattle.rules.proofs.Recovery.{occurs-used, recovered-leaf}
@@ -75,7 +75,7 @@ finite-numbers {e} a h =
     (λ i. rw (is-leaf #Natural1 a i refl) Equations.«SIMP_FINITE_NATURAL1»)
     (λ i. rw (is-leaf #Integer a i refl) Equations.«SIMP_FINITE_INTEGER»))
 
-finite-domres : {σ : ℕ → Ty} {Γ : Ctx} (x : Tree) {e : Tree} → Ok σ Γ e → isProjection e ≡ true → Equation Γ 12 (fin (two #DomRes x e)) (fin x)
+finite-domres : {σ : ℕ → Ty} {Γ : Ctx} (x : Tree) {e : Tree} → Ok σ Γ e → isIdOrProjection e ≡ true → Equation Γ 12 (fin (two #DomRes x e)) (fin x)
 unfolding classOf lookup formAt
 finite-domres x {e} a h =
     either (isTag #KIdGen e) (isTag #KPrj1Gen e || isTag #KPrj2Gen e) h
@@ -116,6 +116,6 @@ finite-instance {σ} {Γ} {e} a =
     (or-else (on-one _ #Converse a refl (λ x q w. rw q (gives (Equations.«SIMP_FINITE_CONVERSE» x))))
     (or-else (by-test (isTag #UpTo e) (λ h. let w = is-two #UpTo a h refl in rw (w .2) (gives (Equations.«SIMP_FINITE_UPTO» (w .0) (w .1)))))
     (or-else (on-bodied _ #CSet a refl (λ us x y q v w. rw q (finite-lambda us x w)))
-    (or-else (on-two _ #DomRes a refl (λ x y q v w. rw q (by-test (isProjection y) (λ h. gives (finite-domres x w h)))))
+    (or-else (on-two _ #DomRes a refl (λ x y q v w. rw q (by-test (isIdOrProjection y) (λ h. gives (finite-domres x w h)))))
     (or-else (on-typed _ #KPrj1Gen a refl (λ u q s. rw (q, s) (gives (Equations.«SIMP_FINITE_PRJ1» (first (source u)) (second (source u))))))
     (on-typed _ #KPrj2Gen a refl (λ u q s. rw (q, s) (gives (Equations.«SIMP_FINITE_PRJ2» (first (source u)) (second (source u))))))))))))))))))

@@ -19,7 +19,7 @@ use Rattle.frame.specs.Encoding.{encTy}
 use Rattle.frame.specs.Places.{Ctx, push}
 use Rattle.typing.specs.Typing.{alike, element, source, target, relation, ty, typeOf, typesIn}
 use Rattle.typing.specs.Accepted.{TyOk, HeadOk}
-use Rattle.rules.specs.Equations.{¬ᵖ, _⇒_, _⇔_, ⋀, ⋁, ∀ᵖ, ∃ᵖ, _≐_, _⊆_, fin, ext, dom, ran, ⋂}
+use Rattle.rules.specs.Equations.{¬ᵖ, _⇒_, _⇔_, ⋀, ⋁, ∀ᵖ, ∃ᵖ, _≐_, _⊆_, fin, ext, dom, ran, inters}
 use Rattle.rules.proofs.Nodes.{Is, Are, Holds, Has, Each, Binders, within, kid₀, kid₁, each-of, opened, top}
 
 -- operands of an associative operator
@@ -233,7 +233,7 @@ module _ {σ : ℕ → Ty} {Γ : Ctx} where
   of-maplet {a} {b} h = (typeOf a Γ, typeOf b Γ, sym (h .type), kid₀ (opened h), kid₁ (opened h))
 
   -- ---- any number of operands
-  pub of-cap : (ks : Forest) {t : Ty} → Has σ Γ (⋂ ks) t → (u : Ty) × Operands σ Γ expression (pow u) ks
+  pub of-cap : (ks : Forest) {t : Ty} → Has σ Γ (inters ks) t → (u : Ty) × Operands σ Γ expression (pow u) ks
   unfolding classOf lookup formAt
   of-cap ks h = let u = element (ty 0 (typesIn ks Γ)) in (u, operands expression (pow u) ks (top h .formed .range) (opened h))
 

@@ -2,9 +2,9 @@
 -- camel case: `simplify_assoc_pred` is `simplifyAssocPred`.
 --
 -- "Their answers are the reference, `None` being "unchanged"; they are private, so the oracle is a built copy that opens them."
--- The source's functions answer `None` or a tree. Here a tree comes with the number of the place that built it: the
--- places at which the taken functions return a changed tree that they didn't get from another of them, from 1, in the
--- order of the source documents and their text (docs/RULES.md lists them).
+-- The source's functions answer `None` or a tree. Here a tree comes with a rule number: the places in the source's text at which the
+-- taken functions return a changed tree that they didn't get from another of them, from 1, in the order of the source documents and
+-- their text (docs/RULES.md lists them). The numbering is ours; document 01 asks for none, and no answer shows it.
 use Prim.Native.Nat.{ℕ}
 use mathlib.Core.Bool.{Bool, false, _||_}
 use mathlib.Core.List.{List}
@@ -12,10 +12,11 @@ use lib.Dec.{eqb}
 use Rattle.frame.specs.Types.{Ty}
 use Rattle.frame.specs.Trees.{head, Tree, node, Forest, nil, cons, tagOf, many}
 use Rattle.frame.specs.Tags.{pick}
+use Rattle.frame.specs.Operators.{#KPrj1Gen, #KPrj2Gen, #KIdGen}
 use Rattle.frame.specs.Sameness.{sameTree}
 
 pub data Change : Type 0 where
-  -- the place, and the tree that it built
+  -- the rule number, and the tree that was built
   to : ℕ → Tree → Change
   -- no rule applies: "`None` being "unchanged""
   same : Change
@@ -32,6 +33,10 @@ when b c = pick b c same
 -- `is_atomic` (document 000) and `is_literal` (document 002): the node has this tag
 abbrev pub isTag : ℕ → Tree → Bool
 isTag g t = eqb (tagOf t) g
+
+-- id, prj1 or prj2: what the source asks for at places 12 and 61
+abbrev pub isIdOrProjection : Tree → Bool
+isIdOrProjection e = isTag #KIdGen e || (isTag #KPrj1Gen e || isTag #KPrj2Gen e)
 
 -- a tree of this tag: its types and its children are handed on
 unfoldable pub onTag : ℕ → Tree → (List Ty → Forest → Change) → Change

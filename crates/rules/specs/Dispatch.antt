@@ -13,7 +13,7 @@ use Rattle.rules.specs.Finite.{rewriteFinite}
 use Rattle.rules.specs.EqualsEmptySet.{rewriteEqualsEmptySet}
 use Rattle.rules.specs.EqualsType.{rewriteEqualsType, baseExpression}
 
--- "Added by us: 101 or 111 with ∅ (407) on the right, else 101 with ∅ on the left, goes to the empty rules on the other side."
+-- "Added by us: 101 or 111 with ∅ (407) on the right, else 101 with ∅ on the left, goes to the empty rules on the other side.": 101
 abbrev pub emptyRules : Ctx → Tree → Tree → Change
 emptyRules Γ left right =
     pick (isTag #EmptySet right) (rewriteEqualsEmptySet Γ left)
@@ -33,6 +33,7 @@ typeRules Γ left right =
 abbrev pub equalRules : Ctx → Tree → Tree → Change
 equalRules Γ left right = emptyRules Γ left right orElse typeRules Γ left right
 
+-- the same sentence: 111, with ∅ on the right. The type rules are for 101 alone.
 abbrev pub subsetRules : Ctx → Tree → Tree → Change
 subsetRules Γ left right = when (isTag #EmptySet right) (rewriteEqualsEmptySet Γ left)
 
@@ -42,7 +43,8 @@ subsetRules Γ left right = when (isTag #EmptySet right) (rewriteEqualsEmptySet 
 -- `Extended`, predicate variables, parametric types."
 -- "Should a place in the source build, for some operator, a tree that differs in truth from what it replaces in a frame and an
 -- interpretation that demand 3 covers, its premise on integers included, that place is left out for that operator: it counts as
--- giving nothing there and dispatch goes on." None is left out: `equation-keeps` (crates/meaning/proofs/EquationKeeps.antt).
+-- giving nothing there and dispatch goes on. docs/DIFFERENCES.md names each such place with a frame and an interpretation, and the
+-- difference is proved; nothing else is left out on this ground." None is left out: `equation-keeps` (crates/meaning/proofs/EquationKeeps.antt).
 unfoldable pub dispatch : Ctx → Tree → Change
 dispatch Γ t =
     simplifyPredicateNode t

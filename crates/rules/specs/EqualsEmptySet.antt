@@ -10,7 +10,7 @@ use Rattle.frame.specs.Operators.{
 }
 use Rattle.frame.specs.Places.{Ctx, push}
 use Rattle.typing.specs.Typing.{typeOf}
-use Rattle.rules.specs.Change.{Change, to, same, _orElse_, when, isTag, onTag, unary, binary, binderSet, joined}
+use Rattle.rules.specs.Change.{Change, to, same, _orElse_, when, isTag, isIdOrProjection, onTag, unary, binary, binderSet, joined}
 use Rattle.rules.specs.Negation.{isEmpty}
 
 -- `is_not_empty`
@@ -143,4 +143,4 @@ rewriteEqualsEmptySet Γ expr =
     orElse binderSet #QUnion expr (λ decls body value.
     to 59 (quantified #Forall decls (two #LImp body (isEmpty (push decls Γ) value))))
     orElse when (isTag #Natural expr || isTag #Natural1 expr) (to 60 (leaf #BFalse))
-    orElse when (isTag #KIdGen expr || (isTag #KPrj1Gen expr || isTag #KPrj2Gen expr)) (to 61 (leaf #BFalse))
+    orElse when (isIdOrProjection expr) (to 61 (leaf #BFalse))

@@ -4,7 +4,9 @@
 -- Language, not from the rules (docs/DIFFERENCES.md says where a page states a step otherwise, and that the pages were not
 -- at hand). Nothing of the rules' definitions is used here. rules/proofs shows that whatever `dispatch` gives is such an instance.
 --
--- Γ has the types of the binders around the predicate. An equation's number is the place of the source (docs/RULES.md).
+-- "A step that the Rodin pages state otherwise, or not at all, stands in docs/DIFFERENCES.md."
+--
+-- Γ has the types of the binders around the predicate. An equation's number is the rule number (docs/RULES.md).
 use mathlib.Core.Path.{_≡_}
 use mathlib.Core.Logic.{_⊎_}
 use mathlib.Core.List.{List}
@@ -23,7 +25,8 @@ use Rattle.frame.specs.Places.{Ctx, push}
 use Rattle.typing.specs.Typing.{typeOf, element, relation}
 use Rattle.typing.specs.TypeExpression.{toExpression}
 
--- ---- notation
+-- ---- notation: trees are written as predicates and sets are; ᵖ marks a predicate's tree where the sign has another meaning, ≐ is = (101),
+-- `inters` the ∩ (302) of a list
 abbrev pub ⊤ : Tree
 ⊤ = leaf #BTrue
 
@@ -78,8 +81,8 @@ dom r = one #KDom r
 abbrev pub ran : Tree → Tree
 ran r = one #KRan r
 
-abbrev pub ⋂ : Forest → Tree
-⋂ ss = many #BInter ss
+abbrev pub inters : Forest → Tree
+inters ss = many #BInter ss
 
 -- an associative operator over the operands that are left: over one, that one
 abbrev pub over : ℕ → Forest → Tree
@@ -149,21 +152,21 @@ pub data Leaf : ℕ → Tree → Type 0 where
 pub data Empties (Γ : Ctx) : ℕ → Tree → Tree → Type 0 where
   «SIMP_SETENUM_EQUAL_EMPTY» : (as′ : Forest) → Empties Γ 36 (ext as′) ⊥ᵖ
   «SIMP_BINTER_SING_EQUAL_EMPTY» : (a : Tree) (ks left right : Forest) → ks ≡ append left (cons (ext (sole a)) right)
-      → Empties Γ 37 (⋂ ks) (¬ᵖ (a ∈ᵖ over #BInter (append left right)))
+      → Empties Γ 37 (inters ks) (¬ᵖ (a ∈ᵖ over #BInter (append left right)))
   «SIMP_BINTER_SETMINUS_EQUAL_EMPTY» : (ks ls : Forest) (b : Tree) (ms : Forest) → Subtracted ks ls (cons b ms)
-      → Empties Γ 38 (⋂ ks) (over #BInter ls ⊆ over #BUnion (cons b ms))
+      → Empties Γ 38 (inters ks) (over #BInter ls ⊆ over #BUnion (cons b ms))
   «SIMP_BUNION_EQUAL_EMPTY» : (ks : Forest) → Empties Γ 39 (many #BUnion ks) (⋀ (mapF (_≐∅ Γ) ks))
   «SIMP_SETMINUS_EQUAL_EMPTY» : (a b : Tree) → Empties Γ 40 (two #SetMinus a b) (a ⊆ b)
   «SIMP_CPROD_EQUAL_EMPTY» : (s t : Tree) → Empties Γ 41 (two #CProd s t) (⋁ (pair (_≐∅ Γ s) (_≐∅ Γ t)))
   «SIMP_UPTO_EQUAL_EMPTY» : (i j : Tree) → Empties Γ 42 (two #UpTo i j) (two #Gt i j)
   «SIMP_SREL_EQUAL_EMPTY» : (a b : Tree) → Empties Γ 43 (two #SRel a b) (⋀ (pair (_≐∅ Γ a) (¬ᵖ (_≐∅ Γ b))))
   «SIMP_STREL_EQUAL_EMPTY» : (a b : Tree) → Empties Γ 44 (two #STRel a b) (_≐∅ Γ a ⇔ ¬ᵖ (_≐∅ Γ b))
-  «SIMP_DOMRES_EQUAL_EMPTY» : (s r : Tree) → Empties Γ 45 (two #DomRes s r) (_≐∅ Γ (⋂ (pair (dom r) s)))
+  «SIMP_DOMRES_EQUAL_EMPTY» : (s r : Tree) → Empties Γ 45 (two #DomRes s r) (_≐∅ Γ (inters (pair (dom r) s)))
   «SIMP_DOMSUB_EQUAL_EMPTY» : (s r : Tree) → Empties Γ 46 (two #DomSub s r) (dom r ⊆ s)
-  «SIMP_RANRES_EQUAL_EMPTY» : (r s : Tree) → Empties Γ 47 (two #RanRes r s) (_≐∅ Γ (⋂ (pair (ran r) s)))
+  «SIMP_RANRES_EQUAL_EMPTY» : (r s : Tree) → Empties Γ 47 (two #RanRes r s) (_≐∅ Γ (inters (pair (ran r) s)))
   «SIMP_RANSUB_EQUAL_EMPTY» : (r s : Tree) → Empties Γ 48 (two #RanSub r s) (ran r ⊆ s)
   «SIMP_RELIMAGE_EQUAL_EMPTY» : (r s : Tree) → Empties Γ 49 (two #RelImage r s) (_≐∅ Γ (two #DomRes s r))
-  «SIMP_DPROD_EQUAL_EMPTY» : (p q : Tree) → Empties Γ 50 (two #DProd p q) (_≐∅ Γ (⋂ (pair (dom p) (dom q))))
+  «SIMP_DPROD_EQUAL_EMPTY» : (p q : Tree) → Empties Γ 50 (two #DProd p q) (_≐∅ Γ (inters (pair (dom p) (dom q))))
   «SIMP_PPROD_EQUAL_EMPTY» : (p q : Tree) → Empties Γ 51 (two #PProd p q) (⋁ (pair (_≐∅ Γ p) (_≐∅ Γ q)))
   «SIMP_POW_EQUAL_EMPTY» : (s : Tree) → Empties Γ 52 (one #Pow s) ⊥ᵖ
   «SIMP_POW1_EQUAL_EMPTY» : (s : Tree) → Empties Γ 53 (one #Pow1 s) (_≐∅ Γ s)
@@ -171,8 +174,8 @@ pub data Empties (Γ : Ctx) : ℕ → Tree → Tree → Type 0 where
   «SIMP_DOM_EQUAL_EMPTY» : (r : Tree) → Empties Γ 55 (dom r) (_≐∅ Γ r)
   «SIMP_RAN_EQUAL_EMPTY» : (r : Tree) → Empties Γ 55 (ran r) (_≐∅ Γ r)
   «SIMP_CONVERSE_EQUAL_EMPTY» : (r : Tree) → Empties Γ 55 (one #Converse r) (_≐∅ Γ r)
-  «SIMP_FCOMP_EQUAL_EMPTY» : (p q : Tree) → Empties Γ 56 (many #FComp (pair p q)) (_≐∅ Γ (⋂ (pair (ran p) (dom q))))
-  «SIMP_BCOMP_EQUAL_EMPTY» : (p q : Tree) → Empties Γ 57 (many #BComp (pair p q)) (_≐∅ Γ (⋂ (pair (ran q) (dom p))))
+  «SIMP_FCOMP_EQUAL_EMPTY» : (p q : Tree) → Empties Γ 56 (many #FComp (pair p q)) (_≐∅ Γ (inters (pair (ran p) (dom q))))
+  «SIMP_BCOMP_EQUAL_EMPTY» : (p q : Tree) → Empties Γ 57 (many #BComp (pair p q)) (_≐∅ Γ (inters (pair (ran q) (dom p))))
   «SIMP_OVERL_EQUAL_EMPTY» : (ks : Forest) → Empties Γ 58 (many #Ovr ks) (⋀ (mapF (_≐∅ Γ) ks))
   «SIMP_QUNION_EQUAL_EMPTY» : (xs : List Ty) (p e : Tree) → Empties Γ 59 (bodied #QUnion xs p e) (∀ᵖ xs (p ⇒ _≐∅ (push xs Γ) e))
   «SIMP_NATURAL_EQUAL_EMPTY» : Empties Γ 60 (leaf #Natural) ⊥ᵖ
@@ -182,7 +185,7 @@ pub data Empties (Γ : Ctx) : ℕ → Tree → Tree → Type 0 where
   «SIMP_PRJ2_EQUAL_EMPTY» : (t : Ty) → Empties Γ 61 (typed #KPrj2Gen t) ⊥ᵖ
 
 pub data Fills (Γ : Ctx) : ℕ → Tree → Tree → Type 0 where
-  «SIMP_BINTER_EQUAL_TYPE» : (ks : Forest) → Fills Γ 24 (⋂ ks) (⋀ (mapF (_≐Ty Γ) ks))
+  «SIMP_BINTER_EQUAL_TYPE» : (ks : Forest) → Fills Γ 24 (inters ks) (⋀ (mapF (_≐Ty Γ) ks))
   «SIMP_SETMINUS_EQUAL_TYPE» : (a b : Tree) → Fills Γ 25 (two #SetMinus a b) (⋀ (pair (_≐Ty Γ a) (_≐∅ Γ b)))
   «SIMP_CPROD_EQUAL_TYPE» : (s t : Tree) → Fills Γ 26 (two #CProd s t) (⋀ (pair (_≐Ty Γ s) (_≐Ty Γ t)))
   «SIMP_UPTO_EQUAL_INTEGER» : (i j : Tree) → Fills Γ 27 (two #UpTo i j) ⊥ᵖ

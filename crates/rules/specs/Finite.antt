@@ -14,7 +14,7 @@ use Rattle.frame.specs.Operators.{
 use Rattle.frame.specs.Places.{Ctx}
 use Rattle.typing.specs.Typing.{carriedTy, source}
 use Rattle.typing.specs.TypeExpression.{toExpression}
-use Rattle.rules.specs.Change.{Change, to, _orElse_, when, isTag, onTag, unary, binary, binderSet}
+use Rattle.rules.specs.Change.{Change, to, _orElse_, when, isTag, isIdOrProjection, onTag, unary, binary, binderSet}
 use Rattle.rules.specs.Negation.{isEmpty}
 
 -- `finite`
@@ -57,9 +57,6 @@ finiteLambda decls body value =
 abbrev pub finiteSource : ℕ → List Ty → Change
 finiteSource place ts = to place (finite (toExpression (source (carriedTy ts))))
 
-abbrev pub isProjection : Tree → Bool
-isProjection e = isTag #KIdGen e || (isTag #KPrj1Gen e || isTag #KPrj2Gen e)
-
 -- "finite(A × B) is A = ∅ or B = ∅ or both finite, in that nesting.": place 8. `btrue` and `bfalse` build the ⊤ and ⊥ of 1 to 3,
 -- 5 and 10.
 unfoldable pub rewriteFinite : Ctx → Tree → Change
@@ -76,6 +73,6 @@ rewriteFinite Γ child =
     orElse unary #Converse child (λ inner. to 9 (finite inner))
     orElse when (isTag #UpTo child) (to 10 (leaf #BTrue))
     orElse binderSet #CSet child finiteLambda
-    orElse binary #DomRes child (λ left right. when (isProjection right) (to 12 (finite left)))
+    orElse binary #DomRes child (λ left right. when (isIdOrProjection right) (to 12 (finite left)))
     orElse onTag #KPrj1Gen child (λ ts ks. finiteSource 13 ts)
     orElse onTag #KPrj2Gen child (λ ts ks. finiteSource 13 ts)

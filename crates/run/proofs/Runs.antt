@@ -1,20 +1,20 @@
 -- A run is a row of steps.
 -- Main results: steps-join; first-step (what a run does next is a step), run-steps (a run's last tree lies as many steps from the
--- first as the run counts, and its frame is within the limit).
-use mathlib.Core.Path.{_≡_, refl, ap, _∙_}
+-- first as the run counts, and its frame is within the limit), run-ends (what its word says of the last tree).
+use mathlib.Core.Path.{_≡_, refl, ap, _∙_, subst}
 use mathlib.Core.Bool.{Bool, true, false}
-use Prim.Native.Nat.{ℕ, zero, suc, _+_, _≤_}
+use Prim.Native.Nat.{ℕ, zero, suc, _+_, _≤_, _<_}
 use native.Mathlib.Omega.{arith}
 use lib.ListN.{length}
 use lib.Dec.{ltb}
-use borrow.Author.Tests.{ltb-false}
+use borrow.Author.Tests.{ltb-true, ltb-false}
 use Rattle.frame.specs.Trees.{Tree, nodes}
 use Rattle.frame.specs.Tags.{pick}
 use Rattle.frame.specs.Encoding.{enc}
 use Rattle.frame.specs.Reading.{frameLimit}
 use Rattle.step.specs.Step.{Stepped, changed, unchanged, noPlace, stepTree}
 use Rattle.run.specs.Steps.{Steps, none, more}
-use Rattle.run.specs.Run.{First, next, nowhere, orNext, firstFrom, firstStep, Word, FULL, ran, atEnd, goOn, runTree}
+use Rattle.run.specs.Run.{First, next, nowhere, orNext, firstFrom, firstStep, Word, REST, SPENT, FULL, ran, atEnd, goOn, runTree, EndsAs}
 
 pub steps-join : {t u v : Tree} {m n : ℕ} → Steps t m u → Steps u n v → Steps t (m + n) v
 steps-join {n = n} (none t) s = let z : n ≡ 0 + n = omega arith in rw (← z) s
@@ -77,3 +77,31 @@ run-steps (suc budget) n t w m u e = go (firstStep t) refl e (run-steps budget (
         → ((t : Tree) (w : Word) (m : ℕ) (u : Tree) → runTree budget (n + 1) t ≡ ran w m u → Rows (n + 1) t m u) → Rows n t m u
     go (next v) f e ih = on v f (ltb frameLimit (length (enc v))) refl e ih
     go nowhere f e ih = no-row n m t u (cc) (cc)
+
+-- ---- what the word says of the last tree
+module _ (n most : ℕ) (t : Tree) (w : Word) (m : ℕ) (u : Tree) where
+  as-word : (x : Word) → ran x n t ≡ ran w m u → EndsAs x n most t → EndsAs w m most u
+  as-word x e h = let a : x ≡ w = cc in let b : n ≡ m = cc in let c : t ≡ u = cc in rw (← a, ← b, ← c) h
+
+abbrev After : ℕ → ℕ → Type 0
+After budget n = (t : Tree) (w : Word) (m : ℕ) (u : Tree) → runTree budget n t ≡ ran w m u → EndsAs w m (n + budget) u
+
+pub run-ends : (budget n : ℕ) (t : Tree) (w : Word) (m : ℕ) (u : Tree) → runTree budget n t ≡ ran w m u → EndsAs w m (n + budget) u
+unfolding runTree
+run-ends zero n t w m u e = go (firstStep t) refl e
+  where
+    go : (f : First) → firstStep t ≡ f → atEnd f n t ≡ ran w m u → EndsAs w m (n + 0) u
+    go (next v) f e = as-word n (n + 0) t w m u SPENT e (omega arith, (v, f))
+    go nowhere f e = as-word n (n + 0) t w m u REST e f
+run-ends (suc budget) n t w m u e = go (firstStep t) refl e (run-ends budget (n + 1))
+  where
+    on : (v : Tree) → firstStep t ≡ next v → (b : Bool) → ltb frameLimit (length (enc v)) ≡ b
+        → pick b (ran FULL n t) (runTree budget (n + 1) v) ≡ ran w m u → After budget (n + 1) → EndsAs w m (n + suc budget) u
+    on v f true l e ih = as-word n (n + suc budget) t w m u FULL e (omega arith, (v, f, ltb-true frameLimit (length (enc v)) l))
+    on v f false l e ih =
+        let z : n + 1 + budget ≡ n + suc budget = omega arith in
+        subst (λ (i : ℕ). EndsAs w m i u) z (ih v w m u e)
+
+    go : (f : First) → firstStep t ≡ f → goOn f n t (runTree budget (n + 1)) ≡ ran w m u → After budget (n + 1) → EndsAs w m (n + suc budget) u
+    go (next v) f e ih = on v f (ltb frameLimit (length (enc v))) refl e ih
+    go nowhere f e ih = as-word n (n + suc budget) t w m u REST e f

@@ -1,5 +1,6 @@
 -- The run (document 01, "The answer record").
-use Prim.Native.Nat.{ℕ, zero, suc, _+_}
+use mathlib.Core.Path.{_≡_}
+use Prim.Native.Nat.{ℕ, zero, suc, _+_, _<_}
 use mathlib.Core.List.{List, _++_}
 use lib.ListN.{length, drop}
 use lib.Dec.{ltb}
@@ -54,6 +55,14 @@ goOn nowhere n t go = ran REST n t
 unfoldable pub runTree : ℕ → ℕ → Tree → Ran
 runTree zero n t = atEnd (firstStep t) n t
 runTree (suc budget) n t = goOn (firstStep t) n t (runTree budget (n + 1))
+
+-- What each word says of the last tree u, with m steps counted where no more than `most` could be: "REST, no rule applies anywhere; SPENT,
+-- budget used and some rule still applies; FULL, budget left but that first step would pass 4,096 bytes". Said again, apart from the
+-- run, and proved of it (`run-ends`).
+abbrev pub EndsAs : Word → ℕ → ℕ → Tree → Type 0
+EndsAs REST m most u = firstStep u ≡ nowhere
+EndsAs SPENT m most u = (m ≡ most) × ((v : Tree) × (firstStep u ≡ next v))
+EndsAs FULL m most u = (m < most) × ((v : Tree) × (firstStep u ≡ next v) × (frameLimit < length (enc v)))
 
 -- ---- on frames
 pub data RunOutcome : Type 0 where

@@ -7,4 +7,4 @@ use Rattle.step.specs.Step.{changed, stepTree}
 -- u lies n changing steps after t
 pub data Steps : Tree → ℕ → Tree → Type 0 where
   none : (t : Tree) → Steps t 0 t
-  more : (t u v : Tree) (k place n : ℕ) → stepTree t k ≡ changed place u → Steps u n v → Steps t (suc n) v
+  more : (t u v : Tree) (k rule n : ℕ) → stepTree t k ≡ changed rule u → Steps u n v → Steps t (suc n) v

@@ -17,7 +17,7 @@ use Rattle.step.specs.declared.StepAnswer.the-variants.{Changed, Unchang
 
 -- ---- on trees
 pub data Stepped : Type 0 where
-  -- the place of the source that built it, and the whole new tree
+  -- the rule number (docs/RULES.md), and the whole new tree
   changed : ℕ → Tree → Stepped
   unchanged : Stepped
   -- "11. A step's place is no node, or an expression."

@@ -15,7 +15,7 @@ use Rattle.frame.specs.Places.{Ctx}
 use Rattle.frame.specs.Encoding.{enc}
 use Rattle.typing.specs.Typing.{typeOf, element, source}
 use Rattle.typing.specs.TypeExpression.{toExpression}
-use Rattle.rules.specs.Equations.{⊤, ⊥ᵖ, ¬ᵖ, _⇒_, _⇔_, ⋀, ⋁, ∀ᵖ, ∃ᵖ, _≐_, _⊆_, fin, ext, dom, ran, ⋂, ∅, _≐∅, _≐Ty}
+use Rattle.rules.specs.Equations.{⊤, ⊥ᵖ, ¬ᵖ, _⇒_, _⇔_, ⋀, ⋁, ∀ᵖ, ∃ᵖ, _≐_, _⊆_, fin, ext, dom, ran, inters, ∅, _≐∅, _≐Ty}
 use Rattle.templates.specs.Template.{Filling, filled}
 use Rattle.templates.specs.Programs.{templates, among, findRow, template}
 use Rattle.templates.proofs.Onto.{numberOnto, typesOnto, headOnto, onto, allOnto, partOnto, filledOnto, same-bytes}
@@ -71,19 +71,19 @@ sides =
     ∷ gives 42 (λ Γ a b xs. two #Gt a b)
     ∷ gives 43 (λ Γ a b xs. ⋀ (pair (_≐∅ Γ a) (¬ᵖ (_≐∅ Γ b))))
     ∷ gives 44 (λ Γ a b xs. _≐∅ Γ a ⇔ ¬ᵖ (_≐∅ Γ b))
-    ∷ gives 45 (λ Γ a b xs. _≐∅ Γ (⋂ (pair (dom b) a)))
+    ∷ gives 45 (λ Γ a b xs. _≐∅ Γ (inters (pair (dom b) a)))
     ∷ gives 46 (λ Γ a b xs. dom b ⊆ a)
-    ∷ gives 47 (λ Γ a b xs. _≐∅ Γ (⋂ (pair (ran a) b)))
+    ∷ gives 47 (λ Γ a b xs. _≐∅ Γ (inters (pair (ran a) b)))
     ∷ gives 48 (λ Γ a b xs. ran a ⊆ b)
     ∷ gives 49 (λ Γ a b xs. _≐∅ Γ (two #DomRes b a))
-    ∷ gives 50 (λ Γ a b xs. _≐∅ Γ (⋂ (pair (dom a) (dom b))))
+    ∷ gives 50 (λ Γ a b xs. _≐∅ Γ (inters (pair (dom a) (dom b))))
     ∷ gives 51 (λ Γ a b xs. ⋁ (pair (_≐∅ Γ a) (_≐∅ Γ b)))
     ∷ gives 52 (λ Γ a b xs. ⊥ᵖ)
     ∷ gives 53 (λ Γ a b xs. _≐∅ Γ a)
     ∷ gives 54 (λ Γ a b xs. a ⊆ ext (sole (∅ (element (typeOf a Γ)))))
     ∷ gives 55 (λ Γ a b xs. _≐∅ Γ a)
-    ∷ gives 56 (λ Γ a b xs. _≐∅ Γ (⋂ (pair (ran a) (dom b))))
-    ∷ gives 57 (λ Γ a b xs. _≐∅ Γ (⋂ (pair (ran b) (dom a))))
+    ∷ gives 56 (λ Γ a b xs. _≐∅ Γ (inters (pair (ran a) (dom b))))
+    ∷ gives 57 (λ Γ a b xs. _≐∅ Γ (inters (pair (ran b) (dom a))))
     ∷ gives 58 (λ Γ a b xs. _≐∅ Γ a)
     ∷ gives 59 (λ Γ a b xs. ∀ᵖ xs (a ⇒ _≐∅ Γ b))
     ∷ gives 60 (λ Γ a b xs. ⊥ᵖ)

@@ -19,7 +19,7 @@ use Rattle.frame.specs.WellFormed.{TyWf, TysWf, Wf, Wfs, numberIn}
 use Rattle.typing.specs.Typing.{carriedTy, typeOf, typesIn}
 use Rattle.typing.specs.Members.{In, All}
 use Rattle.typing.specs.Identifiers.{
-  identTag, Named, named, identOf, idents, identsIn, givensTy, givensTys, givens, givensIn, agrees, spares, consistent, namesAgree
+  identTag, Named, named, identOf, idents, identsIn, givensTy, givensTys, givens, givensIn, agrees, agreesWithGivens, consistent, namesAgree
 }
 use Rattle.typing.specs.Signature.{signed, signature}
 use Rattle.typing.specs.Accepted.{TyOk, TysOk, HeadOk, Accepted, AcceptedAll}
@@ -157,20 +157,20 @@ module _ (σ : ℕ → Ty) where
       both-of
       (then-or (eqb n m) (sameTy t u) (λ q. same-ty-of t u (e ∙ (ap σ (eqb-true n m q) ∙ sym (h .0))))) (agrees-of n t l e (h .1))
 
-  spares-of : (n : ℕ) (t : Ty) (ms : List ℕ) → t ≡ σ n → All GivenOk ms → spares (named n t) ms ≡ true
-  unfolding spares
-  spares-of n t [] e h = refl
-  spares-of n t (m ∷ ms) e h =
+  agreesWithGivens-of : (n : ℕ) (t : Ty) (ms : List ℕ) → t ≡ σ n → All GivenOk ms → agreesWithGivens (named n t) ms ≡ true
+  unfolding agreesWithGivens
+  agreesWithGivens-of n t [] e h = refl
+  agreesWithGivens-of n t (m ∷ ms) e h =
       both-of
       (then-or (eqb n m) (sameTy t (pow (given m))) (λ q. same-ty-of t (pow (given m)) (e ∙ (ap σ (eqb-true n m q) ∙ h .0))))
-          (spares-of n t ms e (h .1))
+          (agreesWithGivens-of n t ms e (h .1))
 
   consistent-of : (l all : List Named) (ms : List ℕ) → All NameOk l → All NameOk all → All GivenOk ms → consistent l all ms ≡ true
   unfolding consistent
   consistent-of [] all ms h k s = refl
   consistent-of (named n t ∷ l) all ms h k s =
       both-of (agrees-of n t all (h .0) k)
-      (both-of (spares-of n t ms (h .0) s) (consistent-of l all ms (h .1) k s))
+      (both-of (agreesWithGivens-of n t ms (h .0) s) (consistent-of l all ms (h .1) k s))
 
   pub signed-agree : (t : Tree) → Signed t → namesAgree t ≡ true
   unfolding namesAgree
@@ -197,30 +197,30 @@ agree-signed (named m u ∷ l) n t h i =
     by-test n m (λ (v : Ty). t ≡ v) u (signed l n) (λ q. same-ty t u (or-then (eqb n m) (sameTy t u) (k .0) (eq-eqb n m q)))
     (λ d. agree-signed l n t (k .1) (later n m t u l i d))
 
-spare-given : (m n : ℕ) (t : Ty) (ms : List ℕ) → spares (named m t) ms ≡ true → n ≡ m → In n ms → t ≡ pow (given n)
-unfolding spares
+spare-given : (m n : ℕ) (t : Ty) (ms : List ℕ) → agreesWithGivens (named m t) ms ≡ true → n ≡ m → In n ms → t ≡ pow (given n)
+unfolding agreesWithGivens
 spare-given m n t [] h q i = absurd i
 spare-given m n t (o ∷ ms) h q (inl e) =
     same-ty t (pow (given o)) (or-then (eqb m o) (sameTy t (pow (given o)))
-          (both-true (not (eqb m o) || sameTy t (pow (given o))) (spares (named m t) ms) h .0) (eq-eqb m o (sym q ∙ e)))
+          (both-true (not (eqb m o) || sameTy t (pow (given o))) (agreesWithGivens (named m t) ms) h .0) (eq-eqb m o (sym q ∙ e)))
     ∙ ap (λ (x : ℕ). pow (given x)) (sym e)
 spare-given m n t (o ∷ ms) h q (inr i) =
-    spare-given m n t ms (both-true (not (eqb m o) || sameTy t (pow (given o))) (spares (named m t) ms) h .1) q i
+    spare-given m n t ms (both-true (not (eqb m o) || sameTy t (pow (given o))) (agreesWithGivens (named m t) ms) h .1) q i
 
 given-signed : (l all : List Named) (ms : List ℕ) (n : ℕ) → consistent l all ms ≡ true → In n ms → signed l n ≡ pow (given n)
 unfolding consistent signed
 given-signed [] all ms n h i = refl
 given-signed (named m u ∷ l) all ms n h i =
-    let k = both-true (agrees (named m u) all) (spares (named m u) ms && consistent l all ms) h in
-    let j = both-true (spares (named m u) ms) (consistent l all ms) (k .1) in
+    let k = both-true (agrees (named m u) all) (agreesWithGivens (named m u) ms && consistent l all ms) h in
+    let j = both-true (agreesWithGivens (named m u) ms) (consistent l all ms) (k .1) in
     by-test n m (λ (v : Ty). v ≡ pow (given n)) u (signed l n) (λ q. spare-given m n u ms (j .0) q i) (λ d. given-signed l all ms n (j .1) i)
 
 consistent-in : (l all : List Named) (ms : List ℕ) (a : Named) → consistent l all ms ≡ true → In a l → agrees a all ≡ true
 unfolding consistent
 consistent-in [] all ms a h i = absurd i
-consistent-in (b ∷ l) all ms a h (inl e) = rw e (both-true (agrees b all) (spares b ms && consistent l all ms) h .0)
+consistent-in (b ∷ l) all ms a h (inl e) = rw e (both-true (agrees b all) (agreesWithGivens b ms && consistent l all ms) h .0)
 consistent-in (b ∷ l) all ms a h (inr i) =
-    consistent-in l all ms a (both-true (spares b ms) (consistent l all ms) (both-true (agrees b all) (spares b ms && consistent l all ms) h .1) .1) i
+    consistent-in l all ms a (both-true (agreesWithGivens b ms) (consistent l all ms) (both-true (agrees b all) (agreesWithGivens b ms && consistent l all ms) h .1) .1) i
 
 name-signed : (l : List Named) (ms : List ℕ) → consistent l l ms ≡ true → (a : Named) → In a l → NameOk (signed l) a
 name-signed l ms h (named n t) i = agree-signed l n t (consistent-in l l ms (named n t) h i) i

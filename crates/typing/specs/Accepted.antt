@@ -1,7 +1,7 @@
 -- What it is for a tree to be accepted, said at each node: the numbers 3 to 10 can't arise. Of trees whose bytes are no more than a frame
 -- may have, `check` accepts just these (typing/proofs); the rules keep it (rules/proofs).
 --
--- σ gives each identifier number its type. Number 9 is turned down exactly where there is no such σ.
+-- σ gives each identifier number its type. A tree gets number 9 exactly where no such σ exists.
 use mathlib.Core.Path.{_≡_}
 use mathlib.Core.Bool.{true}
 use mathlib.Core.List.{List, [], _∷_}

@@ -11,7 +11,7 @@ use Rattle.frame.specs.Reading.{numberAt, tyCase, readTy, readTys, withNumber, 
 use Rattle.frame.specs.Sameness.{sameTy, sameTys}
 use Rattle.typing.specs.Typing.{typeAt, typeOf, nodeTyped, typedTree}
 use Rattle.typing.specs.Binding.{closedTree}
-use Rattle.typing.specs.Identifiers.{givensTy, givensTys, idents, givens, agrees, spares, consistent, namesAgree}
+use Rattle.typing.specs.Identifiers.{givensTy, givensTys, idents, givens, agrees, agreesWithGivens, consistent, namesAgree}
 use Rattle.typing.specs.Check.{Checked, accepted, refused, checkTree, check}
 
 data Case : Type 0 where
@@ -69,5 +69,5 @@ number (refused n) = n
 refusals : map (λ (c : Case). number (check (frameIn c))) cases ≡ map expected cases
 unfolding digitOf readLine bytes times lookup classOf formAt encNumber encTy numberAt tyCase readTy readTys withNumber withForm
     readHead readMany readNode parse sameTy sameTys typeAt typeOf nodeTyped typedTree closedTree givensTy givensTys idents givens agrees
-    spares consistent namesAgree checkTree check cases
+    agreesWithGivens consistent namesAgree checkTree check cases
 refusals = refl

@@ -58,14 +58,15 @@ unfoldable pub agrees : Named → List Named → Bool
 agrees a [] = true
 agrees (named n t) (named m u ∷ others) = (not (eqb n m) || sameTy t u) && agrees (named n t) others
 
--- "or is the number of a given set [..] and its type isn't the power of that set": it is, if it has the number
-unfoldable pub spares : Named → List ℕ → Bool
-spares a [] = true
-spares (named n t) (m ∷ ms) = (not (eqb n m) || sameTy t (pow (given m))) && spares (named n t) ms
+-- "or is the number of a given set [..] and its type isn't the power of that set": if the identifier has a given set's number, its type is
+-- that set's power
+unfoldable pub agreesWithGivens : Named → List ℕ → Bool
+agreesWithGivens a [] = true
+agreesWithGivens (named n t) (m ∷ ms) = (not (eqb n m) || sameTy t (pow (given m))) && agreesWithGivens (named n t) ms
 
 unfoldable pub consistent : List Named → List Named → List ℕ → Bool
 consistent [] all ms = true
-consistent (a ∷ bs) all ms = agrees a all && (spares a ms && consistent bs all ms)
+consistent (a ∷ bs) all ms = agrees a all && (agreesWithGivens a ms && consistent bs all ms)
 
 unfoldable pub namesAgree : Tree → Bool
 namesAgree t = consistent (idents t) (idents t) (givens t)

@@ -8,7 +8,7 @@ use Rattle.frame.specs.Trees.{Tree}
 use Rattle.frame.specs.Tags.{pick}
 use Rattle.typing.specs.Identifiers.{Named, named, idents}
 
--- the type of the first of these that has the number n; a number that none has is that of a given set
+-- the type of the first of these that has the number n; a number that none has gets the type that 9 asks of a given set's identifier
 unfoldable pub signed : List Named → ℕ → Ty
 signed [] n = pow (given n)
 signed (named m u ∷ others) n = pick (eqb n m) u (signed others n)

@@ -1,6 +1,6 @@
 -- Typing (document 01, number 10: "A node breaks a typing rule or its type passes 64 bytes."; "Source decides on rule order and
 -- built tree; the Event-B Mathematical Language on meaning and typing."). An operator's rule is two lines: `wants`, the operand
--- types that it asks for, as far as the operands themselves don't leave them open, and `result`, the type of the node. A node is
+-- types that it asks for, where a type that the rule leaves open is read off the operands' own types, and `result`, the type of the node. A node is
 -- well typed if its operands have the types that it wants. Where an operand has not the form that a rule looks for (`element` of
 -- no power, `first` of no product) BOOL stands in: then `wants` asks for a type that the operand has not.
 use Prim.Native.Nat.{ℕ, zero, suc}

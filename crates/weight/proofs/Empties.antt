@@ -13,7 +13,7 @@ use Rattle.frame.specs.Operators.{#SRel, #STRel, #CProd, #DomRes, #RanRes, #DPr
 use Rattle.frame.specs.Places.{Ctx}
 use Rattle.typing.specs.Accepted.{Accepted}
 use Rattle.rules.specs.Equations.{
-  over, Subtracted, ext, _∈ᵖ_, ¬ᵖ, _⊆_, ⋂, ⋀, dom, ran, _≐∅, «SIMP_SETENUM_EQUAL_EMPTY», «SIMP_BINTER_SING_EQUAL_EMPTY»,
+  over, Subtracted, ext, _∈ᵖ_, ¬ᵖ, _⊆_, inters, ⋀, dom, ran, _≐∅, «SIMP_SETENUM_EQUAL_EMPTY», «SIMP_BINTER_SING_EQUAL_EMPTY»,
   «SIMP_BINTER_SETMINUS_EQUAL_EMPTY», «SIMP_BUNION_EQUAL_EMPTY», «SIMP_SETMINUS_EQUAL_EMPTY», «SIMP_CPROD_EQUAL_EMPTY»,
   «SIMP_UPTO_EQUAL_EMPTY», «SIMP_SREL_EQUAL_EMPTY», «SIMP_STREL_EQUAL_EMPTY», «SIMP_DOMRES_EQUAL_EMPTY»,
   «SIMP_DOMSUB_EQUAL_EMPTY», «SIMP_RANRES_EQUAL_EMPTY», «SIMP_RANSUB_EQUAL_EMPTY», «SIMP_RELIMAGE_EQUAL_EMPTY»,
@@ -48,7 +48,7 @@ unfolding weight scaleOf scaleIn weigh
 all-empty Γ ks h = omega (arith, empty-sum Γ ks, twos-sum ks h)
 
 single-falls : (a : Tree) (ks left right : Forest) → ks ≡ append left (cons (ext (sole a)) right)
-    → weight (¬ᵖ (a ∈ᵖ over #BInter (append left right))) < 2 * weight (⋂ ks)
+    → weight (¬ᵖ (a ∈ᵖ over #BInter (append left right))) < 2 * weight (inters ks)
 unfolding weight scaleOf scaleIn weigh
 single-falls a ks left right e =
     let rest = append left right in
@@ -56,7 +56,7 @@ single-falls a ks left right e =
     (omega (arith, mul-le-mul-left (weight a) (over-light #BInter rest refl), mul-le-mul-left (weight a) (product-positive rest)))
 
 minus-falls : (ks ls : Forest) (b : Tree) (ms : Forest) → Subtracted ks ls (cons b ms)
-    → weight (over #BInter ls ⊆ over #BUnion (cons b ms)) < 2 * weight (⋂ ks)
+    → weight (over #BInter ls ⊆ over #BUnion (cons b ms)) < 2 * weight (inters ks)
 unfolding weight scaleOf scaleIn weigh
 minus-falls ks ls b ms d =
     omega (
@@ -79,7 +79,7 @@ unfolding weight scaleOf scaleIn weigh
 ran-weight r = omega arith
 
 meet-falls : (p q s t : Tree) → (2 ≤ weight p) × (2 ≤ weight q) → weight s ≡ weight p + 1 → weight t ≡ weight q + 1
-    → weight (⋂ (pair s t)) < 2 * (weight p * weight q) + 3
+    → weight (inters (pair s t)) < 2 * (weight p * weight q) + 3
 unfolding weight scaleOf scaleIn weigh
 meet-falls p q s t h es et = rw (es, et) (omega (arith, both-fall h))
 
