@@ -1,8 +1,9 @@
 // Standard input to standard output, in large pieces. What is written for what is read is `streaming`'s: no contract can
-// speak of what a file holds, so those here say only that the loops are safe and end.
+// speak of what a file holds, so those here say which line goes on after a piece, and that the loops are safe and end.
 ghost use Prim.Native.Nat.{_≤_};
 ghost use lib.ListN.{length};
 ghost use Rattle.answers.specs.Posts.{longest};
+ghost use Rattle.console.specs.Posts.{PiecePost, ReadPost};
 use libc::STDIN_FILENO;
 use libc::STDOUT_FILENO;
 use lines::LineState;
@@ -19,6 +20,7 @@ struct Turn {
 // The answers of the lines that end in the piece. Where the output takes no more, nothing more is read or written.
 fn write_answers(state: LineState, piece: &[u8], buf: &mut [u8; 4096], out: &mut [u8]) -> Turn
     requires { ⌜ longest ≤ length (now out) ⌝ }
+    ensures { λ r. ⌜ PiecePost (now (piece .entry)) state (now (buf .entry)) (r .line) (r .more) (now (buf .exit)) ⌝ }
 {
     let mut line = state;
     let mut at: usize = 0;
@@ -43,6 +45,7 @@ fn write_answers(state: LineState, piece: &[u8], buf: &mut [u8; 4096], out: &mut
 // One piece of the input, as large as one read gives.
 fn read_piece(state: LineState, input: &mut [u8], buf: &mut [u8; 4096], out: &mut [u8]) -> Turn
     requires { ⌜ longest ≤ length (now out) ⌝ }
+    ensures { λ r. ⌜ ReadPost (now (input .exit)) state (now (buf .entry)) (r .line) (r .more) (now (buf .exit)) ⌝ }
 {
     let got = libc::read(STDIN_FILENO, input);
     if got <= 0 {

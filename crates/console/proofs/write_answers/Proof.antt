@@ -1,8 +1,10 @@
 use borrow.Author.Needs.{needs}
-use Rattle.console.proofs.Parts.{part-long}
+use Rattle.console.specs.Posts.{Carried}
+use Rattle.console.proofs.Pieces.{part-long, carried-none, carried-more, carried-all}
 use native.Mathlib.Omega.{arith}
 use lib.Seq.{length-take-le}
-use lib.ListN.{length}
+use Rattle.frame.proofs.Inversion.{true-not}
+use lib.ListN.{length, take}
 use mathlib.Core.Path.{_≡_, refl, sym}
 use denote.Ref.{now}
 use Prim.Native.Nat.{_-_, _≤_}
@@ -10,13 +12,13 @@ use Rattle.console.proofs.write_answers.Statement.{statement}
 use Rattle.console.proofs.write_answers.Tie as tie
 
 abbrev Inv-loop : tie.InvT-loop
-Inv-loop piece buf₀ out₀ line₀ at₀ buf out line at = (at ≤ length piece) × (length out ≡ length out₀)
+Inv-loop piece buf₀ out₀ line₀ at₀ buf out line at = (at ≤ length piece) × (length out ≡ length out₀) × Carried (take at piece) line₀ buf₀ line buf
 
 abbrev μ-loop : tie.MeasureT-loop
 μ-loop piece buf₀ out₀ line₀ at₀ buf out line at = length piece - at
 
 loop-holds : tie.Need-loop-holds Inv-loop μ-loop
-loop-holds c = (omega arith, refl)
+loop-holds c = (omega arith, refl, carried-none (now (c .before .before .args .piece)) _ _)
 
 sub-feed : tie.Need-sub-feed Inv-loop μ-loop
 sub-feed c = omega arith
@@ -46,7 +48,7 @@ same-length : tie.Need-same-length Inv-loop μ-loop
 same-length c = omega arith
 
 returns : tie.Need-returns Inv-loop μ-loop
-returns c = tt
+returns c e = absurd (true-not e)
 
 add-at : tie.Need-add-at Inv-loop μ-loop
 add-at c =
@@ -68,13 +70,16 @@ loop-again c =
     let c₁ = c .before .before .before .before .before .before .before in
     let c₂ = c₁ .before .before .before .before .before in
     let c₃ = c₂ .before .before .before in
-    (omega (arith, c₁ .feed .ensures .within, part-long (now (c₃ .args .piece)) (c₂ .loop .at)), omega arith)
+    (omega (arith, c₁ .feed .ensures .within, part-long (now (c₃ .args .piece)) (c₂ .loop .at)), omega arith,
+      carried-more _ _ _ _ _ _ (c₂ .loop .inv .2) _ _ _ _ _ _ (c₁ .feed .ensures))
 
 same-length-2 : tie.Need-same-length-2 Inv-loop μ-loop
 same-length-2 c = omega arith
 
 returns-2 : tie.Need-returns-2 Inv-loop μ-loop
-returns-2 c = tt
+returns-2 c e =
+    let c₁ = c .before .before .before .before in
+    carried-all (now (c₁ .args .piece)) _ _ (c .before .loop .at) _ _ (c .before .loop .inv .2) (omega arith)
 
 pub write-answers-spec : {M : Type 1} → statement M
 write-answers-spec =
