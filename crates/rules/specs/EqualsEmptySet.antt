@@ -5,8 +5,8 @@ use Rattle.frame.specs.Trees.{head, Tree, node, Forest, nil, cons, count, leaf,
 use Rattle.frame.specs.Tags.{pick}
 use Rattle.frame.specs.Operators.{
   #SetExt, #In, #Gt, #SubsetEq, #SRel, #STRel, #SetMinus, #CProd, #DProd, #PProd, #DomRes, #DomSub, #RanRes, #RanSub, #UpTo,
-  #RelImage, #LImp, #LEqv, #BUnion, #BInter, #BComp, #FComp, #Ovr, #LAnd, #LOr, #Natural, #Natural1, #EmptySet, #KPrj1Gen,
-  #KPrj2Gen, #KIdGen, #BFalse, #Not, #Pow, #Pow1, #KUnion, #KDom, #KRan, #Converse, #QUnion, #Forall
+  #RelImage, #LImp, #LEqv, #BUnion, #BInter, #BComp, #FComp, #Ovr, #LAnd, #LOr, #Natural, #Natural1, #EmptySet, #BFalse, #Not,
+  #Pow, #Pow1, #KUnion, #KDom, #KRan, #Converse, #QUnion, #Forall
 }
 use Rattle.frame.specs.Places.{Ctx, push}
 use Rattle.typing.specs.Typing.{typeOf}
