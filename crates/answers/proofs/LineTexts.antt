@@ -60,7 +60,7 @@ said a w k l last e (ended v m ys) h =
     let s = same-word w v k l m (length ys) (sym e ∙ h .answer) in
     let t : take l last ≡ ys = ap₂ (λ (i : ℕ) (z : List ℕ). take i z) (s .2) (h .output) ∙ take-at ys (drop (length ys) (h .old)) (length ys) refl in
     let n : length last ≡ length ys + length (drop (length ys) (h .old)) = ap (λ (z : List ℕ). length z) (h .output) ∙ length-append ys
-        (drop (length ys) (h .old)) in
+    (drop (length ys) (h .old)) in
     record {
       is = subst (λ (u : Word). ended v m ys ≡ ended u k (take l last)) (sym (s .0)) (ap₂ (λ (i : ℕ) (z : List ℕ). ended v i z) (sym (s .1)) (sym t));
       few = omega (arith, s .1, h .small .0);
@@ -82,8 +82,15 @@ module _ (a : RunAnswer) (last : List ℕ) (w : Word) (k l : ℕ) (e : a ≡ wor
     where
       rest : (word : List ℕ) → length word ≤ 5 → length (endedText word k (take l last)) ≤ longest
       rest word h =
-          omega (arith, ended-length word k (take l last), write-length (take l last), length-take-le l last
-                (of-pre .fits), of-pre .short, digits-5 k (omega (arith, of-pre .few)))
+          omega (
+            arith,
+            ended-length word k (take l last),
+            write-length (take l last),
+            length-take-le l last
+                (of-pre .fits),
+            of-pre .short,
+            digits-5 k (omega (arith, of-pre .few)),
+          )
 
       go : (w : Word) → length (endedText (wordText w) k (take l last)) ≤ longest
       go REST = rest (wordText REST) (omega arith)
@@ -196,7 +203,7 @@ module _ (st : LineState) (b o : List ℕ) (n : ℕ) (p : List ℕ) (m : ℕ) (r
     puts = λ held hs. (
         let f = framed held k (sym e ∙ end held (hs .state)) in
         let w : b ≡ f .s ++ drop (length (f .s)) (hs .old) = hs .buffer ∙ line-buffer held (f .s) (hs .old) (f .is) (f .fits)
-            (omega (arith, hs .long, f .fits)) in
+        (omega (arith, hs .long, f .fits)) in
         let t : take k b ≡ f .s = ap (λ (x : List ℕ). take k x) w ∙ take-at (f .s) (drop (length (f .s)) (hs .old)) k (sym (f .long)) in
         let l : k ≤ length b = omega (arith, f .long, ap (λ (x : List ℕ). length x) w, length-append (f .s) (drop (length (f .s)) (hs .old))) in
         let x : lineOutcome (readLine held) ≡ run (take k b) budget lent = ap lineOutcome (f .is) ∙ ap (λ (y : List ℕ). run y budget lent) (sym t) in

@@ -32,9 +32,11 @@ mutual
   unfolding LeavesAt nodes
 
   pub leaves-same : (t : Tree) (Γ : Ctx) (k : ℕ) (s l m : List ℕ) (j : ℕ) → k + nodes t ≤ j → Below j l m → LeavesAt t Γ k s l → LeavesAt t Γ k s m
-  leaves-same (node (head g n us) ks) Γ k s l m j le h a =
-      (leaf-same s (eqb g boundTag) (getD l k 0) (getD m k 0) (typeAt Γ n) (sym (h k (omega arith))) (a .0), leaves-same-in ks
-            (under g us Γ) (suc k) s l m j (omega arith) h (a .1))
+  leaves-same (node (head g n us) ks) Γ k s l m j le h a = (
+    leaf-same s (eqb g boundTag) (getD l k 0) (getD m k 0) (typeAt Γ n) (sym (h k (omega arith))) (a .0),
+    leaves-same-in ks
+        (under g us Γ) (suc k) s l m j (omega arith) h (a .1),
+  )
 
   pub leaves-same-in : (ts : Forest) (Γ : Ctx) (k : ℕ) (s l m : List ℕ) (j : ℕ) → k + nodesIn ts ≤ j → Below j l m
       → LeavesIn ts Γ k s l → LeavesIn ts Γ k s m
@@ -90,7 +92,7 @@ high-form g h = go (ltb g 902) refl
   where
     go : (b : Bool) → ltb g 902 ≡ b → (layoutKind (formOf g .layout) ≡ 3) ⊎ (formOf g .carried ≡ 0)
     go true e = on (or-either (eqb (layoutKind (formOf g .layout)) 3) (eqb (formOf g .carried) 0)
-          (rw (le-ltb g 801 h) at (every-tag binderTest 902 binder-tags g (ltb-true g 902 e))))
+        (rw (le-ltb g 801 h) at (every-tag binderTest 902 binder-tags g (ltb-true g 902 e))))
       where
         on : (eqb (layoutKind (formOf g .layout)) 3 ≡ true) ⊎ (eqb (formOf g .carried) 0 ≡ true)
             → (layoutKind (formOf g .layout) ≡ 3) ⊎ (formOf g .carried ≡ 0)

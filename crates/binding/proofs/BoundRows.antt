@@ -105,7 +105,7 @@ module _ (s : List ℕ) (n : ℕ) (a b : Bool) (at depth k : ℕ) (b₀ l₀ : L
       kids-no er = record {
         by = λ ts Γ q i o. (let v = parts ts q i in
             rw (v .is) (walk-stop s (v .first) (v .rest) Γ depth k q (v .mid) b₀ l₀ b₁ l₁
-                  (subst (Walk s (v .first) Γ depth k (v .mid) b₀ l₀ b₁ l₁) er (post .by (v .first) Γ (v .mid) (v .one) o))));
+            (subst (Walk s (v .first) Γ depth k (v .mid) b₀ l₀ b₁ l₁) er (post .by (v .first) Γ (v .mid) (v .one) o))));
       }
 
       module _ (p j : ℕ) (er : r₁ ≡ Ends p j) where
@@ -131,7 +131,7 @@ module _ (s : List ℕ) (n : ℕ) (a b : Bool) (at depth k : ℕ) (b₀ l₀ : L
             let g = y .opened in
             let m = y .place in
             let others : KidsAt s (kindsFor (n - 1) b b) p (v .rest) (h .2) = subst
-                (λ (i : ℕ). KidsAt s (kindsFor (n - 1) b b) i (v .rest) (h .2)) z₀ (v .others) in (
+            (λ (i : ℕ). KidsAt s (kindsFor (n - 1) b b) i (v .rest) (h .2)) z₀ (v .others) in (
               omega arith,
               record {
                 fits = y .fits;
@@ -153,10 +153,10 @@ module _ (s : List ℕ) (n : ℕ) (a b : Bool) (at depth k : ℕ) (b₀ l₀ : L
                 let w = over ts Γ q v o in
                 let x = w .2 in
                 let others : KidsAt s (kindsFor (n - 1) b b) p (v .rest) q = subst
-                    (λ (i : ℕ). KidsAt s (kindsFor (n - 1) b b) i (v .rest) q) (w .0) (v .others) in
+                (λ (i : ℕ). KidsAt s (kindsFor (n - 1) b b) i (v .rest) q) (w .0) (v .others) in
                 let u = rest .by (v .rest) Γ q others (opened-below s Γ b₀ b₁ depth (x .kept) o) in
                 let z : WalkAll s (v .rest) Γ depth (k + nodes (v .first)) q b₁ l₁ b₂ l₂ r = subst
-                    (λ (i : ℕ). WalkAll s (v .rest) Γ depth i q b₁ l₁ b₂ l₂ r) (sym (w .1)) u in
+                (λ (i : ℕ). WalkAll s (v .rest) Γ depth i q b₁ l₁ b₂ l₂ r) (sym (w .1)) u in
                 rw (v .is) (walk-cons s (v .first) (v .rest) Γ depth k q (v .mid) b₀ l₀ b₁ l₁ b₂ l₂ r x z)
 
 -- ---- binding_ok

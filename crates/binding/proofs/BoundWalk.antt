@@ -61,8 +61,11 @@ closed-other g n us ks Γ d = rw (ne-eqb g boundTag d)
 leaves-other : (g n : ℕ) (us : List Ty) (ks : Forest) (Γ : Ctx) (k : ℕ) (s l : List ℕ) → (g ≡ boundTag → ⊥)
     → LeavesIn ks (under g us Γ) (suc k) s l → LeavesAt (node (head g n us) ks) Γ k s l
 unfolding LeavesAt
-leaves-other g n us ks Γ k s l d a = (subst (λ (b : Bool). pick {X = Type 0} b (TyAt s (getD l k 0) (typeAt Γ n)) (Unit {0}))
-      (sym (ne-eqb g boundTag d)) tt, a)
+leaves-other g n us ks Γ k s l d a = (
+  subst (λ (b : Bool). pick {X = Type 0} b (TyAt s (getD l k 0) (typeAt Γ n)) (Unit {0}))
+      (sym (ne-eqb g boundTag d)) tt,
+  a,
+)
 
 module _ (g n : ℕ) (us : List Ty) (ks : Forest) (Γ : Ctx) (d : g ≡ boundTag → ⊥) (s : List ℕ) (depth inside k q : ℕ)
     (b₀ l₀ b₁ b₂ l₂ : List ℕ) (r : Bound) where
@@ -134,14 +137,14 @@ module _ (s : List ℕ) (g n : ℕ) (us : List Ty) (Γ : Ctx) (is : g ≡ boundT
   -- it has one
   walk-leaf : n < depth → k < 2048
       → Walked (closedTree (node (head g n us) nil) Γ) (LeavesAt (node (head g n us) nil) Γ k s) depth k
-          (k + nodes (node (head g n us) nil)) q b l b (set l k (getD b (depth - 1 - n) 0)) (Ends q (k + 1))
+      (k + nodes (node (head g n us) nil)) q b l b (set l k (getD b (depth - 1 - n) 0)) (Ends q (k + 1))
   unfolding nodes
   walk-leaf lt r =
       let v : ℕ = getD b (depth - 1 - n) 0 in
       let z = opened-length s Γ b depth o in
       let c = closed-some g n us Γ is (omega arith) in
       let w : TyAt s (getD (set l k v) k 0) (typeAt Γ n) = subst (λ (i : ℕ). TyAt s i (typeAt Γ n))
-          (sym (getD-set-same l k v 0 (omega arith))) (opened-at s Γ b depth o n lt) in
+      (sym (getD-set-same l k v 0 (omega arith))) (opened-at s Γ b depth o n lt) in
       record {
         answer = sym (ap (λ (d : Bool). boundAnswer d q (k + 1)) c);
         leaves = λ f. leaves-some g n us Γ k s (set l k v) w;
@@ -191,7 +194,7 @@ module _ (s : List ℕ) (e : Sort) (at depth k : ℕ) (b₀ l₀ : List ℕ) (x 
         index-none : depth ≤ n → BoundPost s e at depth k b₀ l₀ b₀ l₀ Refused
         index-none le = record {
           by = λ t Γ q i o. (let v = seen t q i in to-view t Γ q v b₀ l₀ Refused
-                (walk-none s g n (v .us) Γ is depth k q b₀ l₀ (y .binders-size) (y .leaves-size) o (v .ks) le));
+              (walk-none s g n (v .us) Γ is depth k q b₀ l₀ (y .binders-size) (y .leaves-size) o (v .ks) le));
         }
 
         leaf-end : (t : Tree) (q : ℕ) (v : View s e at t q g n tp p m a b) → (v .ks ≡ nil) × (p ≡ q)
@@ -210,7 +213,7 @@ module _ (s : List ℕ) (e : Sort) (at depth k : ℕ) (b₀ l₀ : List ℕ) (x 
             at-leaf t Γ q v o =
                 let z = leaf-end t q v in
                 let w : Walk s (node (head g n (v .us)) nil) Γ depth k q b₀ l₀ b₀ (set l₀ k (getD b₀ (depth - 1 - n) 0))
-                    (Ends q (k + 1)) = walk-leaf s g n (v .us) Γ is depth k q b₀ l₀ (y .binders-size) (y .leaves-size) o lt r in
+                (Ends q (k + 1)) = walk-leaf s g n (v .us) Γ is depth k q b₀ l₀ (y .binders-size) (y .leaves-size) o lt r in
                 rw (z .0, z .1) w
 
         pub node-leaf : k < 2048 → (l₁ : List ℕ) (r : Bound) → LeafPost depth n k p b₀ l₀ l₁ r → BoundPost s e at depth k b₀ l₀ b₀ l₁ r
@@ -237,15 +240,22 @@ module _ (s : List ℕ) (e : Sort) (at depth k : ℕ) (b₀ l₀ : List ℕ) (x 
               let f = entered (h .0) (h .2) v in
               let c = y .opened in
               let d = y .place in
-              let z = f .1 in
-              (record { fits = y .fits; within = w .2; opened = omega (arith, tys-long (v .us), v .top .types .long); place = omega arith;
-                      binders-size = op .size; leaves-size = y .leaves-size },
-                    (v .ks, under g (v .us) (h .1), h .2, v .below, f .2 (h .1) (h .4)))
+              let z = f .1 in (
+                record {
+                  fits = y .fits;
+                  within = w .2;
+                  opened = omega (arith, tys-long (v .us), v .top .types .long);
+                  place = omega arith;
+                  binders-size = op .size;
+                  leaves-size = y .leaves-size;
+                },
+                (v .ks, under g (v .us) (h .1), h .2, v .below, f .2 (h .1) (h .4)),
+              )
 
           pub node-kids : (b₂ l₂ : List ℕ) (r : Bound) → BoundKids s (kindsFor m a b) p inside (k + 1) b₁ l₀ b₂ l₂ r
               → BoundPost s e at depth k b₀ l₀ b₂ l₂ r
           node-kids b₂ l₂ r w = record {
             by = λ t Γ q i o. (let v = seen t q i in let f = entered t q v in
                 to-view t Γ q v b₂ l₂ r (walk-node g n (v .us) (v .ks) Γ ne s depth inside k q b₀ l₀ b₁ b₂ l₂ r (f .0) (op .kept)
-                      (w .by (v .ks) (under g (v .us) Γ) q (v .below) (f .2 Γ o))));
+                (w .by (v .ks) (under g (v .us) Γ) q (v .below) (f .2 Γ o))));
           }

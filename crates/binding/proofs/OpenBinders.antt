@@ -120,8 +120,8 @@ module _ (s : List ℕ) (at end : ℕ) (l : at < end) where
               n ∙ ap (λ (ts : List Ty). depth + length ts) (sym (v .is)),
               λ Γ q.
                   subst (λ (ts : List Ty). Opened s (push ts Γ) c m) (sym (v .is))
-                      (f .1 (v .u ∷ Γ) (subst (Opened s (v .u ∷ Γ) (set b depth at)) y
-                          (opened-push s Γ b depth at (v .u) k (v .stands) q))),
+                  (f .1 (v .u ∷ Γ) (subst (Opened s (v .u ∷ Γ) (set b depth at)) y
+                  (opened-push s Γ b depth at (v .u) k (v .stands) q))),
             )
 
 pub open-none : (s : List ℕ) (at end depth : ℕ) (b : List ℕ) → end ≤ at → length b ≡ 4096 → OpenPost s at end depth b b depth

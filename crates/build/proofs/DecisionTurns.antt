@@ -39,8 +39,16 @@ module _ (k : ℕ) (kept : List ℕ) (d : Decision) (s : List ℕ) (n : ℕ) (st
 
     fill-at : (t : Tree) (c : Change) (m : FixedMeans t place pattern first second binder c)
         → FillAt t pattern first second binder (m .Δ) (m .a) (m .b) (m .us)
-    fill-at t c m = record { at-first = m .at-first; at-second = m .at-second; Θ = m .Θ; g = m .g; x = m .n; ks = m .ks;
-          at-binder = m .at-binder; bound = m .bound }
+    fill-at t c m = record {
+      at-first = m .at-first;
+      at-second = m .at-second;
+      Θ = m .Θ;
+      g = m .g;
+      x = m .n;
+      ks = m .ks;
+      at-binder = m .at-binder;
+      bound = m .bound;
+    }
 
     pub fixed-asked : BuildPre (OfDecision k kept d) s n st nx leaves → FillPre s n st nx leaves pattern first second binder
     fixed-asked p =

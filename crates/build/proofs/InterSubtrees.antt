@@ -91,8 +91,8 @@ row-before k c (cons w left) right h =
     let z : eqb c k ≡ false = ne-eqb c k (λ e. omega arith) in
     let y : c + nodes w + nodesIn left ≡ c + (nodes w + nodesIn left) = omega arith in
     rw z (ap (λ (l : List ℕ). enc w ++ l) (row-before k (c + nodes w) left right (omega arith) ∙ ap
-            (λ (i : ℕ). encs left ++ rowOf (Besides k) i right) y) ∙ sym
-          (append-assoc (enc w) (encs left) (rowOf (Besides k) (c + (nodes w + nodesIn left)) right)))
+    (λ (i : ℕ). encs left ++ rowOf (Besides k) i right) y) ∙ sym
+    (append-assoc (enc w) (encs left) (rowOf (Besides k) (c + (nodes w + nodesIn left)) right)))
 
 row-behind : (k c : ℕ) (right : Forest) → k < c → rowOf (Besides k) c right ≡ encs right
 unfolding rowOf enc
@@ -109,7 +109,7 @@ row-besides k c left w right e =
     let a = some-node w in
     let z : eqb (c + nodesIn left) k ≡ true = eq-eqb (c + nodesIn left) k (sym e) in
     row-before k c left (cons w right) (omega arith) ∙ rw z
-        (ap (λ (l : List ℕ). encs left ++ l) (row-behind k (c + nodesIn left + nodes w) right (omega arith)) ∙ sym (encs-append left right))
+    (ap (λ (l : List ℕ). encs left ++ l) (row-behind k (c + nodesIn left + nodes w) right (omega arith)) ∙ sym (encs-append left right))
 
 row-minuends : (c : ℕ) (ks : Forest) → rowOf Minuend c ks ≡ encs (minuends ks)
 unfolding rowOf minuends enc
@@ -148,7 +148,7 @@ module _ (at single : ℕ) (s : List ℕ) (n : ℕ) (st nx leaves : List ℕ) wh
 
   member-at : (t : Tree) (c : Change) → Table s t st nx n → (w : ApartMeans t at single c)
       → (find t [] single ≡ found (under #BInter (w .vs) (w .Ξ)) (many #SetExt (sole (w .a))))
-          × (find t [] (single + 1) ≡ found (under #SetExt [] (under #BInter (w .vs) (w .Ξ))) (w .a))
+      × (find t [] (single + 1) ≡ found (under #SetExt [] (under #BInter (w .vs) (w .Ξ))) (w .a))
   member-at t c tb w =
       let r = inter-row s n st nx t tb at (w .Ξ) (w .n) (w .vs) (operands t c w) (w .at-node) in
       let f = row-at t (at + 1) (under #BInter (w .vs) (w .Ξ)) (w .left) (many #SetExt (sole (w .a))) (w .right) r in
@@ -162,8 +162,12 @@ module _ (at single : ℕ) (s : List ℕ) (n : ℕ) (st nx leaves : List ℕ) wh
   apart-few p = (place-few (p .table) (p .means .at-node), place-few (p .table) (member-at (p .t) (p .c) (p .table) (p .means) .0))
 
   pub apart-member : BuildPre (OfApart at single) s n st nx leaves → PlacedIn s n st nx (single + 1)
-  apart-member p = record { t = p .t; table = p .table; below = find-lt (p .t) [] (single + 1) _ _
-        (member-at (p .t) (p .c) (p .table) (p .means) .1) }
+  apart-member p = record {
+    t = p .t;
+    table = p .table;
+    below = find-lt (p .t) [] (single + 1) _ _
+        (member-at (p .t) (p .c) (p .table) (p .means) .1);
+  }
 
   module _ (m : ℕ) (pm : ChildrenPost s st at m) where
     pub apart-many : BuildPre (OfApart at single) s n st nx leaves → (2 ≤ m) × (m ≤ 255)
@@ -188,14 +192,18 @@ module _ (at single : ℕ) (s : List ℕ) (n : ℕ) (st nx leaves : List ℕ) wh
               let x₃ = h₃ .puts t _ (w .a) tb (member-at t c tb w .1) in
               let x₅ = puts-as o₄ i₄ o₅ i₅ _ _ (row-besides single (at + 1) (w .left) (many #SetExt (sole (w .a))) (w .right) (w .there))
               (h₅ .puts t (under #BInter (w .vs) (w .Ξ)) (operands t c w) tb r e) in
-              let z : m - 1 ≡ count rest = omega (arith, count-append (w .left)
-                    (cons (many #SetExt (sole (w .a))) (w .right)), count-append (w .left) (w .right)) in
+              let z : m - 1 ≡ count rest = omega (
+                arith,
+                count-append (w .left)
+                    (cons (many #SetExt (sole (w .a))) (w .right)),
+                count-append (w .left) (w .right),
+              ) in
               let x₄ = puts-as o₃ i₃ o₄ i₄ _ _ (ap (joinedBytes #BInter) z) h₄ in
               let x = puts-then o₀ i₀ o₁ i₁ o₅ i₅ _ _ h₁ (puts-then o₁ i₁ o₂ i₂ o₅ i₅ _ _ h₂
-                    (puts-then o₂ i₂ o₃ i₃ o₅ i₅ _ _ x₃ (puts-then o₃ i₃ o₄ i₄ o₅ i₅ _ _ x₄ x₅))) in
+              (puts-then o₂ i₂ o₃ i₃ o₅ i₅ _ _ x₃ (puts-then o₃ i₃ o₄ i₄ o₅ i₅ _ _ x₄ x₅))) in
               puts-as o₀ i₀ o₅ i₅ _ _ (sym (not-bytes (two #In (w .a) b) ∙ ap (λ (l : List ℕ). encNumber 2 #Not ++ l)
-                      (two-bytes #In _ refl (w .a) b ∙ ap (λ (l : List ℕ). encNumber 2 #In ++ (enc (w .a) ++ l))
-                        (joined-bytes #BInter inter-bytes rest))) ∙ y) x);
+              (two-bytes #In _ refl (w .a) b ∙ ap (λ (l : List ℕ). encNumber 2 #In ++ (enc (w .a) ++ l))
+              (joined-bytes #BInter inter-bytes rest))) ∙ y) x);
         }
 
 -- ---- build_within
@@ -234,7 +242,7 @@ module _ (at : ℕ) (s : List ℕ) (n : ℕ) (st nx leaves : List ℕ) where
               let x₅ = puts-as o₄ i₄ o₅ i₅ _ _ (row-subtrahends (at + 1) ks) (h₅ .puts t Γ ks tb r e) in
               let first = puts-as o₁ i₁ o₃ i₃ _ _ (sym (joined-bytes #BInter inter-bytes (minuends ks))) (puts-then o₁ i₁ o₂ i₂ o₃ i₃ _ _ x₂ x₃) in
               let second = puts-as o₃ i₃ o₅ i₅ _ _ (sym (joined-bytes #BUnion union-bytes (subtrahends ks)))
-                  (puts-then o₃ i₃ o₄ i₄ o₅ i₅ _ _ x₄ x₅) in
+              (puts-then o₃ i₃ o₄ i₄ o₅ i₅ _ _ x₄ x₅) in
               puts-as o₀ i₀ o₅ i₅ _ _ (sym (two-bytes #SubsetEq _ refl a b) ∙ y)
-                  (puts-then o₀ i₀ o₁ i₁ o₅ i₅ _ _ h₁ (puts-then o₁ i₁ o₃ i₃ o₅ i₅ _ _ first second)));
+              (puts-then o₀ i₀ o₁ i₁ o₅ i₅ _ _ h₁ (puts-then o₁ i₁ o₃ i₃ o₅ i₅ _ _ first second)));
         }

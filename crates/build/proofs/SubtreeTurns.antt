@@ -50,8 +50,17 @@ module _ (s : List ℕ) (n : ℕ) (st nx leaves : List ℕ) (pattern c m binder 
     pub fill-row-first : FillRowPre s n st nx leaves pattern c m binder → FillPre s n st nx leaves pattern c c binder
     fill-row-first p =
         let x = split-row s n st nx c m some (p .t) (p .Δ) (p .ks) (p .table) (p .row) (p .many) in
-        record { t = p .t; table = p .table; held = p .held; Δ = p .Δ; a = x .0; b = x .0; us = p .us; places = child-fill (p .t) (p .Δ)
-              (x .0) (p .us) (x .1 .1 .1 .0) (p .binders) }
+        record {
+          t = p .t;
+          table = p .table;
+          held = p .held;
+          Δ = p .Δ;
+          a = x .0;
+          b = x .0;
+          us = p .us;
+          places = child-fill (p .t) (p .Δ)
+              (x .0) (p .us) (x .1 .1 .1 .0) (p .binders);
+        }
 
     pub fill-row-few : FillRowPre s n st nx leaves pattern c m binder → c < 2048
     fill-row-few p =
@@ -62,12 +71,21 @@ module _ (s : List ℕ) (n : ℕ) (st nx leaves : List ℕ) (pattern c m binder 
         → FillRowPre s n st nx leaves pattern d (m - 1) binder
     fill-row-rest p d ed =
         let x = split-row s n st nx c m some (p .t) (p .Δ) (p .ks) (p .table) (p .row) (p .many) in
-        rw ed (record { t = p .t; table = p .table; held = p .held; Δ = p .Δ; ks = x .1 .0; row = x .1 .1 .1 .1 .0;
-                many = x .1 .1 .1 .1 .1 .0; us = p .us; binders = p .binders })
+        rw ed (record {
+          t = p .t;
+          table = p .table;
+          held = p .held;
+          Δ = p .Δ;
+          ks = x .1 .0;
+          row = x .1 .1 .1 .1 .0;
+          many = x .1 .1 .1 .1 .1 .0;
+          us = p .us;
+          binders = p .binders;
+        })
 
     pub fill-row-more : (o : List ℕ) (at : ℕ) (q : List ℕ) (i : ℕ) → FillPost s n st nx leaves pattern c c binder o at q i → (d : ℕ) → d ≡ getD nx c 0
         → (z : List ℕ) (j : ℕ) → FillRowPost s n st nx leaves pattern d (m - 1) binder q i z j
-            → FillRowPost s n st nx leaves pattern c m binder o at z j
+        → FillRowPost s n st nx leaves pattern c m binder o at z j
     unfolding eachFilled
     fill-row-more o at q i pf d ed z j pr =
         record {
@@ -152,10 +170,10 @@ module _ (place at binder : ℕ) (s : List ℕ) (n : ℕ) (st nx leaves : List �
           puts = λ t c p new tb h e ans.
               (let Δ = under (e .g) (e .vs) (e .Ξ) in
               let w = b .puts t Δ (e .ks) (e .us) tb h (kids-of t [] at (e .Ξ) (e .g) (e .n) (e .vs) (e .ks) (e .at-node))
-                  (count-is t c tb e) (binder-of t c e) in
+              (count-is t c tb e) (binder-of t c e) in
               let y = ap enc (new-is (e .new) new place p (sym (e .answer) ∙ ans)) in
               let x = many-then g m (eachFilled place Δ (e .us) (e .ks)) ∙ ap₂
-                  (λ (u v : ℕ). encNumber 2 u ++ (v ∷ eachFilled place Δ (e .us) (e .ks))) eg (count-is t c tb e) in
+              (λ (u v : ℕ). encNumber 2 u ++ (v ∷ eachFilled place Δ (e .us) (e .ks))) eg (count-is t c tb e) in
               puts-as o i z r _ _ (x ∙ sym (e .bytes) ∙ y) (puts-then o i q j z r _ _ a w));
         }
 
@@ -215,8 +233,16 @@ module _ (k : ℕ) (kept : List ℕ) (m : ℕ) (s : List ℕ) (n : ℕ) (st nx l
   kept-list p =
       let w = p .means in
       let z : m - 0 ≡ m = omega arith in
-      record { t = p .t; table = p .table; Γ = w .Γ; ks = w .means .ks; listed = rw z
-            (w .means .listed); few = omega (arith, kept-count (p .t) (p .c) w .1); long = w .long }
+      record {
+        t = p .t;
+        table = p .table;
+        Γ = w .Γ;
+        ks = w .means .ks;
+        listed = rw z
+            (w .means .listed);
+        few = omega (arith, kept-count (p .t) (p .c) w .1);
+        long = w .long;
+      }
 
   pub kept-built : (g : ℕ) → TagPost s st k g → (o : List ℕ) (i : ℕ) (q : List ℕ) (j : ℕ) → Puts o i q j (manyBytes g m) → (z : List ℕ) (r : ℕ)
       → KeptPost s n st nx kept 0 m q j z r → BuildPost (OfKept k kept m) s n st nx leaves o i z r

@@ -30,11 +30,11 @@ module _ (piece : List ℕ) (st : LineState) (b : List ℕ) where
         → Carried (take (at + taken) piece) st b st₂ b₂
     carried-more o st₂ b₂ o₂ taken n p held h =
         let x : take taken (part piece at) ≡ take taken (drop at piece) = take-take taken (length piece - at) (drop at piece)
-            (omega (arith, p .within, part-long piece at)) in
+        (omega (arith, p .within, part-long piece at)) in
         let z : lastLine (take taken (part piece at)) (lastLine (take at piece) held) ≡ lastLine (take (at + taken) piece) held =
-            sym (last-join (take at piece) (take taken (part piece at)) held)
-            ∙ ap (λ (l : List ℕ). lastLine (take at piece ++ l) held) x
-            ∙ ap (λ (l : List ℕ). lastLine l held) (sym (take-add at taken piece)) in
+        sym (last-join (take at piece) (take taken (part piece at)) held)
+        ∙ ap (λ (l : List ℕ). lastLine (take at piece ++ l) held) x
+        ∙ ap (λ (l : List ℕ). lastLine l held) (sym (take-add at taken piece)) in
         subst (λ (l : List ℕ). Holds st₂ b₂ l) z (p .fed .line (lastLine (take at piece) held) (c held h))
 
     pub carried-all : length piece ≤ at → Carried piece st b st₁ b₁

@@ -86,7 +86,7 @@ module _ (s st nx : List ℕ) (k : ℕ) where
               below = rw en (d .below);
               done = omega (arith, q .done);
               keeps = rw (en, d .past) (step ks (d .w) (d .others) (known t n (under g us Γ) (d .w) (tb .framed) (d .there))
-                    (rw (d .is) at (q .keeps)));
+                  (rw (d .is) at (q .keeps)));
             }
 
         pub walk-stop : (Z : Forest → Type 0) → ((ks : Forest) (w : Tree) (others : Forest) → R w → P ks c (cons w others) → Z ks) → EachNode Z

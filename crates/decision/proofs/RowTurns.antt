@@ -52,14 +52,24 @@ module _ (s st nx : List ℕ) (c m w : ℕ) where
     pub row-rest : InRow s st nx c m w → (d : ℕ) → d ≡ getD nx c 0 → InRow s st nx d (m - 1) w
     row-rest h d ed =
         let q = row-child (h .t) (h .n) (h .Γ) (h .ks) (h .table) (h .kids) (h .many) in
-        record { t = h .t; n = h .n; table = h .table; Γ = h .Γ; ks = q .others; kids = rw ed (q .below); many = row-others (h .t) (h .Γ)
-              (h .ks) (h .many) q; v = h .v; there = h .there }
+        record {
+          t = h .t;
+          n = h .n;
+          table = h .table;
+          Γ = h .Γ;
+          ks = q .others;
+          kids = rw ed (q .below);
+          many = row-others (h .t) (h .Γ)
+              (h .ks) (h .many) q;
+          v = h .v;
+          there = h .there;
+        }
 
     module _ (opposed e : Bool) (pe : Compared (orOpposite opposed) s st c w e) where
       -- by what was said of the first, and by the others
       contains-by : (r : Bool) → ((t : Tree) (n : ℕ) (Γ : Ctx) (ks : Forest) (v : Tree) → Table s t st nx n
-            → KidsAtPlace t [] (getD nx c 0) Γ ks → m - 1 ≡ count ks → find t [] w ≡ found Γ v
-            → r ≡ (e || contains (orOpposite opposed v) ks)) → ContainsPost s st nx c m w opposed r
+          → KidsAtPlace t [] (getD nx c 0) Γ ks → m - 1 ≡ count ks → find t [] w ≡ found Γ v
+          → r ≡ (e || contains (orOpposite opposed v) ks)) → ContainsPost s st nx c m w opposed r
       unfolding contains
       contains-by r others = record {
         says = λ t n Γ ks v tb kids em fw.

@@ -48,8 +48,10 @@ module _ (s st nx : List ℕ) (a b : ℕ) where
 
   module _ (f g : Ctx → Tree → Tree → Change) (d : Decision) (pd : DecidesPair f s st nx a b d) where
     pub series-first : isRests d ≡ false → DecidesPair (λ Γ v w. f Γ v w orElse g Γ v w) s st nx a b d
-    series-first h = record { means = λ t n Γ v w tb fa fb x Ξ kept. or-first t x Ξ kept d (f Γ v w) (g Γ v w) h
-          (pd .means t n Γ v w tb fa fb x Ξ kept) }
+    series-first h = record {
+      means = λ t n Γ v w tb fa fb x Ξ kept. or-first t x Ξ kept d (f Γ v w) (g Γ v w) h
+          (pd .means t n Γ v w tb fa fb x Ξ kept);
+    }
 
     pub series-next : isRests d ≡ true → (e : Decision) → DecidesPair g s st nx a b e → DecidesPair (λ Γ v w. f Γ v w orElse g Γ v w) s st nx a b e
     series-next h e pe = record {

@@ -120,8 +120,23 @@ pub fixed-at : (t : Tree) (place pattern : ℕ) (c : Change) (new : Tree) → c 
     → (i j k : ℕ) (Δ Θ : Ctx) (a b v : Tree) → find t [] i ≡ found Δ a → find t [] j ≡ found Δ b → find t [] k ≡ found Θ v
     → Bound pattern (tagOf v) → enc new ≡ filled (template pattern) (filling Δ a b (ownTypes v)) → FixedMeans t place pattern i j k c
 fixed-at t place pattern c new ans i j k Δ Θ a b (node (head g n us) ks) fi fj fk bd e =
-    record { new = new; answer = ans; Δ = Δ; a = a; b = b; at-first = fi; at-second = fj; Θ = Θ; g = g; n = n; us = us; ks = ks;
-          at-binder = fk; bound = bd; bytes = e }
+    record {
+      new = new;
+      answer = ans;
+      Δ = Δ;
+      a = a;
+      b = b;
+      at-first = fi;
+      at-second = fj;
+      Θ = Θ;
+      g = g;
+      n = n;
+      us = us;
+      ks = ks;
+      at-binder = fk;
+      bound = bd;
+      bytes = e;
+    }
 
 -- a pattern that takes no binders goes with any node
 pub unbound : (p g : ℕ) → (ltb p 88 && not (takesBinders p)) ≡ true → Bound p g
@@ -176,7 +191,7 @@ module _ (rule : Ctx → Tree → Change) (s st nx : List ℕ) (k tag : ℕ) (pt
 
     -- the right side has no operand, or the node itself is its operand
     pub by-node : ((Γ : Ctx) (n : ℕ) (us : List Ty) (ks : Forest)
-          → rule Γ (node (head g n us) ks) ≡ to place (side place Γ (node (head g n us) ks) (node (head g n us) ks) us))
+        → rule Γ (node (head g n us) ks) ≡ to place (side place Γ (node (head g n us) ks) (node (head g n us) ks) us))
         → OfNode rule s st nx k tag g place
     by-node ans key r er =
         record {
@@ -186,7 +201,7 @@ module _ (rule : Ctx → Tree → Change) (s st nx : List ℕ) (k tag : ℕ) (pt
               let fx : find t [] k ≡ found Γ x = f ∙ ap (found Γ) (o .is) in
               rw (er, o .is)
               (fixed-at t place place (rule Γ x) (side place Γ x x (o .us)) (ans Γ (o .n) (o .us) (o .ks)) k k k Γ Γ x x x fx fx fx bd
-                    (sym (right-side place has Γ x x (o .us))));
+              (sym (right-side place has Γ x x (o .us))));
         }
 
     -- its operand is the child
@@ -203,13 +218,13 @@ module _ (rule : Ctx → Tree → Change) (s st nx : List ℕ) (k tag : ℕ) (pt
               let Δ : Ctx = under g (o .us) Γ in
               rw (er, o .is)
               (fixed-at t place place (rule Γ x) (side place Δ (o .a) (o .a) (o .us)) (ans Γ (o .n) (o .us) (o .a)) (k + 1) (k + 1) k Δ Γ
-                    (o .a) (o .a) x fa fa fx bd (sym (right-side place has Δ (o .a) (o .a) (o .us))));
+              (o .a) (o .a) x fa fa fx bd (sym (right-side place has Δ (o .a) (o .a) (o .us))));
         }
 
     -- its operands are the two children
     pub by-double : (e d : Sort) → Takes g (e ∷ d ∷ [])
         → ((Γ : Ctx) (n : ℕ) (us : List Ty) (a b : Tree) → rule Γ (node (head g n us) (cons a (cons b nil))) ≡ to place
-              (side place (under g us Γ) a b us))
+        (side place (under g us Γ) a b us))
         → OfTwo rule s st nx k tag g place
     by-double e d tk ans key j ej r er =
         record {
@@ -221,7 +236,7 @@ module _ (rule : Ctx → Tree → Change) (s st nx : List ℕ) (k tag : ℕ) (pt
               let Δ : Ctx = under g (o .us) Γ in
               rw (er, o .is, ej (place-few tb (fs .0)))
               (fixed-at t place place (rule Γ x) (side place Δ (o .a) (o .b) (o .us)) (ans Γ (o .n) (o .us) (o .a) (o .b)) (k + 1)
-                    (getD nx (k + 1) 0) k Δ Γ (o .a) (o .b) x (fs .0) (fs .1) fx bd (sym (right-side place has Δ (o .a) (o .b) (o .us))));
+              (getD nx (k + 1) 0) k Δ Γ (o .a) (o .b) x (fs .0) (fs .1) fx bd (sym (right-side place has Δ (o .a) (o .b) (o .us))));
         }
 
 -- ---- a pattern for each child
@@ -295,12 +310,12 @@ module _ (rule : Ctx → Tree → Change) (s st nx : List ℕ) (k tag : ℕ) (pt
             let Δ : Ctx = under g (y .us) Γ in
             rw (er, y .is)
             (each-means t place k k (rule Γ x) jo (λ a. side place Δ a a (y .us)) (y .ks) (ans Γ (y .n) (y .us) (y .ks) l) Γ g (y .n)
-                  (y .us) fx (few-of g cs (y .n) (y .us) (y .ks) sx) Γ x fx bd (λ a. sym (right-side place has Δ a a (y .us))));
+            (y .us) fx (few-of g cs (y .n) (y .us) (y .ks) sx) Γ x fx bd (λ a. sym (right-side place has Δ a a (y .us))));
       }
 
   -- an operator over a list, where it has just two operands
   pub by-pair : ((Γ : Ctx) (n : ℕ) (us : List Ty) (ks : Forest)
-        → rule Γ (node (head g n us) ks) ≡ with2 ks (λ a b. to place (side place (under g us Γ) a b us)))
+      → rule Γ (node (head g n us) ks) ≡ with2 ks (λ a b. to place (side place (under g us Γ) a b us)))
       → OfPair rule s st nx k tag g place
   by-pair ans key j ej m pm r er =
       record {
@@ -323,7 +338,7 @@ module _ (rule : Ctx → Tree → Change) (s st nx : List ℕ) (k tag : ℕ) (pt
           let Δ : Ctx = under g us Γ in
           rw (ej (place-few tb (fs .0)))
           (fixed-at t place place (rule Γ x) (side place Δ a b us) (ans Γ i us (cons a (cons b nil))) (k + 1)
-                (getD nx (k + 1) 0) k Δ Γ a b x (fs .0) (fs .1) fx bd (sym (right-side place has Δ a b us)))
+          (getD nx (k + 1) 0) k Δ Γ a b x (fs .0) (fs .1) fx bd (sym (right-side place has Δ a b us)))
       go t n Γ i us (cons a (cons b (cons d ks))) tb fx w Ξ kept =
           let z : eqb (count (cons a (cons b (cons d ks)))) 2 ≡ false = ne-eqb (count (cons a (cons b (cons d ks)))) 2 (λ h. omega arith) in
           rw z (ans Γ i us (cons a (cons b (cons d ks))))

@@ -88,7 +88,7 @@ module _ (rule : Ctx → Tree → Change) (s st nx : List ℕ) (k tag : ℕ) (pt
       → (g p : ℕ) → isRow rs g p ≡ true → OfChild rule s st nx k tag g p
   by-children e tk ans g p i =
       by-single rule s st nx k tag pt g p (at-row bound yes rs bd g p i) (at-row has yes rs hs g p i) e
-          (λ x. at-row (sorts x) (these (e ∷ [])) rs (tk x) g p i)
+      (λ x. at-row (sorts x) (these (e ∷ [])) rs (tk x) g p i)
       (λ Γ n us a. at-row (answer Γ n us (cons a nil)) (ofTwo Γ us a a) rs (ans Γ n us a) g p i)
 
   pub by-doubles : (e d : Sort) → ((x : ℕ) → over (sorts x) rs ≡ over (these (e ∷ d ∷ [])) rs)
@@ -96,5 +96,5 @@ module _ (rule : Ctx → Tree → Change) (s st nx : List ℕ) (k tag : ℕ) (pt
       → (g p : ℕ) → isRow rs g p ≡ true → OfTwo rule s st nx k tag g p
   by-doubles e d tk ans g p i =
       by-double rule s st nx k tag pt g p (at-row bound yes rs bd g p i) (at-row has yes rs hs g p i) e d
-          (λ x. at-row (sorts x) (these (e ∷ d ∷ [])) rs (tk x) g p i)
+      (λ x. at-row (sorts x) (these (e ∷ d ∷ [])) rs (tk x) g p i)
       (λ Γ n us a b. at-row (answer Γ n us (cons a (cons b nil))) (ofTwo Γ us a b) rs (ans Γ n us a b) g p i)

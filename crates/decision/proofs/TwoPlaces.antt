@@ -50,7 +50,7 @@ module _ (rule : Tree → Tree → Change) (s st nx : List ℕ) (a b place : ℕ
       → c ≡ to place (side place Γ u u (ownTypes y)) → FixedMeans t place place i i j c
   of-one t i j Γ u y c fu fy ans =
       fixed-at t place place c (side place Γ u u (ownTypes y)) ans i i j Γ Γ u u y fu fu fy (unbound place (tagOf y) plain)
-          (sym (right-side place has Γ u u (ownTypes y)))
+      (sym (right-side place has Γ u u (ownTypes y)))
 
   pub on-left : Answers (λ Γ v w. side place Γ v v (ownTypes v)) → Decided (D.Fixed place place a a a)
   on-left ans r er = record { means = λ t n Γ v w tb fa fb x Ξ kept. rw er (of-one t a a Γ v v (rule v w) fa fa (ans t n Γ v w tb fa fb)) }
@@ -74,7 +74,7 @@ module _ (rule : Tree → Tree → Change) (s st nx : List ℕ) (a b place : ℕ
             let o = single 701 predicate (λ x. refl) v (place-sorted s t st n (tb .framed) p Γ v f) (sym z ∙ eqb-true tag 701 h) in
             let fc = only-child t nx (tb .follows) p Γ 701 (o .n) (o .us) (o .a) (f ∙ ap (found Γ) (o .is)) in
             fixed-at t place 64 c (o .a) (ans ∙ ap (λ (u : Tree). to place (makeNeg u)) (o .is)) (p + 1) (p + 1) p Γ Γ (o .a)
-                (o .a) v fc fc f (unbound 64 (tagOf v) refl) (sym (right-side 64 refl Γ (o .a) (o .a) (ownTypes v)))
+            (o .a) v fc fc f (unbound 64 (tagOf v) refl) (sym (right-side 64 refl Γ (o .a) (o .a) (ownTypes v)))
         go false h =
             let z = pt .tag t n Γ v (tb .framed) f in
             of-one t p p Γ v v c f f (ans ∙ ap (to place) (neg-other v (λ q. eqb-false tag 701 h (z ∙ q)) ∙ sym (is Γ v (ownTypes v))))

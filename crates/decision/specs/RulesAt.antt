@@ -4,8 +4,32 @@ use mathlib.Core.List.{List, [], _∷_}
 use Rattle.frame.specs.Trees.{Tree, leaf, two}
 use Rattle.frame.specs.Sameness.{sameTree}
 use Rattle.frame.specs.Operators.{
-  #Equal, #SRel, #STRel, #SetMinus, #CProd, #DProd, #PProd, #DomRes, #DomSub, #RanRes, #RanSub, #UpTo, #RelImage, #BInter, #BComp,
-  #FComp, #QUnion, #Not, #Finite, #Partition, #SubsetEq, #Forall, #Exists, #BTrue, #BFalse, #LAnd
+  #Equal,
+  #SRel,
+  #STRel,
+  #SetMinus,
+  #CProd,
+  #DProd,
+  #PProd,
+  #DomRes,
+  #DomSub,
+  #RanRes,
+  #RanSub,
+  #UpTo,
+  #RelImage,
+  #BInter,
+  #BComp,
+  #FComp,
+  #QUnion,
+  #Not,
+  #Finite,
+  #Partition,
+  #SubsetEq,
+  #Forall,
+  #Exists,
+  #BTrue,
+  #BFalse,
+  #LAnd,
 }
 use Rattle.frame.specs.Places.{Ctx}
 use Rattle.rules.specs.Change.{Change, to, _orElse_, when, isTag, isIdOrProjection, onTag, unary, binary, quantifier, contains}
@@ -32,7 +56,7 @@ unequal a b = rewriteNotInner (two #Equal a b)
 abbrev pub lookedUp : List ℕ
 lookedUp =
     #QUnion ∷ #BComp ∷ #FComp ∷ #PProd ∷ #DProd ∷ #RelImage ∷ #RanSub ∷ #RanRes ∷ #DomSub ∷ #DomRes ∷ #STRel ∷ #SRel ∷ #UpTo ∷ #CProd
-        ∷ #SetMinus ∷ #BInter ∷ []
+    ∷ #SetMinus ∷ #BInter ∷ []
 
 -- finite(a ◁ b)
 abbrev pub finiteRestricted : Tree → Tree → Change

@@ -41,7 +41,7 @@ module _ (σ : ℕ → Ty) (t : Tree) (k place : ℕ) (u : Tree) (a : Accepted �
       rw (i .result)
       (keeps-at-place I t [] k (i .Γ) (i .old) (i .new) (i .there) s
       (λ v. equation-keeps I σ (i .Γ) place (i .old) (i .new) (old-accepted σ t k place u a e .0) (step-instance σ t k place u a e)
-            (old-predicate σ t k place u a e) v))
+      (old-predicate σ t k place u a e) v))
 
 -- ---- a row of them
 steps-fall : (σ : ℕ → Ty) {t u : Tree} {n : ℕ} → Steps t n u → Accepted σ t [] predicate → n + weight u ≤ weight t

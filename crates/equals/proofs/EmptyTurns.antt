@@ -92,16 +92,47 @@ module _ (s st nx : List ℕ) (k tag : ℕ) (pt : TagPost s st k tag) where
   empty-none u v = by-rest rewriteEqualsEmptySet s st nx k tag pt (λ Γ e. rest Γ e) D.Rests refl
     where
       rest : (Γ : Ctx) (e : Tree) → tagOf e ≡ tag → rewriteEqualsEmptySet Γ e ≡ same
-      rest Γ (node (head o n us) ks) z = rw z (simp (ne-eqb tag 5 (v .0 .0 .0 .0 .0 .0 .0 .0 .0 .0 .0 .0 .0 .1), ne-eqb tag 302
-              (u .0 .0 .0 .0 .0 .0 .0 .0 .0 .0 .0 .0 .0 .0 .0 .1), ne-eqb tag 301 (v .0 .0 .0 .0 .0 .0 .0 .0 .0 .0 .0 .0 .1), ne-eqb tag 213
-              (u .0 .0 .0 .0 .0 .0 .0 .0 .0 .0 .0 .0 .0 .0 .1), ne-eqb tag 214 (u .0 .0 .0 .0 .0 .0 .0 .0 .0 .0 .0 .0 .0 .1), ne-eqb tag 221
-              (u .0 .0 .0 .0 .0 .0 .0 .0 .0 .0 .0 .0 .1), ne-eqb tag 204 (u .0 .0 .0 .0 .0 .0 .0 .0 .0 .0 .0 .1), ne-eqb tag 205
-              (u .0 .0 .0 .0 .0 .0 .0 .0 .0 .0 .1), ne-eqb tag 217 (u .0 .0 .0 .0 .0 .0 .0 .0 .0 .1), ne-eqb tag 218
-              (u .0 .0 .0 .0 .0 .0 .0 .0 .1), ne-eqb tag 219 (u .0 .0 .0 .0 .0 .0 .0 .1), ne-eqb tag 220
-              (u .0 .0 .0 .0 .0 .0 .1), ne-eqb tag 227 (u .0 .0 .0 .0 .0 .1), ne-eqb tag 215 (u .0 .0 .0 .0 .1), ne-eqb tag 216
-              (u .0 .0 .0 .1), ne-eqb tag 752 (v .0 .0 .0 .0 .0 .0 .0 .0 .0 .0 .0 .1), ne-eqb tag 753
-              (v .0 .0 .0 .0 .0 .0 .0 .0 .0 .0 .1), ne-eqb tag 754 (v .0 .0 .0 .0 .0 .0 .0 .0 .0 .1), ne-eqb tag 756
-              (v .0 .0 .0 .0 .0 .0 .0 .0 .1), ne-eqb tag 757 (v .0 .0 .0 .0 .0 .0 .0 .1), ne-eqb tag 763
-              (v .0 .0 .0 .0 .0 .0 .1), ne-eqb tag 304 (u .0 .0 .1), ne-eqb tag 303 (u .0 .1), ne-eqb tag 305
-              (v .0 .0 .0 .0 .0 .1), ne-eqb tag 801 (u .1), ne-eqb tag 402 (v .0 .0 .0 .0 .1), ne-eqb tag 403
-              (v .0 .0 .0 .1), ne-eqb tag 412 (v .0 .0 .1), ne-eqb tag 410 (v .0 .1), ne-eqb tag 411 (v .1)))
+      rest Γ (node (head o n us) ks) z = rw z (simp (
+        ne-eqb tag 5 (v .0 .0 .0 .0 .0 .0 .0 .0 .0 .0 .0 .0 .0 .1),
+        ne-eqb tag 302
+            (u .0 .0 .0 .0 .0 .0 .0 .0 .0 .0 .0 .0 .0 .0 .0 .1),
+        ne-eqb tag 301 (v .0 .0 .0 .0 .0 .0 .0 .0 .0 .0 .0 .0 .1),
+        ne-eqb tag 213
+            (u .0 .0 .0 .0 .0 .0 .0 .0 .0 .0 .0 .0 .0 .0 .1),
+        ne-eqb tag 214 (u .0 .0 .0 .0 .0 .0 .0 .0 .0 .0 .0 .0 .0 .1),
+        ne-eqb tag 221
+            (u .0 .0 .0 .0 .0 .0 .0 .0 .0 .0 .0 .0 .1),
+        ne-eqb tag 204 (u .0 .0 .0 .0 .0 .0 .0 .0 .0 .0 .0 .1),
+        ne-eqb tag 205
+            (u .0 .0 .0 .0 .0 .0 .0 .0 .0 .0 .1),
+        ne-eqb tag 217 (u .0 .0 .0 .0 .0 .0 .0 .0 .0 .1),
+        ne-eqb tag 218
+            (u .0 .0 .0 .0 .0 .0 .0 .0 .1),
+        ne-eqb tag 219 (u .0 .0 .0 .0 .0 .0 .0 .1),
+        ne-eqb tag 220
+            (u .0 .0 .0 .0 .0 .0 .1),
+        ne-eqb tag 227 (u .0 .0 .0 .0 .0 .1),
+        ne-eqb tag 215 (u .0 .0 .0 .0 .1),
+        ne-eqb tag 216
+            (u .0 .0 .0 .1),
+        ne-eqb tag 752 (v .0 .0 .0 .0 .0 .0 .0 .0 .0 .0 .0 .1),
+        ne-eqb tag 753
+            (v .0 .0 .0 .0 .0 .0 .0 .0 .0 .0 .1),
+        ne-eqb tag 754 (v .0 .0 .0 .0 .0 .0 .0 .0 .0 .1),
+        ne-eqb tag 756
+            (v .0 .0 .0 .0 .0 .0 .0 .0 .1),
+        ne-eqb tag 757 (v .0 .0 .0 .0 .0 .0 .0 .1),
+        ne-eqb tag 763
+            (v .0 .0 .0 .0 .0 .0 .1),
+        ne-eqb tag 304 (u .0 .0 .1),
+        ne-eqb tag 303 (u .0 .1),
+        ne-eqb tag 305
+            (v .0 .0 .0 .0 .0 .1),
+        ne-eqb tag 801 (u .1),
+        ne-eqb tag 402 (v .0 .0 .0 .0 .1),
+        ne-eqb tag 403
+            (v .0 .0 .0 .1),
+        ne-eqb tag 412 (v .0 .0 .1),
+        ne-eqb tag 410 (v .0 .1),
+        ne-eqb tag 411 (v .1),
+      ))

@@ -48,8 +48,11 @@ module _ (s st nx : List ℕ) (a b right : ℕ) (pr : TagPost s st b right) wher
     pub empty-none : (left ≡ 407 → ⊥) → DecidesPair emptyRules s st nx a b D.Rests
     empty-none i = record {
       means = λ t n Γ v w tb fa fb x Ξ kept.
-          rw (ne-eqb (tagOf w) 407 (λ z. h (pr .tag t n Γ w (tb .framed) fb ∙ z)), ne-eqb (tagOf v) 407
-                (λ z. i (pl .tag t n Γ v (tb .framed) fa ∙ z)));
+          rw (
+            ne-eqb (tagOf w) 407 (λ z. h (pr .tag t n Γ w (tb .framed) fb ∙ z)),
+            ne-eqb (tagOf v) 407
+                (λ z. i (pl .tag t n Γ v (tb .framed) fa ∙ z)),
+          );
     }
 
 -- ---- =, the type rules

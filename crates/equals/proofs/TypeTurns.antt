@@ -53,6 +53,19 @@ module _ (s st nx : List ℕ) (k tag : ℕ) (pt : TagPost s st k tag) where
   type-none h0 h1 h2 h3 h4 h5 h6 h7 h8 h9 h10 h11 h12 = by-rest rewriteEqualsType s st nx k tag pt (λ Γ v. rest Γ v) D.Rests refl
     where
       rest : (Γ : Ctx) (v : Tree) → tagOf v ≡ tag → rewriteEqualsType Γ v ≡ same
-      rest Γ (node (head o n us) ks) z = rw z (simp (ne-eqb tag 302 h0, ne-eqb tag 213 h1, ne-eqb tag 214 h2, ne-eqb tag 221 h3, ne-eqb tag
-              217 h4, ne-eqb tag 218 h5, ne-eqb tag 219 h6, ne-eqb tag 220 h7, ne-eqb tag 215 h8, ne-eqb tag 216 h9, ne-eqb tag 755 h10,
-              ne-eqb tag 763 h11, ne-eqb tag 802 h12))
+      rest Γ (node (head o n us) ks) z = rw z (simp (
+        ne-eqb tag 302 h0,
+        ne-eqb tag 213 h1,
+        ne-eqb tag 214 h2,
+        ne-eqb tag 221 h3,
+        ne-eqb tag
+            217 h4,
+        ne-eqb tag 218 h5,
+        ne-eqb tag 219 h6,
+        ne-eqb tag 220 h7,
+        ne-eqb tag 215 h8,
+        ne-eqb tag 216 h9,
+        ne-eqb tag 755 h10,
+        ne-eqb tag 763 h11,
+        ne-eqb tag 802 h12,
+      ))

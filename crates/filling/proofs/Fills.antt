@@ -88,7 +88,7 @@ module _ (s types : List ℕ) (r : Ranges) (a b : Tree) (t u : Ty) (us : List Ty
 
     module _ (c : Bool) (bound : c ≡ true → Spans s (r .binders) (r .«binders_end») (length us ∷ encTys us)) where
       all-holds : (ps : List Part) → fits c ps ≡ true → (asksTypes ps ≡ true
-            → MadeFrom types (r .«first_type») t × MadeFrom types (r .«second_type») u) → Holds s types r f ps
+          → MadeFrom types (r .«first_type») t × MadeFrom types (r .«second_type») u) → Holds s types r f ps
       unfolding fits asksTypes Holds
       all-holds [] h m = tt
       all-holds (tag g ∷ ps) h m = all-holds ps h m
@@ -129,8 +129,12 @@ module _ (s : List ℕ) (n : ℕ) (st nx leaves : List ℕ) (pattern first secon
       record {
         t = p .t;
         table = p .table;
-        below = (find-lt (p .t) [] first (p .Δ) (p .a) (w .at-first), find-lt (p .t) [] second (p .Δ) (p .b) (w .at-second), find-lt
-              (p .t) [] binder (w .Θ) (node (head (w .g) (w .x) (p .us)) (w .ks)) (w .at-binder));
+        below = (
+          find-lt (p .t) [] first (p .Δ) (p .a) (w .at-first),
+          find-lt (p .t) [] second (p .Δ) (p .b) (w .at-second),
+          find-lt
+              (p .t) [] binder (w .Θ) (node (head (w .g) (w .x) (p .us)) (w .ks)) (w .at-binder),
+        );
       }
 
   module _ (types : List ℕ) (pt : TypesPost s st leaves pattern first second types) (r : Ranges)
@@ -139,14 +143,16 @@ module _ (s : List ℕ) (n : ℕ) (st nx leaves : List ℕ) (pattern first secon
         → FillAt t pattern first second binder Δ a b us → Holds s types r (filling Δ a b us) (template pattern)
     holds t Δ a b us tb h w =
         all-holds s types r a b (typeOf a Δ) (typeOf b Δ) us (pr .of-first t Δ a tb (w .at-first))
-            (pr .of-second t Δ b tb (w .at-second)) (takesBinders pattern)
+        (pr .of-second t Δ b tb (w .at-second)) (takesBinders pattern)
         (λ e. pr .of-binders t (w .Θ) (w .g) (w .x) us (w .ks) tb (w .at-binder) (bound-has pattern (w .g) (w .bound) e))
         (template pattern) (template-fits pattern (bound-few pattern (w .g) (w .bound)))
         (λ e. rw (pr .types .0, pr .types .1) (pt .there e t n Δ Δ a b h (w .at-first) (w .at-second)))
 
     pub fill-ready : FillPre s n st nx leaves pattern first second binder → (pattern < 88) × Fillable (template pattern) s types r
-    fill-ready p = (bound-few pattern (p .places .g) (p .places .bound),
-          (filling (p .Δ) (p .a) (p .b) (p .us), holds (p .t) (p .Δ) (p .a) (p .b) (p .us) (p .table) (p .held) (p .places)))
+    fill-ready p = (
+      bound-few pattern (p .places .g) (p .places .bound),
+      (filling (p .Δ) (p .a) (p .b) (p .us), holds (p .t) (p .Δ) (p .a) (p .b) (p .us) (p .table) (p .held) (p .places)),
+    )
 
     pub fill-done : (o : List ℕ) (at : ℕ) (q : List ℕ) (k : ℕ) → Filled (template pattern) s types r o at q k
         → FillPost s n st nx leaves pattern first second binder o at q k

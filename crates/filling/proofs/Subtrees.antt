@@ -127,7 +127,7 @@ mutual
           let v : k ≡ nodes t + (k - nodes t) = omega (arith, ltb-false k (nodes t) q) in
           ap (λ (m : ℕ). getD (starts t p ++ l) m 0) u ∙ starts-rest t p (suc (k - nodes t)) l ∙ y e r
           ∙ ap (λ (m : ℕ). m + length (encHead i (count (cons a ks))))
-              (sym (ap (λ (m : ℕ). getD (starts t p ++ l) m 0) v ∙ starts-rest t p (k - nodes t) l))
+          (sym (ap (λ (m : ℕ). getD (starts t p ++ l) m 0) v ∙ starts-rest t p (k - nodes t) l))
 
 -- ---- bytes
 module _ (s : List ℕ) (t : Tree) (st : List ℕ) (n : ℕ) (fr : Framed s t st n) where
@@ -151,9 +151,9 @@ module _ (s : List ℕ) (t : Tree) (st : List ℕ) (n : ℕ) (fr : Framed s t st
         let c = fr .begins (suc k) (two-places t [] k Γ (head g x us) a ks f) in
         let e : getD st k 0 + length (encHead (head g x us) (count (cons a ks))) ≡ getD st (k + 1) 0 =
         ap (λ (m : ℕ). m + length (encHead (head g x us) (count (cons a ks)))) b ∙ sym
-            (first-start t [] k Γ (head g x us) a ks f 0) ∙ sym c ∙ ap (λ (m : ℕ). getD st m 0) (sym z) in
+        (first-start t [] k Γ (head g x us) a ks f 0) ∙ sym c ∙ ap (λ (m : ℕ). getD st m 0) (sym z) in
         subst (λ (j : ℕ). Spans s (getD st k 0) j (encHead (head g x us) (count (cons a ks)))) e
-            (span-left (encHead (head g x us) (count (cons a ks))) (encs (cons a ks)) w)
+        (span-left (encHead (head g x us) (count (cons a ks))) (encs (cons a ks)) w)
 
     bytes-by : Layout → List ℕ
     bytes-by l = encNumber (width l) (numberOf l x (length us) (count (cons a ks))) ++ encTys us
@@ -172,4 +172,4 @@ module _ (s : List ℕ) (t : Tree) (st : List ℕ) (n : ℕ) (fr : Framed s t st
         let w = span-right (encNumber 2 g) (bytes-by (formOf g .layout)) top-at in
         let z : getD st k 0 + length (encNumber 2 g) ≡ getD st k 0 + 2 = omega (arith, number-length 2 g) in
         subst (λ (j : ℕ). Spans s j (getD st (k + 1) 0) (length us ∷ encTys us)) z
-            (subst (λ (l : List ℕ). Spans s (getD st k 0 + length (encNumber 2 g)) (getD st (k + 1) 0) l) (bytes-is (formOf g .layout) h) w)
+        (subst (λ (l : List ℕ). Spans s (getD st k 0 + length (encNumber 2 g)) (getD st (k + 1) 0) l) (bytes-is (formOf g .layout) h) w)

@@ -119,7 +119,7 @@ module _ (s st leaves : List ℕ) (k : ℕ) where
               (let y = type-is m posted n t h Δ w f in
               let z : to + (m - 0) ≡ to + length (encTy (typeOf w Δ)) = omega (arith, y .0 .long) in
               subst (λ (i : ℕ). Spans q to i (encTy (typeOf w Δ))) z
-                  (copied-span (m - 0) types q to refl (y .0) c (omega (arith, p .long, p .room, y .1))));
+              (copied-span (m - 0) types q to refl (y .0) c (omega (arith, p .long, p .room, y .1))));
           low = λ j i. c .low j i;
           high = λ j i. c .high j (omega (arith, x .1, i));
         }
@@ -130,7 +130,7 @@ module _ (s st leaves : List ℕ) (k : ℕ) where
           long = refl;
           there = λ t n Δ w h f.
               (let y : Typing T.Bad w Δ work = typing n t h Δ w f work T.Bad l
-                    (answer-at T.Bad (subst (λ (i : Typed). TypePost s at k leaves work i) e post)) in
+              (answer-at T.Bad (subst (λ (i : Typed). TypePost s at k leaves work i) e post)) in
               true-not (sym y ∙ held-typed s st leaves n t h k Δ w f));
           low = λ j i. refl;
           high = λ j i. refl;
@@ -169,7 +169,7 @@ first-of : (s : List ℕ) (t : Tree) (st : List ℕ) (n : ℕ) → Framed s t st
     → find t [] k ≡ found Γ (node (head g x us) ks) → hasBinders (formOf g .layout) ≡ true → (a : Tree) × ((ls : Forest) × (ks ≡ cons a ls))
 first-of s t st n fr k Γ g x us (cons a ls) f h = (a, (ls, refl))
 first-of s t st n fr k Γ g x us nil f h = absurd (none (formOf g .layout) (numberIn g x us 0) h
-      (place-sorted s t st n fr k Γ (node (head g x us) nil) f .1 .1))
+    (place-sorted s t st n fr k Γ (node (head g x us) nil) f .1 .1))
   where
     none : (l : Layout) (m : ℕ) → hasBinders l ≡ true → Wfs nil (sortsOf l m) → ⊥
     none (these es) m h w = true-not h
@@ -191,8 +191,16 @@ module _ (s : List ℕ) (n : ℕ) (st nx : List ℕ) (first second binder : ℕ)
 
   pub ranges-done : (a b c d e g : ℕ) → a ≡ getD st first 0 → EndAtPost s n st nx first b → c ≡ getD st second 0 → EndAtPost s n st nx second d
       → e ≡ getD st binder 0 → (binder + 1 < 2048 → g ≡ getD st (binder + 1) 0)
-      → RangesPost s n st nx first second binder (record { first = a; «first_end» = b; second = c; «second_end» = d; «first_type» = 0;
-              «second_type» = 64; binders = e + 2; «binders_end» = g })
+      → RangesPost s n st nx first second binder (record {
+        first = a;
+        «first_end» = b;
+        second = c;
+        «second_end» = d;
+        «first_type» = 0;
+        «second_type» = 64;
+        binders = e + 2;
+        «binders_end» = g;
+      })
   ranges-done a b c d e g ea eb ec ed ee eg =
       record {
         types = (refl, refl);
@@ -201,7 +209,7 @@ module _ (s : List ℕ) (n : ℕ) (st nx : List ℕ) (first second binder : ℕ)
         of-binders = λ t Γ o x us ks tb f h.
             (let y = first-of s t st n (tb .framed) binder Γ o x us ks f h in
             let fy : find t [] binder ≡ found Γ (node (head o x us) (cons (y .0) (y .1 .0))) = f ∙ ap
-                (λ (l : Forest). found Γ (node (head o x us) l)) (y .1 .1) in
+            (λ (l : Forest). found Γ (node (head o x us) l)) (y .1 .1) in
             let l = framed-few s t st n (tb .framed) in
             let z = two-places t [] binder Γ (head o x us) (y .0) (y .1 .0) fy in
             rw (ee, eg (omega arith)) (binders-at s t st n (tb .framed) binder Γ o x us (y .0) (y .1 .0) fy h));

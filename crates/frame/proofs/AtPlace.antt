@@ -39,7 +39,7 @@ module _ (P : Ctx → Tree → Tree → Type 0) (Q : Ctx → Forest → Forest �
     in-place nil Γ k Δ v u e p = absent-not Δ v e
     in-place (cons t ks) Γ k Δ v u e p =
         found-either (Q Γ (cons t ks)) (ltb k (nodes t)) (find t Γ k) (findIn ks Γ (k - nodes t)) (cons (replace t k u) ks)
-            (cons t (replaceIn ks (k - nodes t) u)) Δ v e
+        (cons t (replaceIn ks (k - nodes t) u)) Δ v e
         (λ h. at-first t (replace t k u) ks Γ (at-place t Γ k Δ v u h p))
         (λ h. at-rest t ks (replaceIn ks (k - nodes t) u) Γ (in-place ks Γ (k - nodes t) Δ v u h p))
 

@@ -31,7 +31,7 @@ abbrev pub alongRows : (ℕ → Class → Bool) → ℕ → ℕ → List Row →
 alongRows f n k [] = allFrom (n - k) k (λ t. f t unlisted)
 alongRows f n k (row from to c ∷ rows) =
     (leb k from && leb from to) && ((allFrom (from - k) k (λ t. f t unlisted) && allFrom (suc to - from) from (λ t. f t c)) &&
-          alongRows f n (suc to) rows)
+    alongRows f n (suc to) rows)
 
 -- what the test says of the first row, and of the rest
 record Along (f : ℕ → Class → Bool) (n k from to : ℕ) (c : Class) (rows : List Row) : Type 0 where
@@ -79,7 +79,7 @@ along f n k (row from to c ∷ rows) e t l h =
     let o = p .order in
     by-row f t c (lookup rows t) (leb from t) (leb t to)
     (λ x. (let i = leb-false from t x in ap (λ (d : Class). f t d) (before-rows f n (suc to) rows (p .rest) t (omega arith)) ∙ from-on
-            (from - k) k (λ i. f i unlisted) (p .gap) t l (omega arith)))
+    (from - k) k (λ i. f i unlisted) (p .gap) t l (omega arith)))
     (λ x y. (let i = leb-true from t x in let j = leb-true t to y in from-on (suc to - from) from (λ i. f i c) (p .own) t i (omega arith)))
     (λ y. (let j = leb-false t to y in along f n (suc to) rows (p .rest) t (omega arith) h))
 

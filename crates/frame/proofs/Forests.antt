@@ -38,7 +38,7 @@ starts-append nil us p = let z : p ≡ p + 0 = omega arith in ap (startsIn us) z
 starts-append (cons t ts) us p =
     let z : p + length (enc t) + length (encs ts) ≡ p + length (enc t ++ encs ts) = omega (arith, length-append (enc t) (encs ts)) in
     ap (λ (xs : List ℕ). starts t p ++ xs) (starts-append ts us (p + length (enc t)) ∙ ap
-          (λ (i : ℕ). startsIn ts (p + length (enc t)) ++ startsIn us i) z)
+    (λ (i : ℕ). startsIn ts (p + length (enc t)) ++ startsIn us i) z)
     ∙ sym (append-assoc (starts t p) (startsIn ts (p + length (enc t))) (startsIn us (p + length (enc t ++ encs ts))))
 
 -- ---- nothing there

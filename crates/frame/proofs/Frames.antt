@@ -86,7 +86,7 @@ unfolding encHead
 head-bytes e g n ts k w =
     bytes-append (encNumber 2 g) (encNumber (width (formOf g .layout)) (numberIn g n ts k) ++ encTys ts) (number-bytes 2 g (w .small))
     (bytes-append (encNumber (width (formOf g .layout)) (numberIn g n ts k)) (encTys ts)
-          (number-bytes (width (formOf g .layout)) (numberIn g n ts k) (w .fits)) (tys-bytes ts (w .types)))
+    (number-bytes (width (formOf g .layout)) (numberIn g n ts k) (w .fits)) (tys-bytes ts (w .types)))
 
 mutual
   unfolding enc

@@ -13,8 +13,30 @@ use Rattle.frame.specs.Trees.{Head, head, Tree, node, Forest, nil, cons,
 use Rattle.frame.specs.Tags.{pick, Sort, predicate, expression, sameSort, Layout, Form, formOf, width, inRange, payloadOf, typesOf, sortsOf}
 use Rattle.frame.specs.At.{typesAt}
 use Rattle.frame.specs.Reading.{
-  numberAt, TysRes, okTs, noTs, readTys, HeadRes, okH, noH, withTys, withNumber, withForm, readHead, Res, ok, no, FRes, okF, noF,
-  consF, thenF, readMany, nodeOf, withKids, readNode
+  numberAt,
+  TysRes,
+  okTs,
+  noTs,
+  readTys,
+  HeadRes,
+  okH,
+  noH,
+  withTys,
+  withNumber,
+  withForm,
+  readHead,
+  Res,
+  ok,
+  no,
+  FRes,
+  okF,
+  noF,
+  consF,
+  thenF,
+  readMany,
+  nodeOf,
+  withKids,
+  readNode,
 }
 
 -- ---- one answer is not the other
@@ -138,7 +160,7 @@ head-inv s at e h p es eq =
     let tys : TysRes = readTys (typesOf (fm .layout) (fm .carried) x) s t₀ in
     let e₁ = else-of (ltb (length s) (at + 2)) (noH 3) (withForm fm s at e) z (never 3) eq in
     let e₂ = then-of (fm .listed) (pick (sameSort (fm .sort) e) (pick (ltb (length s) t₀) (noH 3) (withNumber fm s g x t₀)) (noH 4))
-        (noH 4) z (never 4) (e₁ .1) in
+    (noH 4) z (never 4) (e₁ .1) in
     let e₃ = then-of (sameSort (fm .sort) e) (pick (ltb (length s) t₀) (noH 3) (withNumber fm s g x t₀)) (noH 4) z (never 4) (e₂ .1) in
     let e₄ = else-of (ltb (length s) t₀) (noH 3) (withNumber fm s g x t₀) z (never 3) (e₃ .1) in
     let e₅ = then-of (inRange (fm .layout) x) (withTys fm g x tys) (noH 5) z (never 5) (e₄ .1) in

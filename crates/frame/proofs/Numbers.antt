@@ -5,8 +5,21 @@ use mathlib.Core.List.{List, _++_}
 use Prim.Native.Nat.{ℕ, zero, suc, _+_, _*_, _/_, _%_, _^_, _≤_, _<_}
 use native.Mathlib.Omega.{arith}
 use native.Mathlib.Nat.{
-  add-zero, suc-mul, mul-le-mul-right, one-le-pow, pow-suc, mod-lt, mul-add-div-right, mul-add-mod-self-right, div-eq-of-lt,
-  mod-eq-of-lt, div-add-mod', div-lt-iff-lt-mul, mul-assoc, pow-le-pow-right, lt-of-lt-of-le
+  add-zero,
+  suc-mul,
+  mul-le-mul-right,
+  one-le-pow,
+  pow-suc,
+  mod-lt,
+  mul-add-div-right,
+  mul-add-mod-self-right,
+  div-eq-of-lt,
+  mod-eq-of-lt,
+  div-add-mod',
+  div-lt-iff-lt-mul,
+  mul-assoc,
+  pow-le-pow-right,
+  lt-of-lt-of-le,
 }
 use native.Mathlib.Numerals.{add-one}
 use lib.ListN.{length, getD}

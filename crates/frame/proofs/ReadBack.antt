@@ -12,7 +12,22 @@ use Rattle.frame.specs.Trees.{Head, head, Tree, node, Forest, nil, cons,
 use Rattle.frame.specs.Tags.{Sort, sameSort, Layout, Form, formOf, width, sortsOf}
 use Rattle.frame.specs.Encoding.{encNumber, encTys, encHead, enc, encs}
 use Rattle.frame.specs.Reading.{
-  readTys, HeadRes, okH, withTys, withNumber, withForm, readHead, Res, ok, okF, consF, thenF, readMany, nodeOf, withKids, readNode
+  readTys,
+  HeadRes,
+  okH,
+  withTys,
+  withNumber,
+  withForm,
+  readHead,
+  Res,
+  ok,
+  okF,
+  consF,
+  thenF,
+  readMany,
+  nodeOf,
+  withKids,
+  readNode,
 }
 use Rattle.frame.specs.WellFormed.{numberIn, HeadWf, Wf, Wfs}
 use Rattle.frame.specs.Spans.{Spans}

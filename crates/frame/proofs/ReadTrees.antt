@@ -8,7 +8,20 @@ use lib.ListN.{length}
 use Rattle.frame.specs.Types.{Ty}
 use Rattle.frame.specs.Trees.{Head, head, Tree, node, Forest, nil, count}
 use Rattle.frame.specs.Tags.{
-  Sort, Layout, these, payload, counted, binding, formOf, width, inRange, numberOf, payloadOf, typesOf, repeat, sortsOf
+  Sort,
+  Layout,
+  these,
+  payload,
+  counted,
+  binding,
+  formOf,
+  width,
+  inRange,
+  numberOf,
+  payloadOf,
+  typesOf,
+  repeat,
+  sortsOf,
 }
 use Rattle.frame.specs.Encoding.{encNumber, encTys, encHead, enc, encs}
 use Rattle.frame.specs.Reading.{numberAt, okH, readHead, Res, ok, okF, readMany, readNode}
@@ -74,7 +87,7 @@ head-read s bs at e h p es eq k ek =
       ts = ts;
       is = v .is;
       span = rw (v .is) (subst (Spans s at p) (append-assoc (encNumber 2 g) (encNumber (width l) (numberIn g n ts k))
-              (encTys ts)) (span-join front back));
+          (encTys ts)) (span-join front back));
       types = t .span;
       past = omega (arith, back .long);
       wf = record {

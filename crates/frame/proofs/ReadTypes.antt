@@ -11,13 +11,38 @@ use borrow.Author.Tests.{leb-false, lt-leb}
 use Rattle.frame.specs.Types.{Ty, bool, int, given, pow, prod}
 use Rattle.frame.specs.Encoding.{encNumber, encTy, encTys}
 use Rattle.frame.specs.Reading.{
-  numberAt, TyRes, okT, noT, thenT, tyByte, byteOf, tyCase, readTy, typeLimit, TysRes, okTs, noTs, consTs, thenTs, readTys
+  numberAt,
+  TyRes,
+  okT,
+  noT,
+  thenT,
+  tyByte,
+  byteOf,
+  tyCase,
+  readTy,
+  typeLimit,
+  TysRes,
+  okTs,
+  noTs,
+  consTs,
+  thenTs,
+  readTys,
 }
 use Rattle.frame.specs.WellFormed.{TyWf, TysWf}
 use Rattle.frame.specs.Spans.{Bytes, Spans}
 use Rattle.frame.proofs.Spans.{
-  cut-both, span-nil, span-one, span-join, span-cons, span-left, span-right, span-first, span-whole, bytes-nil, bytes-cons,
-  bytes-append
+  cut-both,
+  span-nil,
+  span-one,
+  span-join,
+  span-cons,
+  span-left,
+  span-right,
+  span-first,
+  span-whole,
+  bytes-nil,
+  bytes-cons,
+  bytes-append,
 }
 use Rattle.frame.proofs.Numbers.{number-span, number-bytes, number-two}
 
@@ -69,7 +94,7 @@ module _ (lim : ℕ) (s : List ℕ) (bs : Bytes s) (go : ℕ → TyRes)
       let en : numberAt 2 s (at + 1) ≡ n = number-two s (at + 1) ∙ ap (λ (i : ℕ). getD s (at + 1) 0 * 256 + getD s i 0) i₂ in
       subst (λ (u : Ty). TyRead lim s at u p) et record {
         span = span-cons k eb (subst₂ (λ (i j : ℕ). Spans s (at + 1) i (encNumber 2 j)) z en
-              (number-span 2 s bs (at + 1) (omega (arith, y .within))));
+            (number-span 2 s bs (at + 1) (omega (arith, y .within))));
         wf = omega (arith, bs (at + 1), bs (at + 2));
         by = omega (arith, y .low);
       }
@@ -91,7 +116,7 @@ module _ (lim : ℕ) (s : List ℕ) (bs : Bytes s) (go : ℕ → TyRes)
       let er : r ≡ p = cc in
       let b = ih q v r ey in
       subst₂ (λ (v : Ty) (i : ℕ). TyRead lim s at v i) et er record
-          { span = span-cons k eb (span-join (a .span) (b .span)); wf = (a .wf, b .wf); by = b .by }
+      { span = span-cons k eb (span-join (a .span) (b .span)); wf = (a .wf, b .wf); by = b .by }
   read-prod₂ t p eb u q a (noT c) ey e = noT-not e
 
   read-prod : (t : Ty) (p : ℕ) → getD s at 0 ≡ 4 → (x : TyRes) → go (at + 1) ≡ x
@@ -176,7 +201,7 @@ ty-back (given n) (suc f) lim s at p a w l k =
     let en : n / 256 * 256 + n % 256 / 1 ≡ n = omega arith in
     byte-back lim s at 2 (λ b. tyCase b lim s at (readTy f lim s)) (omega (arith, a .long)) (h .within) (h .byte)
     ∙ byte-back lim s (at + 1) (n / 256) (λ x. byteOf lim s (at + 2) (λ y. okT (given (x * 256 + y)) (at + 3)))
-        (omega (arith, a .long)) (b .within) (b .byte)
+    (omega (arith, a .long)) (b .within) (b .byte)
     ∙ byte-back lim s (at + 2) (n % 256 / 1) (λ y. okT (given (n / 256 * 256 + y)) (at + 3)) (omega (arith, a .long)) (c .within) (c .byte)
     ∙ ap₂ okT (ap given en) (a .long)
 ty-back (pow t) (suc f) lim s at p a w l k =
@@ -190,7 +215,7 @@ ty-back (prod t u) (suc f) lim s at p a w l k =
     let m : ℕ = at + 1 + length (encTy t) in
     byte-back lim s at 4 (λ b. tyCase b lim s at (readTy f lim s)) (omega (arith, a .long)) (h .within) (h .byte)
     ∙ ap (λ (x : TyRes). thenT x (λ u q. thenT (readTy f lim s q) (λ v r. okT (prod u v) r)))
-        (ty-back t f lim s (at + 1) m b (w .0) (omega (arith, c .long)) (omega (arith, c .long)))
+    (ty-back t f lim s (at + 1) m b (w .0) (omega (arith, c .long)) (omega (arith, c .long)))
     ∙ ap (λ (x : TyRes). thenT x (λ v r. okT (prod t v) r)) (ty-back u f lim s m p c (w .1) l (omega arith))
 
 pub tys-back : (ts : List Ty) (s : List ℕ) (at p : ℕ) → Spans s at p (encTys ts) → TysWf ts → readTys (length ts) s at ≡ okTs ts p

@@ -43,7 +43,7 @@ mutual
   findIn-some nil Γ k l = absurd (omega arith)
   findIn-some (cons t ks) Γ k l =
       either-side Stands k (nodes t) (find t Γ k) (findIn ks Γ (k - nodes t)) (λ h. find-some t Γ k h)
-          (λ h. findIn-some ks Γ (k - nodes t) (omega arith))
+      (λ h. findIn-some ks Γ (k - nodes t) (omega arith))
 
 mutual
   unfolding find nodes
@@ -56,7 +56,7 @@ mutual
   findIn-none nil Γ k l = refl
   findIn-none (cons t ks) Γ k l =
       either-side (λ (x : Found). x ≡ absent) k (nodes t) (find t Γ k) (findIn ks Γ (k - nodes t)) (λ h. absurd (omega arith))
-          (λ h. findIn-none ks Γ (k - nodes t) (omega arith))
+      (λ h. findIn-none ks Γ (k - nodes t) (omega arith))
 
 pub find-lt : (t : Tree) (Γ : Ctx) (k : ℕ) (Δ : Ctx) (v : Tree) → find t Γ k ≡ found Δ v → k < nodes t
 find-lt t Γ k Δ v e = either-side (λ (x : Unit {0}). k < nodes t) k (nodes t) tt tt (λ h. h) (λ h. absent-not Δ v (sym (find-none t Γ k h) ∙ e))
@@ -89,7 +89,7 @@ count-replace (cons t ks) k u =
 pub replace-same : (t : Tree) (Γ : Ctx) (k : ℕ) (Δ : Ctx) (v : Tree) → find t Γ k ≡ found Δ v → replace t k v ≡ t
 replace-same t Γ k Δ v e =
     at-place (λ Γ (a b : Tree). b ≡ a) (λ Γ (a b : Forest). b ≡ a) (λ g n ts ks ls Γ h. ap (node (head g n ts)) h)
-        (λ t u ks Γ h. ap (λ (x : Tree). cons x ks) h)
+    (λ t u ks Γ h. ap (λ (x : Tree). cons x ks) h)
     (λ t ks ls Γ h. ap (cons t) h) t Γ k Δ v v e refl
 
 -- ---- the bytes around a place
@@ -145,10 +145,10 @@ splice-cons : (t : Tree) (ks : Forest) (k : ℕ) (Δ : Ctx) (v : Tree) (p : ℕ)
 unfolding enc
 splice-cons t ks k Δ v p x y true h e f g =
     rw (starts-first t p k (startsIn ks (p + length (enc t))) (ltb-true k (nodes t) h))
-        (splits-behind (encs ks) v p _ (enc t) (λ u. enc (replace t k u)) (f e))
+    (splits-behind (encs ks) v p _ (enc t) (λ u. enc (replace t k u)) (f e))
 splice-cons t ks k Δ v p x y false h e f g =
     rw (starts-behind t p k (startsIn ks (p + length (enc t))) (ltb-false k (nodes t) h))
-        (splits-front (enc t) v p _ (encs ks) (λ u. encs (replaceIn ks (k - nodes t) u)) (g e))
+    (splits-front (enc t) v p _ (encs ks) (λ u. encs (replaceIn ks (k - nodes t) u)) (g e))
 
 splice-node : (h : Head) (ks : Forest) (k : ℕ) (v : Tree) (p a : ℕ)
     → Splits v (p + length (encHead h (count ks))) a (encs ks) (λ u. encs (replaceIn ks k u))

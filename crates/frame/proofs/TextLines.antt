@@ -25,8 +25,13 @@ digit-back v h = go (leb v 9) refl
     go true e = let l = leb-true v 9 e in rw (le-leb 48 (v + 48) (omega arith), le-leb (v + 48) 57 (omega arith)) (omega arith)
     go false e =
         let l = leb-false v 9 e in
-        rw (lt-leb (v + 55) 57 (omega arith), le-leb 48 (v + 55) (omega arith), le-leb 65 (v + 55) (omega arith), le-leb (v + 55) 70
-              (omega arith)) (omega arith)
+        rw (
+          lt-leb (v + 55) 57 (omega arith),
+          le-leb 48 (v + 55) (omega arith),
+          le-leb 65 (v + 55) (omega arith),
+          le-leb (v + 55) 70
+              (omega arith),
+        ) (omega arith)
 
 pub digit-write : (c : ℕ) → digitOf c ≤ 15 → digitFor (digitOf c) ≡ c
 unfolding digitOf digitFor
@@ -55,8 +60,15 @@ line-back (b ∷ s) bs =
     let z : b / 16 * 16 + b % 16 ≡ b = omega arith in
     let h : b / 16 < 16 = omega arith in
     let k : b % 16 < 16 = omega arith in
-    rw (digit-back (b / 16) h, digit-back (b % 16) k, le-leb (b / 16) 15 (omega arith), le-leb (b % 16) 15
-          (omega arith), line-back s (λ i. bs (suc i)), z)
+    rw (
+      digit-back (b / 16) h,
+      digit-back (b % 16) k,
+      le-leb (b / 16) 15 (omega arith),
+      le-leb (b % 16) 15
+          (omega arith),
+      line-back s (λ i. bs (suc i)),
+      z,
+    )
 
 -- a line that is read is the text of its bytes
 pub record LineWrite (cs s : List ℕ) : Type 0 where

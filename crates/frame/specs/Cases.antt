@@ -10,7 +10,19 @@ use Rattle.frame.specs.Tags.{lookup, classOf, formAt}
 use Rattle.frame.specs.Lines.{digitOf, readLine}
 use Rattle.frame.specs.Texts.{bytes, times}
 use Rattle.frame.specs.Reading.{
-  numberAt, tyCase, readTy, readTys, withNumber, withForm, readHead, readMany, readNode, Parsed, tree, bad, parse
+  numberAt,
+  tyCase,
+  readTy,
+  readTys,
+  withNumber,
+  withForm,
+  readHead,
+  readMany,
+  readNode,
+  Parsed,
+  tree,
+  bad,
+  parse,
 }
 
 data Case : Type 0 where

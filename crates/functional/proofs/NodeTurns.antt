@@ -38,8 +38,14 @@ unfolding formAtCode
 past-950 g h =
     let z : formOf g ≡ formAtCode 0 = sym (form-code (classOf g)) ∙ ap formAtCode (beyond g (omega arith)) in
     ap (λ (f : Form). eqb (layoutKind (f .layout)) 3) z
-    ∙ sym (simp (ne-eqb g 801 (λ e. omega arith), ne-eqb g 802 (λ e. omega arith), ne-eqb g 803 (λ e. omega arith), ne-eqb g 851
-            (λ e. omega arith), ne-eqb g 852 (λ e. omega arith)))
+    ∙ sym (simp (
+      ne-eqb g 801 (λ e. omega arith),
+      ne-eqb g 802 (λ e. omega arith),
+      ne-eqb g 803 (λ e. omega arith),
+      ne-eqb g 851
+          (λ e. omega arith),
+      ne-eqb g 852 (λ e. omega arith),
+    ))
 
 pub binder-kind : (g : ℕ) → eqb (layoutKind (formOf g .layout)) 3 ≡ isBinder g
 binder-kind g = go (ltb g 950) refl

@@ -154,7 +154,7 @@ module _ (s st nx : List ℕ) (c m : ℕ) (some : m ≡ 0 → ⊥) where
               ∙ ap₂ _||_ (bit-or own below i ∙ ap₂ _||_ u v) w
               ∙ three (ltb i n) _ _ _
               ∙ ap (λ (q : Bool). ltb i n && q) (sym (ap (λ (f : Forest). named all f (i + d)) (o .is) ∙ named-step all (o .g) (o .x)
-                      (o .us) (o .below) (o .others) (i + d)))
+              (o .us) (o .below) (o .others) (i + d)))
 
 pub named-none : (s st nx : List ℕ) (c m d n : ℕ) (all : Bool) → m ≡ 0 → NamedPost s st nx c m d n all 0
 named-none s st nx c m d n all z = record { bits = λ t N Γ ks tb kids em i. bit-none i ∙ go ks (sym em ∙ z) i }
@@ -198,12 +198,28 @@ module _ (n u v : ℕ) (f h : ℕ → Bool) (used : (i : ℕ) → bit u i ≡ (l
 
 module _ (s st nx : List ℕ) (left right : ℕ) where
   pub row-right : Both s st nx left right → Row s st nx right 1
-  row-right h = record { t = h .t; N = h .N; table = h .table; Γ = h .Γ; ks = cons (h .w) nil; kids = one-row (h .t) right (h .Γ) (h .w)
-        (h .at-right); many = refl }
+  row-right h = record {
+    t = h .t;
+    N = h .N;
+    table = h .table;
+    Γ = h .Γ;
+    ks = cons (h .w) nil;
+    kids = one-row (h .t) right (h .Γ) (h .w)
+        (h .at-right);
+    many = refl;
+  }
 
   pub row-left : Both s st nx left right → Row s st nx left 1
-  row-left h = record { t = h .t; N = h .N; table = h .table; Γ = h .Γ; ks = cons (h .v) nil; kids = one-row (h .t) left (h .Γ) (h .v)
-        (h .at-left); many = refl }
+  row-left h = record {
+    t = h .t;
+    N = h .N;
+    table = h .table;
+    Γ = h .Γ;
+    ks = cons (h .v) nil;
+    kids = one-row (h .t) left (h .Γ) (h .v)
+        (h .at-left);
+    many = refl;
+  }
 
   module _ (n u v : ℕ) (pu : NamedPost s st nx right 1 0 n true u) (pv : NamedPost s st nx left 1 0 n false v) where
     pub check-done : n ≤ 32 → u < 4294967296 → v < 4294967296 → FunctionalPost s st nx left right n (eqb (bitAnd u (4294967295 - v)) 0)

@@ -65,8 +65,8 @@ module _ (s : List ℕ) (at m : ℕ) (z : m ≡ 0 → ⊥) (to n : ℕ) (et : to
       let b = span-first a in
       let e : at + 1 + 2 ≡ at + 3 = omega arith in
       by-lead q 2 3 0 (b .byte) refl refl us (omega arith)
-          (subst (λ (i : ℕ). Spans s i q (encTys us)) (ap (λ (i : ℕ). at + 1 + i) (number-length 2 k) ∙ e)
-            (span-right (encNumber 2 k) (encTys us) (b .rest)))
+      (subst (λ (i : ℕ). Spans s i q (encTys us)) (ap (λ (i : ℕ). at + 1 + i) (number-length 2 k) ∙ e)
+      (span-right (encNumber 2 k) (encTys us) (b .rest)))
   after-first (pow t ∷ us) q l a = let b = span-first a in by-lead q 3 1 1 (b .byte) refl refl (t ∷ us) (omega arith) (b .rest)
   after-first (prod t u ∷ us) q l a =
       let b = span-first a in

@@ -52,7 +52,7 @@ ty-end lim s at h l = ty-step lim s at (Refused 3) (omega arith) (λ f k. rw (lt
 -- the byte b is met
 module _ (lim : ℕ) (s : List ℕ) (at : ℕ) (h : at < lim) (l : at < length s) where
   ty-byte : (b : ℕ) (r : TypeAnswer) → getD s at 0 ≡ b → ((f : ℕ) → lim < at + suc f
-        → r ≡ typeAnswer (tyCase b lim s at (readTy f lim s))) → TyPost lim s at r
+      → r ≡ typeAnswer (tyCase b lim s at (readTy f lim s))) → TyPost lim s at r
   ty-byte b r eb k =
       ty-step lim s at r (omega arith) (λ f z. rw (lt-leb lim at h, lt-leb (length s) at l)
       (k f z ∙ ap (λ (i : ℕ). typeAnswer (tyCase i lim s at (readTy f lim s))) (sym eb)))
@@ -129,7 +129,7 @@ module _ (s : List ℕ) (at n : ℕ) (some : n ≡ 0 → ⊥) (a : TypeAnswer) (
   pub tys-no : (c : ℕ) → a ≡ Refused c → Refused c ≡ typesAnswer (readTys n s at)
   tys-no c ec =
       ap (λ (x : TyRes). typesAnswer (thenTs x (λ q. readTys (n - 1) s q)))
-          (sym (refused-inv (readTy (suc typeLimit) (at + typeLimit) s at) c (sym ec ∙ now-first)))
+      (sym (refused-inv (readTy (suc typeLimit) (at + typeLimit) s at) c (sym ec ∙ now-first)))
       ∙ ap typesAnswer (sym tys-step)
 
   module _ (p : ℕ) (ep : a ≡ Ends p) where

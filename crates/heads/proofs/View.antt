@@ -78,7 +78,7 @@ module _ (s : List ℕ) (n : ℕ) (a b : Bool) (at : ℕ) (ks : Forest) (q : ℕ
   kids-some d =
       let z : n ≡ suc (n - 1) = omega arith in
       let e : readMany (kindsFor (suc (n - 1)) a b) (readNode (h .0) s) at ≡ okF ks q = subst
-          (λ (i : ℕ). readMany (kindsFor i a b) (readNode (h .0) s) at ≡ okF ks q) z (h .1) in
+      (λ (i : ℕ). readMany (kindsFor i a b) (readNode (h .0) s) at ≡ okF ks q) z (h .1) in
       let v = many-inv (sortFor a) _ (readNode (h .0) s) at ks q e in record {
         first = v .first;
         rest = v .rest;
@@ -137,7 +137,7 @@ said-kinds s at e g n tp p k a b y =
 -- a node whose head was read, and its children
 view-node : (s : List ℕ) → Bytes s → (f : ℕ) (e : Sort) (at : ℕ) (t : Tree) (q g n : ℕ) (us : List Ty) (tp p k : ℕ) (a b : Bool)
     → readHead s at e ≡ okH (head g n us) p (kindsFor k a b) → tp ≡ typesAt s at → length (kindsFor k a b) ≡ k → NodeInv f s e at t q
-        → View s e at t q g n tp p k a b
+    → View s e at t q g n tp p k a b
 view-node s bs f e at t q g n us tp p k a b eq st el d =
     let i = d .headed in
     let top : d .top ≡ head g n us = cc in
@@ -169,7 +169,7 @@ module _ (s : List ℕ) (e : Sort) (at : ℕ) (t : Tree) (q : ℕ) (h : IsAt s e
           let y = head-yes s at e g n tp p k a b (sym ei ∙ ex) in
           let z = said-kinds s at e g n tp p k a b y in
           view-node s bs f e at t q g n (y .ts) tp p k a b (y .is ∙ ap (okH (head g n (y .ts)) p) (sym z)) (y .starts)
-              (ap length z ∙ sym (y .many)) (node-inv f s e at t q eq)
+          (ap length z ∙ sym (y .many)) (node-inv f s e at t q eq)
 
   pub no-view {ℓ} : {X : Type ℓ} (c : ℕ) → x ≡ H.Refused c → X
   unfolding readNode

@@ -43,7 +43,7 @@ module _ (σ : ℕ → Ty) where
         let c = all-left (NameOk σ) (identOf g n us) (identsIn ks) (s .0) in
         let d = all-right (NameOk σ) (identOf g n us) (identsIn ks) (s .0) in
         all-join (NameOk σ) (claimsOf (head g n us)) (claimsIn ks)
-            (all-join (NameOk σ) (powers (givensTys us)) (identOf g n us) (powers-ok (givensTys us) a) c)
+        (all-join (NameOk σ) (powers (givensTys us)) (identOf g n us) (powers-ok (givensTys us) a) c)
         (claims-of-signed-all ks (d, b))
 
     claims-of-signed-all : (ks : Forest) → SignedAll σ ks → All (NameOk σ) (claimsIn ks)
@@ -103,7 +103,7 @@ clash-disagree t c = go (namesAgree t) refl
         let σ : ℕ → Ty = signature t in
         let h = claims-of-signed σ t (names-signed t e) in
         absurd (c .differ (all-in (NameOk σ) (claims t) (named (c .number) (c .one)) h (c .first) ∙ sym
-                (all-in (NameOk σ) (claims t) (named (c .number) (c .other)) h (c .second))))
+        (all-in (NameOk σ) (claims t) (named (c .number) (c .other)) h (c .second))))
     go false e = refl
 
 -- ---- what an entry says

@@ -24,8 +24,20 @@ use Rattle.typing.proofs.Members.{in-left, in-right, in-either}
 use Rattle.frame.proofs.ReadTypes.{ty-long}
 use Rattle.octets.specs.Bytes.{SameParts}
 use Rattle.identifiers.specs.Claims.{
-  Clash, TypeAt, givenMark, Says, by-mark, by-place, Told, Noted, PowerPost, SameType, Held, NamePost, GivenPost,
-  Unlisted
+  Clash,
+  TypeAt,
+  givenMark,
+  Says,
+  by-mark,
+  by-place,
+  Told,
+  Noted,
+  PowerPost,
+  SameType,
+  Held,
+  NamePost,
+  GivenPost,
+  Unlisted,
 }
 use Rattle.identifiers.proofs.Claims.{type-unique}
 
@@ -36,7 +48,7 @@ zeros m n = go (ltb n m) refl
     go : (b : Bool) → ltb n m ≡ b → _≡_ {A = ℕ} (getD (replicate m 0) n 0) 0
     go true e = getD-replicate m n 0 0 (ltb-true n m e)
     go false e = (let l : length {A = ℕ} (replicate m 0) ≤ n = rw (length-replicate {A = ℕ} m 0) (ltb-false n m e) in
-          List·getD-eq-default {A = ℕ} (replicate m 0) 0 l)
+        List·getD-eq-default {A = ℕ} (replicate m 0) 0 l)
 
 pub told-none : (s : List ℕ) (m : ℕ) → Told s (replicate m 0) []
 told-none s m = record { all = λ n t i. absurd i; only = λ n h. absurd (h (zeros m n)) }
@@ -75,7 +87,7 @@ module _ (s table : List ℕ) (done : List Named) (h : Told s table done) (n : �
           let em : n ≡ m = cc in
           let eu : t ≡ u = cc in
           subst (λ (w : Ty). Says s m (getD (set table n v) m 0) w) eu
-              (subst (λ (k : ℕ). Says s k (getD (set table n v) k 0) t) em (subst (λ (k : ℕ). Says s n k t) (sym same) a))
+          (subst (λ (k : ℕ). Says s k (getD (set table n v) k 0) t) em (subst (λ (k : ℕ). Says s n k t) (sym same) a))
       all-of m u (inr (inr i)) = absurd i
 
       only-of : (m : ℕ) → (getD (set table n v) m 0 ≡ 0 → ⊥) → (b : Bool) → eqb m n ≡ b
@@ -83,7 +95,7 @@ module _ (s table : List ℕ) (done : List Named) (h : Told s table done) (n : �
       only-of m x true e =
           let em : n ≡ m = sym (eqb-true m n e) in
           subst (λ (k : ℕ). (u : Ty) × In (named k u) with-it × Says s k (getD (set table n v) k 0) u) em
-              (t, here, subst (λ (k : ℕ). Says s n k t) (sym same) a)
+          (t, here, subst (λ (k : ℕ). Says s n k t) (sym same) a)
       only-of m x false e =
           let o = other m (eqb-false m n e) in
           let w = h .only m (λ z. x (o ∙ z)) in
@@ -131,14 +143,23 @@ pub noted-nil : (s table : List ℕ) → Noted s table table [] true
 noted-nil s table = record { size = refl; by = λ done h. subst (λ (l : List Named). Told s table l) (sym (append-nil done)) h }
 
 pub noted-then : (s t₀ t₁ t₂ : List ℕ) (xs ys : List Named) (r : Bool) → Noted s t₀ t₁ xs true → Noted s t₁ t₂ ys r → Noted s t₀ t₂ (xs ++ ys) r
-noted-then s t₀ t₁ t₂ xs ys true a b = record { size = b .size ∙ a .size; by = λ done h. subst (λ (l : List Named). Told s t₂ l)
-      (append-assoc done xs ys) (b .by (done ++ xs) (a .by done h)) }
-noted-then s t₀ t₁ t₂ xs ys false a b = record { size = b .size ∙ a .size; by = λ done h. subst Clash (append-assoc done xs ys)
-      (b .by (done ++ xs) (a .by done h)) }
+noted-then s t₀ t₁ t₂ xs ys true a b = record {
+  size = b .size ∙ a .size;
+  by = λ done h. subst (λ (l : List Named). Told s t₂ l)
+      (append-assoc done xs ys) (b .by (done ++ xs) (a .by done h));
+}
+noted-then s t₀ t₁ t₂ xs ys false a b = record {
+  size = b .size ∙ a .size;
+  by = λ done h. subst Clash (append-assoc done xs ys)
+      (b .by (done ++ xs) (a .by done h));
+}
 
 pub noted-early : (s t₀ t₁ : List ℕ) (xs ys : List Named) → Noted s t₀ t₁ xs false → Noted s t₀ t₁ (xs ++ ys) false
-noted-early s t₀ t₁ xs ys a = record { size = a .size; by = λ done h. subst Clash (append-assoc done xs ys)
-      (clash-more (done ++ xs) ys (a .by done h)) }
+noted-early s t₀ t₁ xs ys a = record {
+  size = a .size;
+  by = λ done h. subst Clash (append-assoc done xs ys)
+      (clash-more (done ++ xs) ys (a .by done h));
+}
 
 pub noted-true : (s t₀ t₁ : List ℕ) (xs : List Named) (r : Bool) → Noted s t₀ t₁ xs r → r ≡ true → Noted s t₀ t₁ xs true
 noted-true s t₀ t₁ xs r a e = subst (λ (o : Bool). Noted s t₀ t₁ xs o) e a
@@ -231,8 +252,12 @@ module _ (s : List ℕ) (p q e : ℕ) where
   pub type-bytes : p ≤ q → e + (q - p) ≤ length s → (r : Bool) → SameParts s p e (q - p) r → SameType s p q e r
   type-bytes l w r b = record {
     yes = λ y t a. record {
-      span = record { long = lengths t a; within = w; bytes = ap (λ (i : ℕ). take i (drop e s)) (long t a) ∙ sym
-            (b .same y) ∙ take-span s p q (encTy t) (a .span) };
+      span = record {
+        long = lengths t a;
+        within = w;
+        bytes = ap (λ (i : ℕ). take i (drop e s)) (long t a) ∙ sym
+            (b .same y) ∙ take-span s p q (encTy t) (a .span);
+      };
       wf = a .wf;
     };
     not = λ y t x a c. b .differ y (take-span s p q (encTy t) (a .span) ∙ sym (ap (λ (i : ℕ). take i (drop e s)) (sym (long t a)) ∙ c .span .bytes));
@@ -264,14 +289,29 @@ module _ (s table : List ℕ) (n : ℕ) where
 
   module _ (p q : ℕ) where
     pub name-new : n < length table → p < 4096 → getD table n 0 ≡ 0 → NamePost s n p q table (set table n (p + 1)) true
-    name-new l k z = record { by = λ t a. record { size = length-set table n (p + 1); by = λ done h. note-new s table done h n t l z (p + 1)
-            (by-place p q (omega arith) k a) } }
+    name-new l k z = record {
+      by = λ t a. record {
+        size = length-set table n (p + 1);
+        by = λ done h. note-new s table done h n t l z (p + 1)
+            (by-place p q (omega arith) k a);
+      };
+    }
 
     pub name-mark : n < 65536 → getD table n 0 ≡ givenMark → (r : Bool) → PowerPost s p n r → NamePost s n p q table table r
-    name-mark l g true b = record { by = λ t a. record { size = refl; by = λ done h. note-same s table done h n t
-            (by-mark g (type-unique s p q (p + 4) t (pow (given n)) a (b .yes refl))) } }
-    name-mark l g false b = record { by = λ t a. record { size = refl; by = λ done h. note-clash s table done h n t
-            (λ z. let w : _≡_ {A = ℕ} 0 givenMark = sym z ∙ g in omega arith) (never t a) } }
+    name-mark l g true b = record {
+      by = λ t a. record {
+        size = refl;
+        by = λ done h. note-same s table done h n t
+            (by-mark g (type-unique s p q (p + 4) t (pow (given n)) a (b .yes refl)));
+      };
+    }
+    name-mark l g false b = record {
+      by = λ t a. record {
+        size = refl;
+        by = λ done h. note-clash s table done h n t
+            (λ z. let w : _≡_ {A = ℕ} 0 givenMark = sym z ∙ g in omega arith) (never t a);
+      };
+    }
       where
         never : (t : Ty) → TypeAt s p q t → Says s n (getD table n 0) t → ⊥
         never t a (by-mark e f) = b .not refl q (subst (TypeAt s p q) f a)
@@ -279,9 +319,13 @@ module _ (s table : List ℕ) (n : ℕ) where
 
     pub name-place : Held s table → (getD table n 0 ≡ 0 → ⊥) → (getD table n 0 ≡ givenMark → ⊥) → (v : ℕ) → v ≡ getD table n 0 → (r : Bool)
         → SameType s p q (v - 1) r → NamePost s n p q table table r
-    name-place hd z g v ev true b = record { by = λ t a. record
-          { size = refl; by = λ done h. note-same s table done h n t
-            (by-place (v - 1) _ (omega arith) (entry-place hd z g v ev .1) (b .yes refl t a)) } }
+    name-place hd z g v ev true b = record {
+      by = λ t a. record {
+        size = refl;
+        by = λ done h. note-same s table done h n t
+            (by-place (v - 1) _ (omega arith) (entry-place hd z g v ev .1) (b .yes refl t a));
+      };
+    }
     name-place hd z g v ev false b = record { by = λ t a. record { size = refl; by = λ done h. note-clash s table done h n t z (never t a) } }
       where
         never : (t : Ty) → TypeAt s p q t → Says s n (getD table n 0) t → ⊥
@@ -289,16 +333,22 @@ module _ (s table : List ℕ) (n : ℕ) where
         never t a (by-place p' q' e l' a') = let w : p' ≡ v - 1 = omega arith in b .not refl t q' a (subst (λ (i : ℕ). TypeAt s i q' t) w a')
 
   pub given-new : n < length table → getD table n 0 ≡ 0 → GivenPost s n table (set table n givenMark) true
-  given-new l z = record { size = length-set table n givenMark; by = λ done h. note-new s table done h n
-        (pow (given n)) l z givenMark (by-mark refl refl) }
+  given-new l z = record {
+    size = length-set table n givenMark;
+    by = λ done h. note-new s table done h n
+        (pow (given n)) l z givenMark (by-mark refl refl);
+  }
 
   pub given-mark : getD table n 0 ≡ givenMark → GivenPost s n table table true
   given-mark g = record { size = refl; by = λ done h. note-same s table done h n (pow (given n)) (by-mark g refl) }
 
   pub given-place : Held s table → (getD table n 0 ≡ 0 → ⊥) → (getD table n 0 ≡ givenMark → ⊥) → (v : ℕ) → v ≡ getD table n 0 → (r : Bool)
       → PowerPost s (v - 1) n r → GivenPost s n table table r
-  given-place hd z g v ev true b = record { size = refl; by = λ done h. note-same s table done h n (pow (given n))
-        (by-place (v - 1) _ (omega arith) (entry-place hd z g v ev .1) (b .yes refl)) }
+  given-place hd z g v ev true b = record {
+    size = refl;
+    by = λ done h. note-same s table done h n (pow (given n))
+        (by-place (v - 1) _ (omega arith) (entry-place hd z g v ev .1) (b .yes refl));
+  }
   given-place hd z g v ev false b = record { size = refl; by = λ done h. note-clash s table done h n (pow (given n)) z never }
     where
       never : Says s n (getD table n 0) (pow (given n)) → ⊥

@@ -27,7 +27,20 @@ use Rattle.typing.specs.Typing.{carriedTy}
 use Rattle.typing.specs.Members.{All}
 use Rattle.typing.specs.Identifiers.{identTag, Named, named, givensTys, identOf, namesAgree}
 use Rattle.identifiers.specs.Claims.{
-  powers, claimsOf, claims, claimsIn, TypeAt, Noted, Held, TypesAt, NotedTo, TypesPost, NodePost, NamePost, NamesAnswer, NamesPost
+  powers,
+  claimsOf,
+  claims,
+  claimsIn,
+  TypeAt,
+  Noted,
+  Held,
+  TypesAt,
+  NotedTo,
+  TypesPost,
+  NodePost,
+  NamePost,
+  NamesAnswer,
+  NamesPost,
 }
 use Rattle.identifiers.specs.declared.Noting.{Noting}
 use Rattle.identifiers.specs.declared.Noting.the-variants.{Ends, Clashed, Beyond}
@@ -35,7 +48,14 @@ use Rattle.identifiers.specs.declared.Names.{Names}
 use Rattle.identifiers.specs.declared.Names.the-variants.{Agree, Differ, Undecided}
 use Rattle.identifiers.proofs.Claims.{agree-told, clash-disagree}
 use Rattle.identifiers.proofs.NotedClaims.{
-  told-none, noted-nil, noted-then, noted-early, held-then, unlisted-then, unlisted-early, unlisted-one
+  told-none,
+  noted-nil,
+  noted-then,
+  noted-early,
+  held-then,
+  unlisted-then,
+  unlisted-early,
+  unlisted-one,
 }
 use Rattle.identifiers.proofs.NotingTypes.{Some}
 
@@ -62,8 +82,14 @@ unfolding encHead
 head-long g n us k at =
     let w : ℕ = width (formOf g .layout) in
     let x : ℕ = numberIn g n us k in
-    omega (arith, length-append (encNumber 2 g) (encNumber w x ++ encTys us), length-append (encNumber w x)
-          (encTys us), number-length 2 g, number-length w x)
+    omega (
+      arith,
+      length-append (encNumber 2 g) (encNumber w x ++ encTys us),
+      length-append (encNumber w x)
+          (encTys us),
+      number-length 2 g,
+      number-length w x,
+    )
 
 next : (s : List ℕ) (at g n : ℕ) (us : List Ty) (ks later : Forest) (es : List Sort) → Rest s at (cons (node (head g n us) ks) later) es
     → Next s at g n us ks later
@@ -74,7 +100,7 @@ next s at g n us ks later (e ∷ es) a =
     let x : ℕ = numberIn g n us (count ks) in
     let h = a .wf .0 .0 in
     let b : Spans s at (length s) (encNumber 2 g ++ (encNumber w x ++ (encTys us ++ encs (append ks later)))) = rw encs-append
-        (simp append-assoc at (a .span)) in
+    (simp append-assoc at (a .span)) in
     let c = number-back 2 s at (length s) g (encNumber w x ++ (encTys us ++ encs (append ks later))) (h .small) b in
     let d = number-back w s (at + 2) (length s) x (encTys us ++ encs (append ks later)) (h .fits) (c .rest) in
     let z = head-long g n us (count ks) at in
@@ -141,7 +167,7 @@ now-of s at g n us ks later v form w x m d =
     let ew : w ≡ width (formOf g .layout) = d .wide ∙ ap (λ (fm : Form). width (fm .layout)) f in
     let ex : x ≡ numberIn g n us k = d .number ∙ ap (λ (i : ℕ). numberAt i s (at + 2)) ew ∙ v .number in
     let em : m ≡ length us = d .many ∙ ap (λ (fm : Form). typesOf (fm .layout) (fm .carried) x) f ∙ ap
-        (typesOf (formOf g .layout) (formOf g .carried)) ex ∙ sym (h .many) in
+    (typesOf (formOf g .layout) (formOf g .carried)) ex ∙ sym (h .many) in
     let q : ℕ = at + length (encHead (head g n us) k) in
     let sp : Spans s (at + 2 + w) q (encTys us) = subst (λ (i : ℕ). Spans s (at + 2 + i) q (encTys us)) (sym ew) (v .types) in
     record {
@@ -203,7 +229,7 @@ module _ (s : List ℕ) (at tag form w x m : ℕ) (d : Seen s at tag form w x m)
   module _ (t₀ t₁ : List ℕ) (r : Noting) (p : TypesPost s (at + 2 + w) m t₀ t₁ r) where
     -- the given sets' claims, and then what is said of an identifier's own
     node-by : (t : List ℕ) (b : Noting) → ((g n : ℕ) (us : List Ty) (q : ℕ) → tag ≡ g → Now s at g n us w x m q
-          → NotedTo s t₀ t₁ (powers (givensTys us)) q r → NotedTo s t₀ t (powers (givensTys us) ++ identOf g n us) q b)
+        → NotedTo s t₀ t₁ (powers (givensTys us)) q r → NotedTo s t₀ t (powers (givensTys us) ++ identOf g n us) q b)
         → NodePost s at t₀ t b
     node-by t b f = record { by = go }
       where
@@ -215,25 +241,25 @@ module _ (s : List ℕ) (at tag form w x m : ℕ) (d : Seen s at tag form w x m)
 
     pub node-beyond : r ≡ Beyond → NodePost s at t₀ t₁ Beyond
     node-beyond er = node-by t₁ Beyond (λ g n us q z v a. unlisted-early t₀ (powers (givensTys us)) (identOf g n us)
-          (subst (NotedTo s t₀ t₁ (powers (givensTys us)) q) er a))
+        (subst (NotedTo s t₀ t₁ (powers (givensTys us)) q) er a))
 
     pub node-clash : r ≡ Clashed → NodePost s at t₀ t₁ Clashed
     node-clash er = node-by t₁ Clashed (λ g n us q z v a. noted-early s t₀ t₁ (powers (givensTys us)) (identOf g n us)
-          (subst (NotedTo s t₀ t₁ (powers (givensTys us)) q) er a))
+        (subst (NotedTo s t₀ t₁ (powers (givensTys us)) q) er a))
 
     module _ (q : ℕ) (er : r ≡ Ends q) where
       pub node-other : (tag ≡ identTag → ⊥) → NodePost s at t₀ t₁ (Ends q)
       node-other ne =
           node-by t₁ (Ends q) (λ g n us o z v a. rw (ident-none g n us (λ e. ne (z ∙ e)), append-nil)
-                (subst (NotedTo s t₀ t₁ (powers (givensTys us)) o) er a))
+          (subst (NotedTo s t₀ t₁ (powers (givensTys us)) o) er a))
 
       pub node-past : tag ≡ identTag → length t₁ ≤ x → NodePost s at t₀ t₁ Beyond
       node-past is k = node-by t₁ Beyond (λ g n us o z v a.
-            let c = subst (NotedTo s t₀ t₁ (powers (givensTys us)) o) er a in
-            let e = v .name (sym z ∙ is) in
-            let i = e .0 in
-            unlisted-then t₀ t₀ (powers (givensTys us)) (identOf g n us) refl (rw (ident-some g n us (sym z ∙ is))
-                (unlisted-one t₀ t₁ n (carriedTy us) (c .1 .size) (omega arith) (omega (arith, e .1)))))
+          let c = subst (NotedTo s t₀ t₁ (powers (givensTys us)) o) er a in
+          let e = v .name (sym z ∙ is) in
+          let i = e .0 in
+          unlisted-then t₀ t₀ (powers (givensTys us)) (identOf g n us) refl (rw (ident-some g n us (sym z ∙ is))
+          (unlisted-one t₀ t₁ n (carriedTy us) (c .1 .size) (omega arith) (omega (arith, e .1)))))
 
       -- what is asked for an identifier's own claim
       pub own-asks : tag ≡ identTag → at < length s → Held s t₀ → Left s at → (x < 65536) × Held s t₁ × ((t : Ty) × TypeAt s (at + 2 + w) q t)
@@ -241,9 +267,11 @@ module _ (s : List ℕ) (at tag form w x m : ℕ) (d : Seen s at tag form w x m)
           let o = first s at l h in
           let v = now (o .g) (o .n) (o .us) (o .ks) (o .later) (o .es) (o .rest) in
           let e = v .1 .name (sym (v .0) ∙ is) in
-          let c = subst (NotedTo s t₀ t₁ (powers (givensTys (o .us))) _) er (p .by (o .us) _ (v .1 .types)) in
-          (e .1, held-then s t₀ t₁ (powers (givensTys (o .us))) k (c .1),
-                (carriedTy (o .us), subst (λ (i : ℕ). TypeAt s (at + 2 + w) i (carriedTy (o .us))) (sym (c .0)) (e .2)))
+          let c = subst (NotedTo s t₀ t₁ (powers (givensTys (o .us))) _) er (p .by (o .us) _ (v .1 .types)) in (
+            e .1,
+            held-then s t₀ t₁ (powers (givensTys (o .us))) k (c .1),
+            (carriedTy (o .us), subst (λ (i : ℕ). TypeAt s (at + 2 + w) i (carriedTy (o .us))) (sym (c .0)) (e .2)),
+          )
 
       module _ (is : tag ≡ identTag) (t₂ : List ℕ) (fits : Bool) (own : NamePost s x (at + 2 + w) q t₁ t₂ fits) where
         own-claim : (g n : ℕ) (us : List Ty) (o : ℕ) → tag ≡ g → Now s at g n us w x m o → q ≡ o → Noted s t₁ t₂ (identOf g n us) fits
@@ -251,14 +279,16 @@ module _ (s : List ℕ) (at tag form w x m : ℕ) (d : Seen s at tag form w x m)
             let c = v .name (sym z ∙ is) in
             let a : TypeAt s (at + 2 + w) q (carriedTy us) = subst (λ (i : ℕ). TypeAt s (at + 2 + w) i (carriedTy us)) (sym e) (c .2) in
             rw (ident-some g n us (sym z ∙ is)) (subst (λ (i : ℕ). Noted s t₁ t₂ (named i (carriedTy us) ∷ []) fits) (c .0)
-                  (own .by (carriedTy us) a))
+            (own .by (carriedTy us) a))
 
         both : (b : Bool) → fits ≡ b → (g n : ℕ) (us : List Ty) (o : ℕ) → tag ≡ g → Now s at g n us w x m o
             → NotedTo s t₀ t₁ (powers (givensTys us)) o r → (q ≡ o) × Noted s t₀ t₂ (powers (givensTys us) ++ identOf g n us) b
         both b f g n us o z v a =
-            let c = subst (NotedTo s t₀ t₁ (powers (givensTys us)) o) er a in
-            (c .0, noted-then s t₀ t₁ t₂ (powers (givensTys us)) (identOf g n us) b (c .1)
-                  (subst (λ (i : Bool). Noted s t₁ t₂ (identOf g n us) i) f (own-claim g n us o z v (c .0))))
+            let c = subst (NotedTo s t₀ t₁ (powers (givensTys us)) o) er a in (
+              c .0,
+              noted-then s t₀ t₁ t₂ (powers (givensTys us)) (identOf g n us) b (c .1)
+                  (subst (λ (i : Bool). Noted s t₁ t₂ (identOf g n us) i) f (own-claim g n us o z v (c .0))),
+            )
 
         pub node-differs : fits ≡ false → NodePost s at t₀ t₂ Clashed
         node-differs f = node-by t₂ Clashed (λ g n us o z v a. both false f g n us o z v a .1)
@@ -288,7 +318,7 @@ answer-then s t₀ t₁ t₂ xs ys Undecided a c = unlisted-then t₀ t₁ xs ys
 -- the rest of the nodes, by the first
 module _ (s : List ℕ) (at : ℕ) (l : at < length s) (t₀ t₁ : List ℕ) (r : Noting) (p : NodePost s at t₀ t₁ r) (t : List ℕ) (b : Names)
     (f : (h : Head) (ks later : Forest) (q : ℕ) (es : List Sort) → Rest s q (append ks later) es → NotedTo s t₀ t₁ (claimsOf h) q r
-          → NamesAnswer s t₀ t (claimsOf h ++ claimsIn (append ks later)) b) where
+    → NamesAnswer s t₀ t (claimsOf h ++ claimsIn (append ks later)) b) where
   by-first : NamesPost s at t₀ t b
   unfolding enc
   by-first = record { by = go }
@@ -299,7 +329,7 @@ module _ (s : List ℕ) (at : ℕ) (l : at < length s) (t₀ t₁ : List ℕ) (r
           let h : Head = head g n us in
           let v = next s at g n us ks later es a in
           subst (λ (i : List Named). NamesAnswer s t₀ t i b) (sym (claims-now h ks later))
-              (f h ks later (at + length (encHead h (count ks))) (v .sorts) (v .after) (p .by h ks later es a))
+          (f h ks later (at + length (encHead h (count ks))) (v .sorts) (v .after) (p .by h ks later es a))
 
 pub record Over (s : List ℕ) (t₀ : List ℕ) (at : ℕ) (t₁ : List ℕ) : Type 0 where
   pub held : Held s t₁
@@ -319,12 +349,12 @@ module _ (s : List ℕ) (t₀ : List ℕ) where
       pub over-clash : r ≡ Clashed → NamesPost s 0 t₀ t₂ Differ
       over-clash e =
           g .back t₂ Differ (by-first s at l t₁ t₂ r p t₂ Differ
-                (λ h ks later q es a n. noted-early s t₁ t₂ (claimsOf h) (claimsIn (append ks later))
-                  (subst (NotedTo s t₁ t₂ (claimsOf h) q) e n)))
+          (λ h ks later q es a n. noted-early s t₁ t₂ (claimsOf h) (claimsIn (append ks later))
+          (subst (NotedTo s t₁ t₂ (claimsOf h) q) e n)))
 
       pub over-beyond : r ≡ Beyond → NamesPost s 0 t₀ t₂ Undecided
       over-beyond e = g .back t₂ Undecided (by-first s at l t₁ t₂ r p t₂ Undecided
-            (λ h ks later q es a n. unlisted-early t₁ (claimsOf h) (claimsIn (append ks later)) (subst (NotedTo s t₁ t₂ (claimsOf h) q) e n)))
+          (λ h ks later q es a n. unlisted-early t₁ (claimsOf h) (claimsIn (append ks later)) (subst (NotedTo s t₁ t₂ (claimsOf h) q) e n)))
 
       module _ (q : ℕ) (e : r ≡ Ends q) where
         onward : (at + 2 ≤ q) × Held s t₂ × (length t₂ ≡ length t₁) × Left s q
@@ -333,7 +363,7 @@ module _ (s : List ℕ) (t₀ : List ℕ) where
             let h : Head = head (o .g) (o .n) (o .us) in
             let v = next s at (o .g) (o .n) (o .us) (o .ks) (o .later) (o .es) (o .rest) in
             let c = subst (NotedTo s t₁ t₂ (claimsOf h) (at + length (encHead h (count (o .ks))))) e
-                (p .by h (o .ks) (o .later) (o .es) (o .rest)) in (
+            (p .by h (o .ks) (o .later) (o .es) (o .rest)) in (
               omega (arith, head-long (o .g) (o .n) (o .us) (count (o .ks)) at, c .0),
               held-then s t₁ t₂ (claimsOf h) (g .held) (c .1),
               c .1 .size,
@@ -350,7 +380,7 @@ module _ (s : List ℕ) (t₀ : List ℕ) where
           left = onward .3;
           back = λ t₃ b x. g .back t₃ b (by-first s at l t₁ t₂ r p t₃ b (λ h ks later i es a n. let c = subst (NotedTo s t₁ t₂ (claimsOf h) i) e n in
               answer-then s t₁ t₂ t₃ (claimsOf h) (claimsIn (append ks later)) b (c .1)
-                  (x .by (append ks later) es (subst (λ (j : ℕ). Rest s j (append ks later) es) (sym (c .0)) a))));
+              (x .by (append ks later) es (subst (λ (j : ℕ). Rest s j (append ks later) es) (sym (c .0)) a))));
         }
 
 -- ---- names_ok

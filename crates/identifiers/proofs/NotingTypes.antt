@@ -24,7 +24,14 @@ use Rattle.identifiers.specs.Claims.{powers, Held, GivenPost, TypesAt, N
 use Rattle.identifiers.specs.declared.Noting.{Noting}
 use Rattle.identifiers.specs.declared.Noting.the-variants.{Ends, Clashed, Beyond}
 use Rattle.identifiers.proofs.NotedClaims.{
-  noted-nil, noted-then, noted-early, noted-true, held-then, unlisted-then, unlisted-early, unlisted-one
+  noted-nil,
+  noted-then,
+  noted-early,
+  noted-true,
+  held-then,
+  unlisted-then,
+  unlisted-early,
+  unlisted-one,
 }
 
 -- ---- types in a row
@@ -42,37 +49,37 @@ data Step (s : List ℕ) (at : ℕ) (us : List Ty) (q to n : ℕ) : Type 0 where
   other-first : givensTys (afterFirst us) ≡ givensTys us → (getD s at 0 ≡ 2 → ⊥) → TypesAt s to n (afterFirst us) q → Step s at us q to n
 
 module _ (s : List ℕ) (at m : ℕ) (z : m ≡ 0 → ⊥) (to n : ℕ) (et : to ≡ at + leadOf (getD s at 0)) (en : n ≡ m - 1 + partsOf (getD s at 0))
-    where
-  behind : (us : List Ty) (q : ℕ) → TypesAt s at m us q → All TyWf (afterFirst us) → TypesAt s to n (afterFirst us) q
-  behind us q a w = let x = after-first s at m z to n et en us q (a .many) (a .span) in record { span = x .1; wf = w; many = x .0 }
+  where
+    behind : (us : List Ty) (q : ℕ) → TypesAt s at m us q → All TyWf (afterFirst us) → TypesAt s to n (afterFirst us) q
+    behind us q a w = let x = after-first s at m z to n et en us q (a .many) (a .span) in record { span = x .1; wf = w; many = x .0 }
 
-  step : (us : List Ty) (q : ℕ) → TypesAt s at m us q → Step s at us q to n
-  unfolding encTys encTy givensTys givensTy
-  step [] q a = absurd (z (sym (a .many)))
-  step (bool ∷ us) q a =
-      let c = span-first (a .span) .byte in
-      other-first refl (omega arith) (behind (bool ∷ us) q a (a .wf .1))
-  step (int ∷ us) q a =
-      let c = span-first (a .span) .byte in
-      other-first refl (omega arith) (behind (int ∷ us) q a (a .wf .1))
-  step (given k ∷ us) q a =
-      let b = span-first (a .span) in
-      let e = number-back 2 s (at + 1) q k (encTys us) (a .wf .0) (b .rest) in
-      given-first k us refl (b .byte) (e .number) (a .wf .0) (omega (arith, e .within)) (behind (given k ∷ us) q a (a .wf .1))
-  step (pow t ∷ us) q a =
-      let c = span-first (a .span) .byte in
-      other-first refl (omega arith) (behind (pow t ∷ us) q a (a .wf .0, a .wf .1))
-  step (prod t u ∷ us) q a =
-      let c = span-first (a .span) .byte in
-      other-first (sym (append-assoc (givensTy t) (givensTy u) (givensTys us))) (omega arith)
-          (behind (prod t u ∷ us) q a (a .wf .0 .0, (a .wf .0 .1, a .wf .1)))
+    step : (us : List Ty) (q : ℕ) → TypesAt s at m us q → Step s at us q to n
+    unfolding encTys encTy givensTys givensTy
+    step [] q a = absurd (z (sym (a .many)))
+    step (bool ∷ us) q a =
+        let c = span-first (a .span) .byte in
+        other-first refl (omega arith) (behind (bool ∷ us) q a (a .wf .1))
+    step (int ∷ us) q a =
+        let c = span-first (a .span) .byte in
+        other-first refl (omega arith) (behind (int ∷ us) q a (a .wf .1))
+    step (given k ∷ us) q a =
+        let b = span-first (a .span) in
+        let e = number-back 2 s (at + 1) q k (encTys us) (a .wf .0) (b .rest) in
+        given-first k us refl (b .byte) (e .number) (a .wf .0) (omega (arith, e .within)) (behind (given k ∷ us) q a (a .wf .1))
+    step (pow t ∷ us) q a =
+        let c = span-first (a .span) .byte in
+        other-first refl (omega arith) (behind (pow t ∷ us) q a (a .wf .0, a .wf .1))
+    step (prod t u ∷ us) q a =
+        let c = span-first (a .span) .byte in
+        other-first (sym (append-assoc (givensTy t) (givensTy u) (givensTys us))) (omega arith)
+        (behind (prod t u ∷ us) q a (a .wf .0 .0, (a .wf .0 .1, a .wf .1)))
 
-  onward : Some s at m → Some s to n
-  onward h = go (step (h .0) (h .1) (h .2))
-    where
-      go : Step s at (h .0) (h .1) to n → Some s to n
-      go (given-first k rest e b x w r a) = (rest, h .1, a)
-      go (other-first e b a) = (afterFirst (h .0), h .1, a)
+    onward : Some s at m → Some s to n
+    onward h = go (step (h .0) (h .1) (h .2))
+      where
+        go : Step s at (h .0) (h .1) to n → Some s to n
+        go (given-first k rest e b x w r a) = (rest, h .1, a)
+        go (other-first e b a) = (afterFirst (h .0), h .1, a)
 
 -- ---- the ways out
 module _ (s t₀ t₁ : List ℕ) (n : ℕ) (us : List Ty) (q : ℕ) where
@@ -107,7 +114,7 @@ module _ (s : List ℕ) (at m : ℕ) (t₀ : List ℕ) where
     module _ (t₂ : List ℕ) (r : Noting) where
       -- by the given set that comes first
       by-given : getD s at 0 ≡ 2 → ((k : ℕ) (rest : List Ty) (q : ℕ) → numberAt 2 s (at + 1) ≡ k → k < 65536 → TypesAt s to n rest q
-            → NotedTo s t₀ t₂ (powers (givensTys (given k ∷ rest))) q r) → TypesPost s at m t₀ t₂ r
+          → NotedTo s t₀ t₂ (powers (givensTys (given k ∷ rest))) q r) → TypesPost s at m t₀ t₂ r
       by-given b f = record { by = λ us q a. go us q (step s at m z to n et en us q a) }
         where
           go : (us : List Ty) (q : ℕ) → Step s at us q to n → NotedTo s t₀ t₂ (powers (givensTys us)) q r
@@ -118,7 +125,7 @@ module _ (s : List ℕ) (at m : ℕ) (t₀ : List ℕ) where
       given-back : getD s at 0 ≡ 2 → (k : ℕ) → k ≡ numberAt 2 s (at + 1) → (t₁ : List ℕ) → GivenPost s k t₀ t₁ true
           → TypesPost s to n t₁ t₂ r → TypesPost s at m t₀ t₂ r
       given-back b k ek t₁ g p = by-given b (λ i rest q x w a.
-            answer-given s t₀ t₁ i rest q t₂ (subst (λ (j : ℕ). GivenPost s j t₀ t₁ true) (ek ∙ x) g) r (p .by rest q a))
+          answer-given s t₀ t₁ i rest q t₂ (subst (λ (j : ℕ). GivenPost s j t₀ t₁ true) (ek ∙ x) g) r (p .by rest q a))
 
       other-back : (getD s at 0 ≡ 2 → ⊥) → TypesPost s to n t₀ t₂ r → TypesPost s at m t₀ t₂ r
       other-back b p = record { by = λ us q a. go us q (step s at m z to n et en us q a) }
@@ -148,7 +155,7 @@ module _ (s : List ℕ) (at m : ℕ) (t₀ : List ℕ) where
     module _ (z : left ≡ 0 → ⊥) where
       pub going-number : getD s p 0 ≡ 2 → (p + 3 ≤ length s) × (numberAt 2 s (p + 1) < 65536)
       going-number b = let h = g .some in go (h .0) (h .1) (step s p left z (p + leadOf (getD s p 0))
-            (left - 1 + partsOf (getD s p 0)) refl refl (h .0) (h .1) (h .2))
+          (left - 1 + partsOf (getD s p 0)) refl refl (h .0) (h .1) (h .2))
         where
           go : (us : List Ty) (q : ℕ) → Step s p us q (p + leadOf (getD s p 0)) (left - 1 + partsOf (getD s p 0))
               → (p + 3 ≤ length s) × (numberAt 2 s (p + 1) < 65536)
@@ -158,12 +165,12 @@ module _ (s : List ℕ) (at m : ℕ) (t₀ : List ℕ) where
       module _ (b : getD s p 0 ≡ 2) (k : ℕ) (ek : k ≡ numberAt 2 s (p + 1)) where
         pub going-beyond : length t₁ ≤ k → TypesPost s at m t₀ t₁ Beyond
         going-beyond l = g .back t₁ Beyond (by-given s p left t₁ z _ _ refl refl t₁ Beyond b
-              (λ i rest q x w a. past-given s t₁ t₁ i rest q (omega (arith, ek ∙ x)) w))
+            (λ i rest q x w a. past-given s t₁ t₁ i rest q (omega (arith, ek ∙ x)) w))
 
         pub going-clash : (t₂ : List ℕ) (fits : Bool) → GivenPost s k t₁ t₂ fits → fits ≡ false → TypesPost s at m t₀ t₂ Clashed
         going-clash t₂ fits o e = g .back t₂ Clashed (by-given s p left t₁ z _ _ refl refl t₂ Clashed b
-              (λ i rest q x w a. clash-given s t₁ t₂ i rest q (subst (λ (j : ℕ). GivenPost s j t₁ t₂ false) (ek ∙ x)
-                  (subst (λ (f : Bool). GivenPost s k t₁ t₂ f) e o))))
+            (λ i rest q x w a. clash-given s t₁ t₂ i rest q (subst (λ (j : ℕ). GivenPost s j t₁ t₂ false) (ek ∙ x)
+            (subst (λ (f : Bool). GivenPost s k t₁ t₂ f) e o))))
 
       module _ (step parts : ℕ) (es : step ≡ leadOf (getD s p 0)) (ep : parts ≡ partsOf (getD s p 0)) where
         to-is : p + step ≡ p + leadOf (getD s p 0)

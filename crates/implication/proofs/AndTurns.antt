@@ -71,7 +71,7 @@ module _ (s st nx : List ℕ) (a b left : ℕ) (pl : TagPost s st a left) where
         let fx : find t [] a ≡ found Γ x = fa ∙ ap (found Γ) (o .is) in
         let kids = child-first t a Γ 351 (o .n) (o .us) (o .ks) fx in
         ap (λ (y : Tree). contains (orOpposite opposed w) (kidsOf y)) (o .is) ∙ sym
-            (p .says t n Γ (o .ks) w tb kids (pm .many t n Γ x (tb .framed) fx) fb)
+        (p .says t n Γ (o .ks) w tb kids (pm .many t n Γ x (tb .framed) fx) fb)
 
     form : (t : Tree) (n : ℕ) (Γ : Ctx) (v w : Tree) → Table s t st nx n → find t [] a ≡ found Γ v
         → impAnd v w ≡ (when (contains w (kidsOf v)) (to 71 (leaf #BTrue)) orElse when (contains (makeNeg w) (kidsOf v)) (to 72 (one #Not v)))

@@ -102,7 +102,7 @@ module _ (s st nx : List ℕ) (a b left right : ℕ) (pl : TagPost s st a left) 
                 let zl = pl .tag t n Γ v (tb .framed) fa in
                 let zr = pr .tag t n Γ w (tb .framed) fb in
                 imp-first-none v w (λ q. n1 (zl ∙ q)) (λ q. n2 (zl ∙ q)) (λ q. n3 (zr ∙ q)) (λ q. n4 (zr ∙ q))
-                    (sym (pe .same t n Γ Γ v w (tb .framed) fa fb) ∙ z);
+                (sym (pe .same t n Γ Γ v w (tb .framed) fa fb) ∙ z);
           }
 
 -- ---- the last tests

@@ -21,8 +21,25 @@ use Rattle.nav.specs.PlaceTables.{Table, Placed, TagPost, ChildrenPost}
 use Rattle.nav.proofs.Hops.{Sorted, framed-few, place-sorted}
 use Rattle.rules.specs.Change.{to, same, when, joined}
 use Rattle.rules.specs.EqualsEmptySet.{
-  Single, single, none, isSingle, singleOf, anySingle, Singled, singled, noneSingled, besides, orNext, firstSingle, interSingle,
-  isMinus, minusOf, anyMinus, minuends, subtrahends, interEmpty
+  Single,
+  single,
+  none,
+  isSingle,
+  singleOf,
+  anySingle,
+  Singled,
+  singled,
+  noneSingled,
+  besides,
+  orNext,
+  firstSingle,
+  interSingle,
+  isMinus,
+  minusOf,
+  anyMinus,
+  minuends,
+  subtrahends,
+  interEmpty,
 }
 use Rattle.decision.proofs.Children.{Lefts, walk-first, walk-placed, walk-next, walk-stop, walk-end}
 use Rattle.decision.specs.Decision.{ApartMeans}
@@ -56,9 +73,10 @@ NoMinus ks c rest = anyMinus ks ≡ anyMinus rest
 module _ (s st nx : List ℕ) (k : ℕ) where
   pub inter-placed : InterPre s st nx k → Placed s st k × (k < 2048)
   inter-placed pre =
-      let b = find-lt (pre .t) [] k (pre .Γ) (node (head 302 (pre .x) (pre .us)) (pre .ks)) (pre .there) in
-      (record { t = pre .t; n = pre .n; framed = pre .table .framed; below = b },
-            omega (arith, framed-few s (pre .t) st (pre .n) (pre .table .framed)))
+      let b = find-lt (pre .t) [] k (pre .Γ) (node (head 302 (pre .x) (pre .us)) (pre .ks)) (pre .there) in (
+        record { t = pre .t; n = pre .n; framed = pre .table .framed; below = b },
+        omega (arith, framed-few s (pre .t) st (pre .n) (pre .table .framed)),
+      )
 
   -- a child that a loop has come to
   pub inter-child : (P : Forest → ℕ → Forest → Type 0) (r : ℕ) → ChildrenPost s st k r → (c i : ℕ) → Lefts s st nx k P c i → i < r
@@ -143,7 +161,7 @@ first-at a (cons k left) right h = go (singleOf k) h (first-at a left right)
     go : (x : Single) → (isSingle x || anySingle left) ≡ false
         → (anySingle left ≡ false → firstSingle (append left (cons (many #SetExt (sole a)) right)) ≡ singled a (append left right))
         → orNext x k (append left (cons (many #SetExt (sole a)) right))
-            (firstSingle (append left (cons (many #SetExt (sole a)) right))) ≡ singled a (cons k (append left right))
+        (firstSingle (append left (cons (many #SetExt (sole a)) right))) ≡ singled a (cons k (append left right))
     go (single b) e ih = let z : _≡_ {A = ℕ} 0 1 = cc in absurd (omega arith)
     go none e ih = ap (besides k) (ih e)
 
@@ -164,7 +182,7 @@ module _ (s st nx : List ℕ) (k r m : ℕ) (many : ChildrenPost s st k r) (sing
     where
       go : (t : Tree) (n : ℕ) (Γ : Ctx) (x : ℕ) (us : List Ty) (ks : Forest) → Table s t st nx n → find t [] k ≡ found Γ (node (head 302 x us) ks)
           → apartWhen (count ks) (countSingles ks) ≡ true → ((anySingle ks ≡ false) × (p ≡ k)) ⊎ SingleAt (k + 1) p ks
-              → ApartMeans t k p (interEmpty ks)
+          → ApartMeans t k p (interEmpty ks)
       go t n Γ x us ks tb f h (inl q) =
           let z : eqb (countSingles ks) 0 ≡ true = sym (none-counted ks) ∙ ap not (q .0) in
           let y : false ≡ true = rw z at h in

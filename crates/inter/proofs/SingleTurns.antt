@@ -107,8 +107,15 @@ module _ (s st nx : List ℕ) (k : ℕ) where
             (λ ks. ((anySingle ks ≡ false) × (c ≡ k)) ⊎ SingleAt (k + 1) c ks)
             (λ ks w others known b.
             let v = single-shape w (known .0) (sym e ∙ known .1) in
-            inr (b .at c (record { a = v .0; left = nil; right = others; is = ap (λ (x : Tree). cons x others)
-                      (v .1); none = refl; there = omega arith })));
+            inr (b .at c (record {
+              a = v .0;
+              left = nil;
+              right = others;
+              is = ap (λ (x : Tree). cons x others)
+                  (v .1);
+              none = refl;
+              there = omega arith;
+            })));
       }
 
       pub first-next : o ≡ false → (next : ℕ) → next ≡ getD nx c 0 → Lefts s st nx k (Beyond k) next (i + 1)

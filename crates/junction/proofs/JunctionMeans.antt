@@ -68,7 +68,7 @@ module _ (t : Tree) (k : ℕ) (Γ : Ctx) (g x : ℕ) (us : List Ty) (ks : Forest
       (ln : (ltb pn 88 && not (takesBinders pn)) ≡ true) (ld : (ltb pd 88 && not (takesBinders pd)) ≡ true)
       (en : (Δ : Ctx) (a b : Tree) → filled (template pn) (filling Δ a b us) ≡ enc (leaf neutral))
       (ed : (Δ : Ctx) (a b : Tree) → filled (template pd) (filling Δ a b us) ≡ enc (leaf determinant)) (lent : List ℕ) (p : ℕ)
-          (ep : p ≡ getD lent 0 0) where
+      (ep : p ≡ getD lent 0 0) where
     abbrev ends : Kept → Change
     ends c = finish g neutral determinant (count ks) c
 

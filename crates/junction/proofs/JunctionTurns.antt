@@ -132,8 +132,12 @@ module _ (s st nx : List ℕ) (neutral determinant : ℕ) where
     scanned-first false e t n Θ out w tb a f =
         let z : tagOf w ≡ tag = sym (post .tag t n Θ w (tb .framed) f) in
         let y : length (take m lent) ≤ m = omega (arith, length-take m lent) in
-        record { left = nil; listed = rw (drop-of-length-le (take m lent) y) (at-nil t Θ); says = rw
-              (z, not-false (eqb tag neutral) e) (pending-none w) }
+        record {
+          left = nil;
+          listed = rw (drop-of-length-le (take m lent) y) (at-nil t Θ);
+          says = rw
+              (z, not-false (eqb tag neutral) e) (pending-none w);
+        }
 
   -- the next place of the list
   next-place : (lent : List ℕ) (m j : ℕ) → j < m → m ≤ length lent → drop j (take m lent) ≡ getD lent j 0 ∷ drop (j + 1) (take m lent)
@@ -227,8 +231,16 @@ module _ (s st nx : List ℕ) (k neutral determinant : ℕ) where
 
   pub states-first : (lent : List ℕ) → States lent (k + 1) 0 0
   states-first lent t n Γ g x us ks tb f =
-      record { rest = ks; out = nil; below = child-first t k Γ g x us ks f; done = omega arith; size = refl; listed = at-nil t
-            (under g us Γ); goes = refl }
+      record {
+        rest = ks;
+        out = nil;
+        below = child-first t k Γ g x us ks f;
+        done = omega arith;
+        size = refl;
+        listed = at-nil t
+            (under g us Γ);
+        goes = refl;
+      }
 
   module _ (r : ℕ) (many : ChildrenPost s st k r) (lent : List ℕ) (c i m : ℕ) (sts : States lent c i m) where
     module _ (h : i < r) where
@@ -240,9 +252,10 @@ module _ (s st nx : List ℕ) (k neutral determinant : ℕ) where
       pub turn-placed : (k' : List ℕ) → JunctionPre s st nx k k' → Placed s st c × (c < 2048)
       turn-placed k' pre =
           let v = child (pre .t) (pre .n) (pre .Γ) (pre .g) (pre .x) (pre .us) (pre .ks) (pre .table) (pre .there) in
-          let b = find-lt (pre .t) [] c (under (pre .g) (pre .us) (pre .Γ)) (v .w) (v .there) in
-          (record { t = pre .t; n = pre .n; framed = pre .table .framed; below = b },
-                omega (arith, framed-few s (pre .t) st (pre .n) (pre .table .framed)))
+          let b = find-lt (pre .t) [] c (under (pre .g) (pre .us) (pre .Γ)) (v .w) (v .there) in (
+            record { t = pre .t; n = pre .n; framed = pre .table .framed; below = b },
+            omega (arith, framed-few s (pre .t) st (pre .n) (pre .table .framed)),
+          )
 
       pub turn-both : (k' : List ℕ) → JunctionPre s st nx k k' → (fresh : Bool) (j : ℕ)
           → Scanned s st nx neutral determinant lent c m fresh j → j < m → m ≤ length lent → (p : ℕ)
@@ -251,14 +264,14 @@ module _ (s st nx : List ℕ) (k neutral determinant : ℕ) where
           let v = child (pre .t) (pre .n) (pre .Γ) (pre .g) (pre .x) (pre .us) (pre .ks) (pre .table) (pre .there) in
           let q = sts (pre .t) (pre .n) (pre .Γ) (pre .g) (pre .x) (pre .us) (pre .ks) (pre .table) (pre .there) in
           scanned-both s st nx neutral determinant lent c m fresh j sc hj long p ep (pre .t) (pre .n) (under (pre .g) (pre .us) (pre .Γ))
-              (q .out) (v .w) (pre .table) (q .listed) (v .there)
+          (q .out) (v .w) (pre .table) (q .listed) (v .there)
 
       goes-on : (v : Verdict) → Says s st nx neutral determinant lent c m v
           → (t : Tree) (n : ℕ) (Γ : Ctx) (g x : ℕ) (us : List Ty) (ks : Forest) (tb : Table s t st nx n)
           (f : find t [] k ≡ found Γ (node (head g x us) ks))
           → scan neutral determinant ks nil
           ≡ afterVerdict v (child t n Γ g x us ks tb f .w) (sts t n Γ g x us ks tb f .out)
-              (λ o. scan neutral determinant (child t n Γ g x us ks tb f .others) o)
+          (λ o. scan neutral determinant (child t n Γ g x us ks tb f .others) o)
       unfolding scan
       goes-on v says t n Γ g x us ks tb f =
           let q = sts t n Γ g x us ks tb f in
@@ -269,7 +282,7 @@ module _ (s st nx : List ℕ) (k neutral determinant : ℕ) where
           (says t n (under g us Γ) (q .out) (d .w) tb (q .listed) (d .there))
 
       pub turn-decides : (tbl : List ℕ) → length tbl ≡ 256 → ((neutral ≡ determinant → ⊥)
-            → Says s st nx neutral determinant lent c m decides) → AbsorbPost s st nx k neutral determinant tbl Decided
+          → Says s st nx neutral determinant lent c m decides) → AbsorbPost s st nx k neutral determinant tbl Decided
       turn-decides tbl long says = record { long = long; scanned = λ d t n Γ g x us ks tb f. goes-on decides (says d) t n Γ g x us ks tb f }
 
       module _ (next : ℕ) (en : next ≡ getD nx c 0) where
@@ -332,12 +345,16 @@ module _ (s st nx : List ℕ) (k neutral determinant r : ℕ) (many : ChildrenPo
       → AllInv s st nx k neutral determinant r tbl next (i + 1) l
   again-keep says tbl l et el =
       let room : m < length lent = omega (arith, inv .1, inv .2) in
-      rw (et, el)
-      (omega arith, length-set lent m c ∙ inv .1, omega (arith, inv .2), turn-keeps s st nx k neutral determinant r many lent c i m
-            (inv .3) h next en room says)
+      rw (et, el) (
+        omega arith,
+        length-set lent m c ∙ inv .1,
+        omega (arith, inv .2),
+        turn-keeps s st nx k neutral determinant r many lent c i m
+            (inv .3) h next en room says,
+      )
 
 pub children-few : (s st nx : List ℕ) (k : ℕ) (lent : List ℕ) → JunctionPre s st nx k lent → (r : ℕ) → ChildrenPost s st k r → r ≤ 255
 children-few s st nx k lent pre r many =
     let z : r ≡ count (pre .ks) = many .many (pre .t) (pre .n) (pre .Γ) (node (head (pre .g) (pre .x) (pre .us)) (pre .ks))
-        (pre .table .framed) (pre .there) in
+    (pre .table .framed) (pre .there) in
     omega (arith, few s st nx k lent pre)

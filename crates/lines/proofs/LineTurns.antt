@@ -65,10 +65,23 @@ count-more n k h e = on-side (leb (n + 1) digitLimit) refl
         on-edge (leb n digitLimit) refl
       where
         on-edge : (b : Bool) → leb n digitLimit ≡ b → k + 1 ≡ shortened (n + 1)
-        on-edge true ec = omega (arith, leb-true n digitLimit ec, leb-false (n + 1) digitLimit eb, e, count-low n
-              (leb-true n digitLimit ec), count-high (n + 1) (leb-false (n + 1) digitLimit eb))
-        on-edge false ec = omega (arith, leb-false n digitLimit ec, e, count-high n (leb-false n digitLimit ec), count-high (n + 1)
-              (leb-false (n + 1) digitLimit eb))
+        on-edge true ec = omega (
+          arith,
+          leb-true n digitLimit ec,
+          leb-false (n + 1) digitLimit eb,
+          e,
+          count-low n
+              (leb-true n digitLimit ec),
+          count-high (n + 1) (leb-false (n + 1) digitLimit eb),
+        )
+        on-edge false ec = omega (
+          arith,
+          leb-false n digitLimit ec,
+          e,
+          count-high n (leb-false n digitLimit ec),
+          count-high (n + 1)
+              (leb-false (n + 1) digitLimit eb),
+        )
 
 pub count-turn : (n k : ℕ) → digitLimit + 1 < k → k ≡ shortened n → digitLimit + 1 ≡ shortened (n + 1)
 count-turn n k h e =
@@ -249,7 +262,7 @@ module _ (st : LineState) (b : List ℕ) (c next low : ℕ) (en : (n : ℕ) → 
 
   pub digit-bad : 15 < low → LineGoes st b (c ∷ []) (record { count = next; high = 16 }) b
   digit-bad h old cs es eb = goes-bad cs old (ap (λ (b : Bool). allDigits cs && b)
-        (lt-leb (digitOf c) 15 (omega arith)) ∙ and-false (allDigits cs)) es eb
+      (lt-leb (digitOf c) 15 (omega arith)) ∙ and-false (allDigits cs)) es eb
 
   module _ (hh : st .high ≤ 15) (hl : low ≤ 15) where
     gc : good c ≡ true

@@ -44,7 +44,7 @@ module _ (v w : Tree) where
 
           module _ (n5 : tagOf v ≡ 611 → ⊥) where
             eqv-last : Sorted v → Sorted w → simplifyEqv v w ≡ (when (sameTree w (one #Not v)) (to 80 (leaf #BFalse)) orElse when
-                  (sameTree v (one #Not w)) (to 81 (leaf #BFalse)))
+                (sameTree v (one #Not w)) (to 81 (leaf #BFalse)))
             eqv-last ov ow =
                 rw (ne-eqb (tagOf w) 610 n1, ne-eqb (tagOf v) 610 n2, n3, ne-eqb (tagOf w) 611 n4, ne-eqb (tagOf v) 611 n5)
                 (rw (unary-when w v (to 80 (leaf #BFalse)) ow, unary-when v w (to 81 (leaf #BFalse)) ov))
@@ -68,7 +68,7 @@ module _ (s st nx : List ℕ) (a b left right : ℕ) (pl : TagPost s st a left) 
       out-77 z =
           on-left simplifyEqv s st nx a b 77 refl refl
           (λ t n Γ v w tb fa fb. eqv-77 v w (λ q. n1 (pr .tag t n Γ w (tb .framed) fb ∙ q)) (λ q. n2 (pl .tag t n Γ v (tb .framed) fa ∙ q))
-                (sym (pe .same t n Γ Γ v w (tb .framed) fa fb) ∙ z))
+          (sym (pe .same t n Γ Γ v w (tb .framed) fa fb) ∙ z))
 
       module _ (n3 : e ≡ false) where
         pub out-78 : right ≡ 611 → (r : Decision) → r ≡ negatedAt 78 left a → DecidesTwo simplifyEqv s st nx a b r
@@ -93,12 +93,12 @@ module _ (s st nx : List ℕ) (a b left right : ℕ) (pl : TagPost s st a left) 
           module _ (n5 : left ≡ 611 → ⊥) where
             last : (t : Tree) (n : ℕ) (Γ : Ctx) (v w : Tree) → Table s t st nx n → find t [] a ≡ found Γ v → find t [] b ≡ found Γ w
                 → simplifyEqv v w ≡ (when (sameTree w (one #Not v)) (to 80 (leaf #BFalse)) orElse when
-                      (sameTree v (one #Not w)) (to 81 (leaf #BFalse)))
+                (sameTree v (one #Not w)) (to 81 (leaf #BFalse)))
             last t n Γ v w tb fa fb =
                 let zl = pl .tag t n Γ v (tb .framed) fa in
                 let zr = pr .tag t n Γ w (tb .framed) fb in
                 eqv-last v w (λ q. n1 (zr ∙ q)) (λ q. n2 (zl ∙ q)) (sym (pe .same t n Γ Γ v w (tb .framed) fa fb) ∙ n3)
-                    (λ q. n4 (zr ∙ q)) (λ q. n5 (zl ∙ q))
+                (λ q. n4 (zr ∙ q)) (λ q. n5 (zl ∙ q))
                 (place-sorted s t st n (tb .framed) a Γ v fa) (place-sorted s t st n (tb .framed) b Γ w fb)
 
             module _ (o : Bool) (po : Compared (one #Not) s st b a o) where
@@ -114,14 +114,17 @@ module _ (s st nx : List ℕ) (a b left right : ℕ) (pl : TagPost s st a left) 
                 out-81 z =
                     on-left simplifyEqv s st nx a b 81 refl refl
                     (λ t n Γ v w tb fa fb. last t n Γ v w tb fa fb ∙ rw
-                          (sym (po .says t n Γ Γ w v (tb .framed) fb fa) ∙ n6, sym (pu .says t n Γ Γ v w (tb .framed) fa fb) ∙ z))
+                    (sym (po .says t n Γ Γ w v (tb .framed) fb fa) ∙ n6, sym (pu .says t n Γ Γ v w (tb .framed) fa fb) ∙ z))
 
                 pub eqv-none : u ≡ false → DecidesTwo simplifyEqv s st nx a b D.Rests
                 eqv-none z =
                     record {
                       means = λ t n Γ v w tb fa fb x Ξ kept.
-                          last t n Γ v w tb fa fb ∙ rw (sym (po .says t n Γ Γ w v (tb .framed) fb fa) ∙ n6, sym
-                                (pu .says t n Γ Γ v w (tb .framed) fa fb) ∙ z);
+                          last t n Γ v w tb fa fb ∙ rw (
+                            sym (po .says t n Γ Γ w v (tb .framed) fb fa) ∙ n6,
+                            sym
+                                (pu .says t n Γ Γ v w (tb .framed) fa fb) ∙ z,
+                          );
                     }
 
 -- ---- ¬ in logic

@@ -49,7 +49,7 @@ module _ (s st nx : List ℕ) (k tag : ℕ) (pt : TagPost s st k tag) where
   module _ (body : ℕ) (pb : TagPost s st (k + 1) body) (g : ℕ) (key : tag ≡ g) (tk : Takes g (predicate ∷ [])) (rule : Ctx → Tree → Change) where
     of-body : (r : Decision)
         → ((t : Tree) (n : ℕ) (Γ : Ctx) (i : ℕ) (us : List Ty) (a : Tree) → Table s t st nx n
-              → find t [] k ≡ found Γ (node (head g i us) (cons a nil))
+        → find t [] k ≡ found Γ (node (head g i us) (cons a nil))
         → find t [] (k + 1) ≡ found (under g us Γ) a → tagOf a ≡ body
         → (w : Tree) (Ξ : Ctx) (kept : List ℕ) → Means t w Ξ kept r (rule Γ (node (head g i us) (cons a nil))))
         → Decides rule s st nx k r
@@ -91,7 +91,7 @@ module _ (s st nx : List ℕ) (k tag : ℕ) (pt : TagPost s st k tag) where
     unfolding onTag lookup classOf formAt side
     out-85 key z =
         each-of-body body pb 851 key (λ x. refl) forallOf 351 85 z (λ n us m. refl) and-bytes refl (λ Γ i us j vs ks. refl)
-            (λ Δ us a. sym (right-side 85 refl Δ a a us))
+        (λ Δ us a. sym (right-side 85 refl Δ a a us))
 
     pub forall-none : tag ≡ 851 → (body ≡ 351 → ⊥) → Decides forallOf s st nx k D.Rests
     unfolding onTag lookup classOf formAt
@@ -104,7 +104,7 @@ module _ (s st nx : List ℕ) (k tag : ℕ) (pt : TagPost s st k tag) where
     unfolding onTag lookup classOf formAt side
     out-86 key z =
         each-of-body body pb 852 key (λ x. refl) existsOf 352 86 z (λ n us m. refl) or-bytes refl (λ Γ i us j vs ks. refl)
-            (λ Δ us a. sym (right-side 86 refl Δ a a us))
+        (λ Δ us a. sym (right-side 86 refl Δ a a us))
 
     pub out-87 : tag ≡ 852 → body ≡ 251 → (j : ℕ) → (k + 1 + 1 < 2048 → j ≡ getD nx (k + 1 + 1) 0) → (r : Decision)
         → r ≡ D.Fixed 87 87 (k + 1 + 1) j k → Decides existsOf s st nx k r
@@ -119,7 +119,7 @@ module _ (s st nx : List ℕ) (k tag : ℕ) (pt : TagPost s st k tag) where
         let b : Tree = node (head 852 i us) (cons a nil) in
         rw (er, ej (place-few tb (fs .0)))
         (fixed-at t 87 87 (existsOf Γ b) new (ap (λ (q : Tree). existsOf Γ (node (head 852 i us) (cons q nil))) (y .is)) (k + 1 + 1)
-              (getD nx (k + 1 + 1) 0) k Δ Γ (y .a) (y .b) b (fs .0) (fs .1) fx refl (sym (right-side 87 refl Δ (y .a) (y .b) us))))
+        (getD nx (k + 1 + 1) 0) k Δ Γ (y .a) (y .b) b (fs .0) (fs .1) fx refl (sym (right-side 87 refl Δ (y .a) (y .b) us))))
 
     pub exists-none : tag ≡ 852 → (body ≡ 352 → ⊥) → (body ≡ 251 → ⊥) → Decides existsOf s st nx k D.Rests
     unfolding onTag lookup classOf formAt

@@ -55,7 +55,7 @@ module _ {A : Type 0} (eq : A → A → Bool) (so-eq : (a b : A) → So (eq a b)
   part-listed (a ∷ l) s =
       let ih = part-listed l s in
       In-cond (s a) (including eq a (part l s)) (part l s) (subsets eq l) (map (including eq a) (subsets eq l))
-          (In-map (including eq a) (part l s) (subsets eq l) ih) ih
+      (In-map (including eq a) (part l s) (subsets eq l) ih) ih
 
   so-part : (l : List A) (s : A → Bool) (x : A) → So (part l s x) ↔ (In x l × So (s x))
   unfolding part including

@@ -158,16 +158,16 @@ module _ (I : Interpretation) (σ : ℕ → Ty) (Γ : Ctx) where
         let h = a .kids .0 .fits in
         let k = f .type in
         keeps-truth I (¬ᵖ (e ≐ x)) (e ≐ y) Γ (refl, refl) (refl, refl)
-            (kit.two-single I Γ #Equal (refl, refl) e y (s .3 .0 .3 .0) (f .single))
-            (λ l. kit.two-alive I Γ #Equal (refl, refl) e y (l .2 .0 .2 .0) (f .alive))
+        (kit.two-single I Γ #Equal (refl, refl) e y (s .3 .0 .3 .0) (f .single))
+        (λ l. kit.two-alive I Γ #Equal (refl, refl) e y (l .2 .0 .2 .0) (f .alive))
         (λ l ρ. kit.not-truth I Γ (e ≐ x) ρ ∙ right-truth (cc) ρ)
 
     left-keeps : typeOf y Γ ≡ bool → SingleIntegers (¬ᵖ (x ≐ e)) Γ → Keeps I Γ (¬ᵖ (x ≐ e)) (y ≐ e)
     unfolding SingleIntegers NoInterOverNothing opOf opAt classOf lookup formAt
     left-keeps h s =
         keeps-truth I (¬ᵖ (x ≐ e)) (y ≐ e) Γ (refl, refl) (refl, refl)
-            (kit.two-single I Γ #Equal (refl, refl) y e (f .single) (s .3 .0 .3 .1 .0))
-            (λ l. kit.two-alive I Γ #Equal (refl, refl) y e (f .alive) (l .2 .0 .2 .1 .0))
+        (kit.two-single I Γ #Equal (refl, refl) y e (f .single) (s .3 .0 .3 .1 .0))
+        (λ l. kit.two-alive I Γ #Equal (refl, refl) y e (f .alive) (l .2 .0 .2 .1 .0))
         (λ l ρ. kit.not-truth I Γ (x ≐ e) ρ ∙ left-truth h ρ)
 
   module _ (e : Tree) where
@@ -212,7 +212,7 @@ module _ (I : Interpretation) (σ : ℕ → Ty) (Γ : Ctx) where
     unfolding Accepted SingleIntegers NoInterOverNothing means holds opOf opAt classOf lookup formAt
     imp-not-left-keeps a s =
         keeps-truth I (¬ᵖ p ⇒ p) p Γ (refl, refl) (accepted-formula σ p Γ (a .kids .1 .0)) (s .3 .1 .0) (λ l. l .2 .1 .0)
-            (λ l ρ. imp-not-left (Truth ρ p))
+        (λ l ρ. imp-not-left (Truth ρ p))
 
     pub imp-not-right-keeps : SingleIntegers (p ⇒ ¬ᵖ p) Γ → Keeps I Γ (p ⇒ ¬ᵖ p) (¬ᵖ p)
     unfolding SingleIntegers NoInterOverNothing means holds opOf opAt classOf lookup formAt
@@ -243,9 +243,9 @@ module _ (I : Interpretation) (σ : ℕ → Ty) (Γ : Ctx) where
   unfolding SingleIntegers NoInterOverNothing opOf opAt classOf lookup formAt
   imp-opposite-keeps ps q m o i s =
       keeps-truth I (⋀ ps ⇒ q) (¬ᵖ (⋀ ps)) Γ (refl, refl) (refl, refl) (kit.one-single I Γ #Not (refl, refl) (⋀ ps) (s .3 .0))
-          (λ l. kit.one-alive I Γ #Not (refl, refl) (⋀ ps) (l .2 .0))
+      (λ l. kit.one-alive I Γ #Not (refl, refl) (⋀ ps) (l .2 .0))
       (λ l ρ. kit.implies-truth I Γ (⋀ ps) q ρ ∙ imp-apart (Truth ρ (⋀ ps)) (Truth ρ q)
-            (λ h. rw (opposite-truth o ρ) at (among-true ps m i ρ h)) ∙ sym (kit.not-truth I Γ (⋀ ps) ρ))
+      (λ h. rw (opposite-truth o ρ) at (among-true ps m i ρ h)) ∙ sym (kit.not-truth I Γ (⋀ ps) ρ))
 
   -- ---- ⇔
   module _ (p : Tree) where
@@ -279,7 +279,7 @@ module _ (I : Interpretation) (σ : ℕ → Ty) (Γ : Ctx) where
     unfolding Accepted SingleIntegers NoInterOverNothing means holds opOf opAt classOf lookup formAt
     not-not-keeps a s =
         keeps-truth I (¬ᵖ (¬ᵖ p)) p Γ (refl, refl) (accepted-formula σ p Γ (a .kids .0 .kids .0)) (s .3 .0 .3 .0) (λ l. l .2 .0 .2 .0)
-            (λ l ρ. not-not (Truth ρ p))
+        (λ l ρ. not-not (Truth ρ p))
 
   pub eqv-bottom-right-keeps : (p n : Tree) → Opposite p n → Accepted σ (p ⇔ ⊥ᵖ) Γ predicate → SingleIntegers (p ⇔ ⊥ᵖ) Γ → Keeps I Γ (p ⇔ ⊥ᵖ) n
   unfolding Accepted SingleIntegers NoInterOverNothing means holds opOf opAt classOf lookup formAt
@@ -291,7 +291,7 @@ module _ (I : Interpretation) (σ : ℕ → Ty) (Γ : Ctx) where
   unfolding Accepted SingleIntegers NoInterOverNothing means holds opOf opAt classOf lookup formAt
   eqv-bottom-left-keeps p n o a s =
       keeps-truth I (⊥ᵖ ⇔ p) n Γ (refl, refl) (opposite-formula o (a .kids .1 .0)) (opposite-single o (s .3 .1 .0))
-          (λ l. opposite-alive o (l .2 .1 .0))
+      (λ l. opposite-alive o (l .2 .1 .0))
       (λ l ρ. false-beq-is (Truth ρ p) ∙ sym (opposite-truth o ρ))
 
   pub not-top-keeps : Keeps I Γ (¬ᵖ ⊤) ⊥ᵖ

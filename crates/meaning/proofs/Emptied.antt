@@ -51,7 +51,7 @@ module _ (I : Interpretation) (σ : ℕ → Ty) (Γ : Ctx) where
   module _ (e f : Tree) (u v : Ty) (he : typeOf e Γ ≡ pow u) (hf : typeOf f Γ ≡ pow v) (s : SingleIntegers f Γ)
       (l : NoInterOverNothing I e Γ → NoInterOverNothing I f Γ) where
     pub emptied-by : (NoInterOverNothing I e Γ → (ρ : Vals I Γ)
-          → some I v (setOf I (means I f Γ) ρ v) ≡ some I u (setOf I (means I e Γ) ρ u)) → Emptied e (_≐∅ Γ f)
+        → some I v (setOf I (means I f Γ) ρ v) ≡ some I u (setOf I (means I e Γ) ρ u)) → Emptied e (_≐∅ Γ f)
     unfolding classOf lookup formAt
     emptied-by k = record {
       formula = (refl, refl);
@@ -61,7 +61,7 @@ module _ (I : Interpretation) (σ : ℕ → Ty) (Γ : Ctx) where
     }
 
     pub filled-by : (NoInterOverNothing I e Γ → (ρ : Vals I Γ)
-          → every I v (setOf I (means I f Γ) ρ v) ≡ every I u (setOf I (means I e Γ) ρ u)) → Filled e (_≐Ty Γ f)
+        → every I v (setOf I (means I f Γ) ρ v) ≡ every I u (setOf I (means I e Γ) ρ u)) → Filled e (_≐Ty Γ f)
     unfolding classOf lookup formAt
     filled-by k = record {
       formula = (refl, refl);
@@ -119,7 +119,7 @@ module _ (I : Interpretation) (σ : ℕ → Ty) (Γ : Ctx) where
     type-equal r =
         keeps-truth I (Ty-of Γ e ≐ e) new Γ (refl, refl) (r .formula) (r .single) (λ a. r .alive (a .2 .1 .0)) (λ a ρ.
         kit.equal-truth I Γ (Ty-of Γ e) e (pow u) (express-type u Γ) ρ ∙ ap
-            (λ x. equals I (pow u) x (setOf I (means I e Γ) ρ u)) (kit.type-full I u Γ ρ)
+        (λ x. equals I (pow u) x (setOf I (means I e Γ) ρ u)) (kit.type-full I u Γ ρ)
         ∙ full-is (I .size) u (setOf I (means I e Γ) ρ u) ∙ sym (r .says (a .2 .1 .0) ρ))
 
   pub emptiness-keeps : {e l new : Tree} → Emptiness e l → Accepted σ l Γ predicate → Emptied e new → Keeps I Γ l new

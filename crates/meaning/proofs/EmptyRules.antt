@@ -7,8 +7,28 @@ use Rattle.frame.specs.Types.{Ty, pow, prod}
 use Rattle.frame.specs.Trees.{Tree, one, two, many, sole, pair}
 use Rattle.frame.specs.Tags.{classOf, lookup, formAt}
 use Rattle.frame.specs.Operators.{
-  #KDom, #KRan, #LAnd, #SRel, #STRel, #SetMinus, #CProd, #DProd, #PProd, #DomRes, #DomSub, #RanRes, #RanSub, #RelImage, #BComp,
-  #FComp, #Pow, #Pow1, #KUnion, #Converse, #LEqv, #Not
+  #KDom,
+  #KRan,
+  #LAnd,
+  #SRel,
+  #STRel,
+  #SetMinus,
+  #CProd,
+  #DProd,
+  #PProd,
+  #DomRes,
+  #DomSub,
+  #RanRes,
+  #RanSub,
+  #RelImage,
+  #BComp,
+  #FComp,
+  #Pow,
+  #Pow1,
+  #KUnion,
+  #Converse,
+  #LEqv,
+  #Not,
 }
 use Rattle.frame.specs.Places.{Ctx}
 use Rattle.typing.specs.Typing.{element, relation, typeOf}
@@ -38,7 +58,7 @@ module _ (I : Interpretation) (σ : ℕ → Ty) (Γ : Ctx) where
     times-emptied s =
         empty.either-emptied I Γ σ (two #CProd a b) (prod u v) (rw (ha, hb)) a b u ha (s .3 .0) (s .3 .1 .0) (λ l. l .2 .0) (λ l. l .2 .1 .0) v hb
         (λ ρ. set.times-some (I .size) u v (kit.no-int a Γ u (s .3 .0) ha) (kit.no-int b Γ v (s .3 .1 .0) hb) (setOf I (means I a Γ) ρ u)
-              (setOf I (means I b Γ) ρ v))
+        (setOf I (means I b Γ) ρ v))
 
   -- ---- a set and a relation
   module _ (s r : Tree) (u v : Ty) (hs : typeOf s Γ ≡ pow u) (hr : typeOf r Γ ≡ relation u v) where
@@ -47,7 +67,7 @@ module _ (I : Interpretation) (σ : ℕ → Ty) (Γ : Ctx) where
     domres-emptied f =
         let n = kit.no-int r Γ (prod u v) (f .3 .1 .0) hr in
         empty.meet-emptied I Γ σ (two #DomRes s r) (prod u v) hr (dom r) s u (empty.dom-type Γ r u v hr)
-            (empty.dom-single Γ r u v hr (f .3 .1 .0)) (f .3 .0)
+        (empty.dom-single Γ r u v hr (f .3 .1 .0)) (f .3 .0)
         (λ l. kit.one-alive I Γ #KDom (refl, refl) r (l .2 .1 .0)) (λ l. l .2 .0)
         (λ ρ. ap (λ d. some I u (λ x. d x && setOf I (means I s Γ) ρ u x)) (empty.dom-is I Γ r u v hr ρ)
         ∙ set.domres-some (I .size) u v (n .0) (n .1) (setOf I (means I s Γ) ρ u) (setOf I (means I r Γ) ρ (prod u v)))
@@ -57,7 +77,7 @@ module _ (I : Interpretation) (σ : ℕ → Ty) (Γ : Ctx) where
     domsub-emptied f =
         let n = kit.no-int r Γ (prod u v) (f .3 .1 .0) hr in
         empty.within-emptied I Γ σ (two #DomSub s r) (prod u v) hr (dom r) s u (empty.dom-type Γ r u v hr)
-            (empty.dom-single Γ r u v hr (f .3 .1 .0)) (f .3 .0)
+        (empty.dom-single Γ r u v hr (f .3 .1 .0)) (f .3 .0)
         (λ l. kit.one-alive I Γ #KDom (refl, refl) r (l .2 .1 .0)) (λ l. l .2 .0)
         (λ ρ. ap (λ d. every I u (λ x. not (d x) || setOf I (means I s Γ) ρ u x)) (empty.dom-is I Γ r u v hr ρ)
         ∙ set.domsub-none (I .size) u v (n .0) (n .1) (setOf I (means I s Γ) ρ u) (setOf I (means I r Γ) ρ (prod u v)))
@@ -67,7 +87,7 @@ module _ (I : Interpretation) (σ : ℕ → Ty) (Γ : Ctx) where
     image-emptied f =
         let n = kit.no-int r Γ (prod u v) (f .3 .0) hr in
         emptied-by I σ Γ (two #RelImage r s) (two #DomRes s r) v (prod u v) (rw hr) hr
-            (tt, kit.single-type r Γ (f .3 .0), tt, (f .3 .1 .0, (f .3 .0, tt)))
+        (tt, kit.single-type r Γ (f .3 .0), tt, (f .3 .1 .0, (f .3 .0, tt)))
         (λ l. (tt, tt, (l .2 .1 .0, (l .2 .0, tt))))
         (λ l ρ. set.image-some (I .size) u v (n .0) (n .1) (setOf I (means I s Γ) ρ u) (setOf I (means I r Γ) ρ (prod u v))
         ∙ ap (some I v) (sym (empty.image-is I Γ r u v hr ρ s)))
@@ -78,7 +98,7 @@ module _ (I : Interpretation) (σ : ℕ → Ty) (Γ : Ctx) where
     ranres-emptied f =
         let n = kit.no-int r Γ (prod u v) (f .3 .0) hr in
         empty.meet-emptied I Γ σ (two #RanRes r s) (prod u v) hr (ran r) s v (empty.ran-type Γ r u v hr)
-            (empty.ran-single Γ r u v hr (f .3 .0)) (f .3 .1 .0)
+        (empty.ran-single Γ r u v hr (f .3 .0)) (f .3 .1 .0)
         (λ l. kit.one-alive I Γ #KRan (refl, refl) r (l .2 .0)) (λ l. l .2 .1 .0)
         (λ ρ. ap (λ d. some I v (λ x. d x && setOf I (means I s Γ) ρ v x)) (empty.ran-is I Γ r u v hr ρ)
         ∙ set.ranres-some (I .size) u v (n .0) (n .1) (setOf I (means I r Γ) ρ (prod u v)) (setOf I (means I s Γ) ρ v))
@@ -88,7 +108,7 @@ module _ (I : Interpretation) (σ : ℕ → Ty) (Γ : Ctx) where
     ransub-emptied f =
         let n = kit.no-int r Γ (prod u v) (f .3 .0) hr in
         empty.within-emptied I Γ σ (two #RanSub r s) (prod u v) hr (ran r) s v (empty.ran-type Γ r u v hr)
-            (empty.ran-single Γ r u v hr (f .3 .0)) (f .3 .1 .0)
+        (empty.ran-single Γ r u v hr (f .3 .0)) (f .3 .1 .0)
         (λ l. kit.one-alive I Γ #KRan (refl, refl) r (l .2 .0)) (λ l. l .2 .1 .0)
         (λ ρ. ap (λ d. every I v (λ x. not (d x) || setOf I (means I s Γ) ρ v x)) (empty.ran-is I Γ r u v hr ρ)
         ∙ set.ransub-none (I .size) u v (n .0) (n .1) (setOf I (means I r Γ) ρ (prod u v)) (setOf I (means I s Γ) ρ v))
@@ -103,7 +123,7 @@ module _ (I : Interpretation) (σ : ℕ → Ty) (Γ : Ctx) where
         let m = kit.no-int q Γ (prod u w) (f .3 .1 .0) hq in
         empty.meet-emptied I Γ σ (two #DProd p q) (prod u (prod v w)) (rw (hp, hq)) (dom p) (dom q) u (empty.dom-type Γ p u v hp)
         (empty.dom-single Γ p u v hp (f .3 .0)) (empty.dom-single Γ q u w hq (f .3 .1 .0))
-            (λ l. kit.one-alive I Γ #KDom (refl, refl) p (l .2 .0)) (λ l. kit.one-alive I Γ #KDom (refl, refl) q (l .2 .1 .0))
+        (λ l. kit.one-alive I Γ #KDom (refl, refl) p (l .2 .0)) (λ l. kit.one-alive I Γ #KDom (refl, refl) q (l .2 .1 .0))
         (λ ρ. ap₂ (λ d e. some I u (λ x. d x && e x)) (empty.dom-is I Γ p u v hp ρ) (empty.dom-is I Γ q u w hq ρ)
         ∙ set.dprod-some (I .size) u v w (n .0) (n .1) (m .1) (setOf I (means I p Γ) ρ (prod u v)) (setOf I (means I q Γ) ρ (prod u w)))
 
@@ -111,17 +131,17 @@ module _ (I : Interpretation) (σ : ℕ → Ty) (Γ : Ctx) where
     composed : (e : Tree) → typeOf e Γ ≡ relation u w → typeOf p Γ ≡ relation u v → typeOf q Γ ≡ relation v w → SingleIntegers p Γ
         → SingleIntegers q Γ → (NoInterOverNothing I e Γ → NoInterOverNothing I p Γ) → (NoInterOverNothing I e Γ → NoInterOverNothing I q Γ)
         → ((ρ : Vals I Γ) → setOf I (means I e Γ) ρ (prod u w) ≡
-          (λ a. some I v (λ z. relOf I (means I p Γ) ρ u v (a .0) z && relOf I (means I q Γ) ρ v w z (a .1))))
+        (λ a. some I v (λ z. relOf I (means I p Γ) ρ u v (a .0) z && relOf I (means I q Γ) ρ v w z (a .1))))
         → Emptied I σ Γ e (_≐∅ Γ (inters (pair (ran p) (dom q))))
     composed e he hp hq s r k l is =
         let n = kit.no-int p Γ (prod u v) s hp in
         let m = kit.no-int q Γ (prod v w) r hq in
         empty.meet-emptied I Γ σ e (prod u w) he (ran p) (dom q) v (empty.ran-type Γ p u v hp) (empty.ran-single Γ p u v hp s)
-            (empty.dom-single Γ q v w hq r)
+        (empty.dom-single Γ q v w hq r)
         (λ x. kit.one-alive I Γ #KRan (refl, refl) p (k x)) (λ x. kit.one-alive I Γ #KDom (refl, refl) q (l x))
         (λ ρ. ap₂ (λ d f. some I v (λ x. d x && f x)) (empty.ran-is I Γ p u v hp ρ) (empty.dom-is I Γ q v w hq ρ)
         ∙ set.fcomp-some (I .size) u v w (n .0) (n .1) (m .1) (setOf I (means I p Γ) ρ (prod u v)) (setOf I (means I q Γ) ρ (prod v w)) ∙ ap
-            (some I (prod u w)) (sym (is ρ)))
+        (some I (prod u w)) (sym (is ρ)))
 
   module _ (p q : Tree) (u v w : Ty) where
     pub forward-emptied : typeOf p Γ ≡ relation u v → typeOf q Γ ≡ relation v w → SingleIntegers (many #FComp (pair p q)) Γ
@@ -129,14 +149,14 @@ module _ (I : Interpretation) (σ : ℕ → Ty) (Γ : Ctx) where
     unfolding SingleIntegers NoInterOverNothing typeOf opOf opAt classOf lookup formAt
     forward-emptied hp hq f =
         composed p q u v w (many #FComp (pair p q)) (rw (hp, hq)) hp hq (f .3 .0) (f .3 .1 .0) (λ l. l .2 .0) (λ l. l .2 .1 .0)
-            (λ ρ. empty.forward-is I Γ p u v hp ρ q w)
+        (λ ρ. empty.forward-is I Γ p u v hp ρ q w)
 
     pub backward-emptied : typeOf p Γ ≡ relation v w → typeOf q Γ ≡ relation u v → SingleIntegers (many #BComp (pair p q)) Γ
         → Emptied I σ Γ (many #BComp (pair p q)) (_≐∅ Γ (inters (pair (ran q) (dom p))))
     unfolding SingleIntegers NoInterOverNothing typeOf opOf opAt classOf lookup formAt
     backward-emptied hp hq f =
         composed q p u v w (many #BComp (pair p q)) (rw (hp, hq)) hq hp (f .3 .1 .0) (f .3 .0) (λ l. l .2 .1 .0) (λ l. l .2 .0)
-            (λ ρ. empty.backward-is I Γ p v w hp ρ q u)
+        (λ ρ. empty.backward-is I Γ p v w hp ρ q u)
 
   pub pprod-emptied : (p q : Tree) (u v w z : Ty) → typeOf p Γ ≡ relation u v → typeOf q Γ ≡ relation w z → SingleIntegers (two #PProd p q) Γ
       → Emptied I σ Γ (two #PProd p q) (⋁ (pair (_≐∅ Γ p) (_≐∅ Γ q)))
@@ -145,7 +165,7 @@ module _ (I : Interpretation) (σ : ℕ → Ty) (Γ : Ctx) where
       let n = kit.no-int p Γ (prod u v) (f .3 .0) hp in
       let m = kit.no-int q Γ (prod w z) (f .3 .1 .0) hq in
       empty.either-emptied I Γ σ (two #PProd p q) (prod (prod u w) (prod v z)) (rw (hp, hq)) p q (prod u v) hp (f .3 .0) (f .3 .1 .0)
-          (λ l. l .2 .0) (λ l. l .2 .1 .0) (prod w z) hq
+      (λ l. l .2 .0) (λ l. l .2 .1 .0) (prod w z) hq
       (λ ρ. set.pprod-some (I .size) u w v z (n .0) (m .0) (n .1) (m .1) (setOf I (means I p Γ) ρ (prod u v)) (setOf I (means I q Γ) ρ (prod w z)))
 
   -- ---- one relation
@@ -201,13 +221,13 @@ module _ (I : Interpretation) (σ : ℕ → Ty) (Γ : Ctx) where
     srel-emptied f =
         emptied I σ Γ (two #SRel a b) (⋀ (pair (_≐∅ Γ a) (¬ᵖ (_≐∅ Γ b)))) (pow (prod u v)) (rw (ha, hb)) (refl, refl)
         (kit.two-single I Γ #LAnd (refl, refl) (_≐∅ Γ a) (¬ᵖ (_≐∅ Γ b)) (kit.empty-single I Γ a (f .3 .0))
-              (kit.one-single I Γ #Not (refl, refl) (_≐∅ Γ b) (kit.empty-single I Γ b (f .3 .1 .0))))
+        (kit.one-single I Γ #Not (refl, refl) (_≐∅ Γ b) (kit.empty-single I Γ b (f .3 .1 .0))))
         (λ l. kit.two-alive I Γ #LAnd (refl, refl) (_≐∅ Γ a) (¬ᵖ (_≐∅ Γ b)) (kit.empty-alive I Γ a (l .2 .0))
-              (kit.one-alive I Γ #Not (refl, refl) (_≐∅ Γ b) (kit.empty-alive I Γ b (l .2 .1 .0))))
+        (kit.one-alive I Γ #Not (refl, refl) (_≐∅ Γ b) (kit.empty-alive I Γ b (l .2 .1 .0))))
         (λ l ρ. empty.and-two-truth I Γ (_≐∅ Γ a) (¬ᵖ (_≐∅ Γ b)) ρ ∙ ap₂ _&&_ (kit.empty-truth I Γ a u ha ρ) (ap not (kit.empty-truth I Γ b v hb ρ))
         ∙ law (some I u (setOf I (means I a Γ) ρ u)) (some I v (setOf I (means I b Γ) ρ v))
         ∙ ap not (sym (more.srel-some (I .size) u v (kit.no-int a Γ u (f .3 .0) ha) (kit.no-int b Γ v (f .3 .1 .0) hb)
-                (setOf I (means I a Γ) ρ u) (setOf I (means I b Γ) ρ v))))
+        (setOf I (means I a Γ) ρ u) (setOf I (means I b Γ) ρ v))))
       where
         law : (x y : Bool) → (not x && not (not y)) ≡ not (not y || x)
         law true true = refl
@@ -220,13 +240,13 @@ module _ (I : Interpretation) (σ : ℕ → Ty) (Γ : Ctx) where
     strel-emptied f =
         emptied I σ Γ (two #STRel a b) (_≐∅ Γ a ⇔ ¬ᵖ (_≐∅ Γ b)) (pow (prod u v)) (rw (ha, hb)) (refl, refl)
         (kit.two-single I Γ #LEqv (refl, refl) (_≐∅ Γ a) (¬ᵖ (_≐∅ Γ b)) (kit.empty-single I Γ a (f .3 .0))
-              (kit.one-single I Γ #Not (refl, refl) (_≐∅ Γ b) (kit.empty-single I Γ b (f .3 .1 .0))))
+        (kit.one-single I Γ #Not (refl, refl) (_≐∅ Γ b) (kit.empty-single I Γ b (f .3 .1 .0))))
         (λ l. kit.two-alive I Γ #LEqv (refl, refl) (_≐∅ Γ a) (¬ᵖ (_≐∅ Γ b)) (kit.empty-alive I Γ a (l .2 .0))
-              (kit.one-alive I Γ #Not (refl, refl) (_≐∅ Γ b) (kit.empty-alive I Γ b (l .2 .1 .0))))
+        (kit.one-alive I Γ #Not (refl, refl) (_≐∅ Γ b) (kit.empty-alive I Γ b (l .2 .1 .0))))
         (λ l ρ. kit.equiv-truth I Γ (_≐∅ Γ a) (¬ᵖ (_≐∅ Γ b)) ρ ∙ ap₂ Bool·beq (kit.empty-truth I Γ a u ha ρ) (ap not (kit.empty-truth I Γ b v hb ρ))
         ∙ law (some I u (setOf I (means I a Γ) ρ u)) (some I v (setOf I (means I b Γ) ρ v))
         ∙ ap not (sym (more.strel-some (I .size) u v (kit.no-int a Γ u (f .3 .0) ha) (kit.no-int b Γ v (f .3 .1 .0) hb)
-                (setOf I (means I a Γ) ρ u) (setOf I (means I b Γ) ρ v))))
+        (setOf I (means I a Γ) ρ u) (setOf I (means I b Γ) ρ v))))
       where
         law : (x y : Bool) → Bool·beq (not x) (not (not y)) ≡ not (Bool·beq x y)
         law true true = refl

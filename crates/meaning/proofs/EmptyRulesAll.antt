@@ -11,21 +11,78 @@ use Rattle.frame.specs.Places.{Ctx}
 use Rattle.typing.specs.Typing.{first, second, source, target, relation, ty, typeOf, typesIn}
 use Rattle.typing.specs.Accepted.{TysOk, Accepted}
 use Rattle.rules.specs.Equations.{
-  ⊥ᵖ, ¬ᵖ, ⋀, _∈ᵖ_, _⊆_, ext, inters, over, Subtracted, Empties, _≐∅, «SIMP_SETENUM_EQUAL_EMPTY», «SIMP_BINTER_SING_EQUAL_EMPTY»,
-  «SIMP_BINTER_SETMINUS_EQUAL_EMPTY», «SIMP_BUNION_EQUAL_EMPTY», «SIMP_SETMINUS_EQUAL_EMPTY», «SIMP_CPROD_EQUAL_EMPTY»,
-  «SIMP_UPTO_EQUAL_EMPTY», «SIMP_SREL_EQUAL_EMPTY», «SIMP_STREL_EQUAL_EMPTY», «SIMP_DOMRES_EQUAL_EMPTY»,
-  «SIMP_DOMSUB_EQUAL_EMPTY», «SIMP_RANRES_EQUAL_EMPTY», «SIMP_RANSUB_EQUAL_EMPTY», «SIMP_RELIMAGE_EQUAL_EMPTY»,
-  «SIMP_DPROD_EQUAL_EMPTY», «SIMP_PPROD_EQUAL_EMPTY», «SIMP_POW_EQUAL_EMPTY», «SIMP_POW1_EQUAL_EMPTY», «SIMP_KUNION_EQUAL_EMPTY»,
-  «SIMP_DOM_EQUAL_EMPTY», «SIMP_RAN_EQUAL_EMPTY», «SIMP_CONVERSE_EQUAL_EMPTY», «SIMP_FCOMP_EQUAL_EMPTY», «SIMP_BCOMP_EQUAL_EMPTY»,
-  «SIMP_OVERL_EQUAL_EMPTY», «SIMP_QUNION_EQUAL_EMPTY», «SIMP_NATURAL_EQUAL_EMPTY», «SIMP_NATURAL1_EQUAL_EMPTY»,
-  «SIMP_ID_EQUAL_EMPTY», «SIMP_PRJ1_EQUAL_EMPTY», «SIMP_PRJ2_EQUAL_EMPTY»
+  ⊥ᵖ,
+  ¬ᵖ,
+  ⋀,
+  _∈ᵖ_,
+  _⊆_,
+  ext,
+  inters,
+  over,
+  Subtracted,
+  Empties,
+  _≐∅,
+  «SIMP_SETENUM_EQUAL_EMPTY»,
+  «SIMP_BINTER_SING_EQUAL_EMPTY»,
+  «SIMP_BINTER_SETMINUS_EQUAL_EMPTY»,
+  «SIMP_BUNION_EQUAL_EMPTY»,
+  «SIMP_SETMINUS_EQUAL_EMPTY»,
+  «SIMP_CPROD_EQUAL_EMPTY»,
+  «SIMP_UPTO_EQUAL_EMPTY»,
+  «SIMP_SREL_EQUAL_EMPTY»,
+  «SIMP_STREL_EQUAL_EMPTY»,
+  «SIMP_DOMRES_EQUAL_EMPTY»,
+  «SIMP_DOMSUB_EQUAL_EMPTY»,
+  «SIMP_RANRES_EQUAL_EMPTY»,
+  «SIMP_RANSUB_EQUAL_EMPTY»,
+  «SIMP_RELIMAGE_EQUAL_EMPTY»,
+  «SIMP_DPROD_EQUAL_EMPTY»,
+  «SIMP_PPROD_EQUAL_EMPTY»,
+  «SIMP_POW_EQUAL_EMPTY»,
+  «SIMP_POW1_EQUAL_EMPTY»,
+  «SIMP_KUNION_EQUAL_EMPTY»,
+  «SIMP_DOM_EQUAL_EMPTY»,
+  «SIMP_RAN_EQUAL_EMPTY»,
+  «SIMP_CONVERSE_EQUAL_EMPTY»,
+  «SIMP_FCOMP_EQUAL_EMPTY»,
+  «SIMP_BCOMP_EQUAL_EMPTY»,
+  «SIMP_OVERL_EQUAL_EMPTY»,
+  «SIMP_QUNION_EQUAL_EMPTY»,
+  «SIMP_NATURAL_EQUAL_EMPTY»,
+  «SIMP_NATURAL1_EQUAL_EMPTY»,
+  «SIMP_ID_EQUAL_EMPTY»,
+  «SIMP_PRJ1_EQUAL_EMPTY»,
+  «SIMP_PRJ2_EQUAL_EMPTY»,
 }
 use Rattle.rules.proofs.Nodes.{Has, within, opened, top}
 use Rattle.rules.proofs.Nodes as nodes
 use Rattle.rules.proofs.NewNodes.{over-cap}
 use Rattle.rules.proofs.OldNodes.{
-  Operands, of-pow, of-pow1, of-union, of-dom, of-ran, of-converse, of-single, of-minus, of-times, of-srel, of-strel, of-domres,
-  of-domsub, of-ranres, of-ransub, of-image, of-dprod, of-pprod, of-fcomp, of-bcomp, of-cap, of-cup, of-ovr, of-qunion
+  Operands,
+  of-pow,
+  of-pow1,
+  of-union,
+  of-dom,
+  of-ran,
+  of-converse,
+  of-single,
+  of-minus,
+  of-times,
+  of-srel,
+  of-strel,
+  of-domres,
+  of-domsub,
+  of-ranres,
+  of-ransub,
+  of-image,
+  of-dprod,
+  of-pprod,
+  of-fcomp,
+  of-bcomp,
+  of-cap,
+  of-cup,
+  of-ovr,
+  of-qunion,
 }
 use Rattle.rules.proofs.Operands.{subtracted-same, every-mid, minuends}
 use Rattle.meaning.specs.Meaning.{Interpretation}
@@ -59,7 +116,7 @@ module _ (I : Interpretation) (σ : ℕ → Ty) (Γ : Ctx) where
       let ks = append left (cons (ext (sole a)) right) in
       let o = of-cap ks h in
       cap-rule.single-emptied I σ Γ a left right (o .0) (cap-type ks (o .0) (o .1))
-          (of-single (every-mid (λ k. Has σ Γ k (pow (o .0))) left (ext (sole a)) right (o .1 .each) .0) .type) s
+      (of-single (every-mid (λ k. Has σ Γ k (pow (o .0))) left (ext (sole a)) right (o .1 .each) .0) .type) s
 
   subtracted-rule : (ks ls ms : Forest) → Subtracted ks ls ms → {t : Ty} → Has σ Γ (inters ks) t → SingleIntegers (inters ks) Γ
       → Emptied I σ Γ (inters ks) (over #BInter ls ⊆ over #BUnion ms)
@@ -85,7 +142,7 @@ module _ (I : Interpretation) (σ : ℕ → Ty) (Γ : Ctx) where
       let l = of-ovr ks h .1 .some in
       let w = ty 0 (typesIn ks Γ) in
       many-rule.override-emptied I σ Γ ks (omega arith) (source w) (target w)
-          (each-alike (relation (source w) (target w)) (typesIn ks Γ) (opened h .types)) s
+      (each-alike (relation (source w) (target w)) (typesIn ks Γ) (opened h .types)) s
 
   -- ---- no sets of integers
   module _ {A : Type 0} where

@@ -74,7 +74,7 @@ module _ (I : Interpretation) (σ : ℕ → Ty) (Γ : Ctx) (a : Tree) (left righ
       let x = val I (means I a Γ) ρ u in
       ap (some I u) (fun-ext (λ y. cap-is I Γ ρ u y with-a ∙ ap (all (λ k. setOf I k ρ u y)) (append-means I Γ left (cons (ext (sole a)) right))))
       ∙ more.cap-single (I .size) u n (λ k. setOf I k ρ u) (meansAll I left Γ) (meansAll I right Γ) (means I (ext (sole a)) Γ) x
-          (λ y. alone-is I Γ ρ u y a)
+      (λ y. alone-is I Γ ρ u y a)
       ∙ ap (all (λ k. setOf I k ρ u x)) (sym (append-means I Γ left right)) ∙ sym (cap-over-is I Γ ρ u x (append left right))
 
   pub single-emptied : (u : Ty) → typeOf (inters (append left (cons (ext (sole a)) right))) Γ ≡ pow u → typeOf a Γ ≡ u
@@ -112,7 +112,7 @@ module _ (I : Interpretation) (Γ : Ctx) where
         ∙ apart (has (means I a Γ)) (has (means I b Γ)) (all has (meansAll I ls Γ)) (any has (meansAll I ms Γ))
     subtracted-is (other k ks ls ms d) =
         ap (λ c. has (means I k Γ) && c) (subtracted-is d) ∙ sym
-            (and-assoc (has (means I k Γ)) (all has (meansAll I ls Γ)) (not (any has (meansAll I ms Γ))))
+        (and-assoc (has (means I k Γ)) (all has (meansAll I ls Γ)) (not (any has (meansAll I ms Γ))))
 
   pub subtracted-emptied : (σ : ℕ → Ty) (ks ls ms : Forest) (u : Ty) → Subtracted ks ls ms → typeOf (inters ks) Γ ≡ pow u
       → typeOf (over #BInter ls) Γ ≡ pow u → SingleIntegers (inters ks) Γ → Emptied I σ Γ (inters ks) (over #BInter ls ⊆ over #BUnion ms)
@@ -122,15 +122,15 @@ module _ (I : Interpretation) (Γ : Ctx) where
       let b = over #BUnion ms in
       let parts : (x y : Tree) → SingleIntegers (two #SetMinus x y) Γ → SingleIntegers x Γ × SingleIntegers y Γ = λ x y t. (t .3 .0, t .3 .1 .0) in
       let lives : (x y : Tree) → NoInterOverNothing I (two #SetMinus x y) Γ
-          → NoInterOverNothing I x Γ × NoInterOverNothing I y Γ = λ x y t. (t .2 .0, t .2 .1 .0) in
+      → NoInterOverNothing I x Γ × NoInterOverNothing I y Γ = λ x y t. (t .2 .0, t .2 .1 .0) in
       within-emptied I Γ σ (inters ks) u he a b u hl (over-single Γ #BInter (λ k. refl) ls
-            (single-all Γ ls (minuends-every (λ k. SingleIntegers k Γ) parts d (single-each Γ ks (s .3)))))
-          (over-single Γ #BUnion (λ k. refl) ms (single-all Γ ms
-              (subtrahends-every (λ k. SingleIntegers k Γ) parts d (single-each Γ ks (s .3)))))
+      (single-all Γ ls (minuends-every (λ k. SingleIntegers k Γ) parts d (single-each Γ ks (s .3)))))
+      (over-single Γ #BUnion (λ k. refl) ms (single-all Γ ms
+      (subtrahends-every (λ k. SingleIntegers k Γ) parts d (single-each Γ ks (s .3)))))
       (λ l. over-alive I Γ #BInter (refl, refl) ls (alive-all I Γ ls
-              (minuends-every (λ k. NoInterOverNothing I k Γ) lives d (alive-each I Γ ks (l .2)))))
-          (λ l. over-alive I Γ #BUnion (refl, refl) ms (alive-all I Γ ms
-              (subtrahends-every (λ k. NoInterOverNothing I k Γ) lives d (alive-each I Γ ks (l .2)))))
+      (minuends-every (λ k. NoInterOverNothing I k Γ) lives d (alive-each I Γ ks (l .2)))))
+      (λ l. over-alive I Γ #BUnion (refl, refl) ms (alive-all I Γ ms
+      (subtrahends-every (λ k. NoInterOverNothing I k Γ) lives d (alive-each I Γ ks (l .2)))))
       (λ ρ. within-is (I .size) u (setOf I (means I a Γ) ρ u) (setOf I (means I b Γ) ρ u)
       ∙ ap (λ f. not (some I u f)) (fun-ext (λ x. ap₂ (λ c e. c && not e) (cap-over-is I Γ ρ u x ls) (cup-over-is I Γ ρ u x ms) ∙ sym
-              (subtracted-is ρ u x d) ∙ sym (cap-is I Γ ρ u x ks))))
+      (subtracted-is ρ u x d) ∙ sym (cap-is I Γ ρ u x ks))))

@@ -109,19 +109,19 @@ module _ (I : Interpretation) (Γ : Ctx) where
         (k : NoInterOverNothing I e Γ → NoInterOverNothing I a Γ) (l : NoInterOverNothing I e Γ → NoInterOverNothing I b Γ) where
       -- A ∩ B = ∅
       pub meet-emptied : ((ρ : Vals I Γ) → some I u (λ x. setOf I (means I a Γ) ρ u x && setOf I (means I b Γ) ρ u x) ≡ some I w
-            (setOf I (means I e Γ) ρ w)) → Emptied I σ Γ e (_≐∅ Γ (inters (pair a b)))
+          (setOf I (means I e Γ) ρ w)) → Emptied I σ Γ e (_≐∅ Γ (inters (pair a b)))
       meet-emptied m =
           emptied-by I σ Γ e (inters (pair a b)) w u he (meet-type a b u ha) (meet-single a b s r)
-              (λ x. kit.two-alive I Γ #BInter (refl, refl) a b (k x) (l x))
+          (λ x. kit.two-alive I Γ #BInter (refl, refl) a b (k x) (l x))
           (λ x ρ. ap (some I u) (meet-is a b u ρ) ∙ m ρ)
 
       -- A ⊆ B
       pub within-emptied : ((ρ : Vals I Γ) → every I u (λ x. not (setOf I (means I a Γ) ρ u x) || setOf I (means I b Γ) ρ u x) ≡ not
-            (some I w (setOf I (means I e Γ) ρ w))) → Emptied I σ Γ e (a ⊆ b)
+          (some I w (setOf I (means I e Γ) ρ w))) → Emptied I σ Γ e (a ⊆ b)
       unfolding classOf lookup formAt
       within-emptied m =
           emptied I σ Γ e (a ⊆ b) w he (refl, refl) (kit.two-single I Γ #SubsetEq (refl, refl) a b s r)
-              (λ x. kit.two-alive I Γ #SubsetEq (refl, refl) a b (k x) (l x))
+          (λ x. kit.two-alive I Γ #SubsetEq (refl, refl) a b (k x) (l x))
           (λ x ρ. kit.subset-truth I Γ a b u ha ρ ∙ m ρ)
 
       -- A = ∅ ∨ B = ∅
@@ -131,7 +131,7 @@ module _ (I : Interpretation) (Γ : Ctx) where
       unfolding classOf lookup formAt
       either-emptied v hb m =
           emptied I σ Γ e (⋁ (pair (_≐∅ Γ a) (_≐∅ Γ b))) w he (refl, refl)
-              (kit.two-single I Γ #LOr (refl, refl) (_≐∅ Γ a) (_≐∅ Γ b) (kit.empty-single I Γ a s) (kit.empty-single I Γ b r))
+          (kit.two-single I Γ #LOr (refl, refl) (_≐∅ Γ a) (_≐∅ Γ b) (kit.empty-single I Γ a s) (kit.empty-single I Γ b r))
           (λ x. kit.two-alive I Γ #LOr (refl, refl) (_≐∅ Γ a) (_≐∅ Γ b) (kit.empty-alive I Γ a (k x)) (kit.empty-alive I Γ b (l x)))
           (λ x ρ. or-two-truth (_≐∅ Γ a) (_≐∅ Γ b) ρ ∙ ap₂ _||_ (kit.empty-truth I Γ a u ha ρ) (kit.empty-truth I Γ b v hb ρ)
           ∙ sym (not-and (some I u (setOf I (means I a Γ) ρ u)) (some I v (setOf I (means I b Γ) ρ v))) ∙ ap not (sym (m ρ)))

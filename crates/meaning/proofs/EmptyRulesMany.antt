@@ -15,7 +15,20 @@ use Rattle.rules.specs.Equations.{⊥ᵖ, _⇒_, ⋀, ∀ᵖ, ext, _≐∅}
 use Rattle.meaning.specs.Lists.{any, all}
 use Rattle.meaning.specs.Operations.{opAt, opOf}
 use Rattle.meaning.specs.Meaning.{
-  Interpretation, Vals, Den, truth, val, setOf, some, equals, overridden, valueOf, boundSet, choices, means, meansAll
+  Interpretation,
+  Vals,
+  Den,
+  truth,
+  val,
+  setOf,
+  some,
+  equals,
+  overridden,
+  valueOf,
+  boundSet,
+  choices,
+  means,
+  meansAll,
 }
 use Rattle.meaning.specs.Premises.{NoInt, SingleIntegers, SingleIntegersIn, NoInterOverNothing, NoInterOverNothingIn}
 use Rattle.meaning.proofs.Sets.{some-false, some-any}
@@ -50,7 +63,7 @@ module _ (I : Interpretation) (σ : ℕ → Ty) (Γ : Ctx) where
     unfolding classOf lookup formAt
     each-emptied s l m =
         emptied I σ Γ e (⋀ (mapF (_≐∅ Γ) ks)) u he (refl, refl)
-            (kit.many-single I Γ #LAnd (refl, refl) (mapF (_≐∅ Γ) ks) (map-single (_≐∅ Γ) Γ Γ (λ k. kit.empty-single I Γ k) ks s))
+        (kit.many-single I Γ #LAnd (refl, refl) (mapF (_≐∅ Γ) ks) (map-single (_≐∅ Γ) Γ Γ (λ k. kit.empty-single I Γ k) ks s))
         (λ a. kit.many-alive I Γ #LAnd (refl, refl) (mapF (_≐∅ Γ) ks) (map-alive I (_≐∅ Γ) Γ Γ (λ k. kit.empty-alive I Γ k) ks (l a)))
         (λ a ρ. kit.and-truth I Γ (mapF (_≐∅ Γ) ks) ρ ∙ empties-all I Γ u ρ ks h ∙ ap not (sym (m ρ)))
 
@@ -87,12 +100,12 @@ module _ (I : Interpretation) (σ : ℕ → Ty) (Γ : Ctx) where
       let Δ = push xs Γ in
       emptied I σ Γ (bodied #QUnion xs p e) (∀ᵖ xs (p ⇒ _≐∅ Δ e)) u h (refl, refl)
       (kit.bound-single I Γ #Forall (refl, refl) (λ us. refl) xs (p ⇒ _≐∅ Δ e) (s .0) (s .2)
-            (kit.two-single I Δ #LImp (refl, refl) p (_≐∅ Δ e) (s .3 .0) (kit.empty-single I Δ e (s .3 .1 .0))))
+      (kit.two-single I Δ #LImp (refl, refl) p (_≐∅ Δ e) (s .3 .0) (kit.empty-single I Δ e (s .3 .1 .0))))
       (λ a. kit.bound-alive I Γ #Forall (refl, refl) (λ us. refl) xs (p ⇒ _≐∅ Δ e) (refl, refl)
-            (kit.two-alive I Δ #LImp (refl, refl) p (_≐∅ Δ e) (a .2 .0) (kit.empty-alive I Δ e (a .2 .1 .0))))
+      (kit.two-alive I Δ #LImp (refl, refl) p (_≐∅ Δ e) (a .2 .0) (kit.empty-alive I Δ e (a .2 .1 .0))))
       (λ a ρ. kit.forall-truth I Γ xs (p ⇒ _≐∅ Δ e) ρ
       ∙ ap (λ g. all g (choices I xs Γ ρ)) (fun-ext (λ τ. kit.implies-truth I Δ p (_≐∅ Δ e) τ ∙ ap (λ b. not (truth I (means I p Δ) τ) || b)
-              (kit.empty-truth I Δ e u h τ)))
+      (kit.empty-truth I Δ e u h τ)))
       ∙ set.qunion-none (I .size) u (kit.no-int e Δ u (s .3 .1 .0) h) (truth I (means I p Δ)) (λ τ. setOf I (means I e Δ) τ u) (choices I xs Γ ρ))
 
   -- ---- id, prj1, prj2

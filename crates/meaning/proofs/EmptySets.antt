@@ -96,10 +96,15 @@ module _ (size : ℕ → ℕ) where
 
   pub pprod-some : (t u v w : Ty) → NoInt t → NoInt u → NoInt v → NoInt w → (p : Value size (prod t v) → Bool) (q : Value size (prod u w) → Bool)
       → someOf size (prod (prod t u) (prod v w)) (λ a. p (a .0 .0, a .1 .0) && q (a .0 .1, a .1 .1)) ≡
-          (someOf size (prod t v) p && someOf size (prod u w) q)
+      (someOf size (prod t v) p && someOf size (prod u w) q)
   pprod-some t u v w nt nu nv nw p q =
-      iff (simp (so-and, so-some size (prod t v) (nt, nv), so-some size (prod u w) (nu, nw), so-some size
-              (prod (prod t u) (prod v w)) ((nt, nu), (nv, nw))) (
+      iff (simp (
+        so-and,
+        so-some size (prod t v) (nt, nv),
+        so-some size (prod u w) (nu, nw),
+        so-some size
+            (prod (prod t u) (prod v w)) ((nt, nu), (nv, nw)),
+      ) (
         λ h. (((h .0 .0 .0, h .0 .1 .0), h .1 .0), ((h .0 .0 .1, h .0 .1 .1), h .1 .1)),
         λ h. (((h .0 .0 .0, h .1 .0 .0), (h .0 .0 .1, h .1 .0 .1)), (h .0 .1, h .1 .1)),
       ))

@@ -21,12 +21,20 @@ module _ (size : ℕ → ℕ) where
     -- S <->> T has a member if T = ∅ or S ≠ ∅
     pub srel-some : someOf size (pow (prod t u)) (λ r.
         everyOf size t (λ x. everyOf size u (λ y. not (r (x, y)) || (a x && b y))) && everyOf size u
-            (λ y. not (b y) || someOf size t (λ x. r (x, y))))
+        (λ y. not (b y) || someOf size t (λ x. r (x, y))))
         ≡ (not (someOf size u b) || someOf size t a)
     unfolding product
     srel-some =
-        iff (simp (so-imp, so-and, so-every size t nt, so-every size u nu, so-some size t nt, so-some size u nu, so-some size
-                (pow (prod t u)) (nt, nu)) (
+        iff (simp (
+          so-imp,
+          so-and,
+          so-every size t nt,
+          so-every size u nu,
+          so-some size t nt,
+          so-some size u nu,
+          so-some size
+              (pow (prod t u)) (nt, nu),
+        ) (
           λ h m. (let x = h .1 .1 (m .0) (m .1) in (x .0, h .1 .0 (x .0) (m .0) (x .1) .0)),
           λ h. (product, ((λ x y k. so-and (a x) (b y) .0 k), λ y k. (let x = h (y, k) in (x .0, so-and (a (x .0)) (b y) .1 (x .1, k))))),
         ))
@@ -38,8 +46,17 @@ module _ (size : ℕ → ℕ) where
         ≡ Bool·beq (someOf size t a) (someOf size u b)
     unfolding product
     strel-some =
-        iff (simp (so-beq-iff, so-imp, so-and, so-every size t nt, so-every size u nu, so-some size t nt, so-some size u nu, so-some size
-                (pow (prod t u)) (nt, nu)) (
+        iff (simp (
+          so-beq-iff,
+          so-imp,
+          so-and,
+          so-every size t nt,
+          so-every size u nu,
+          so-some size t nt,
+          so-some size u nu,
+          so-some size
+              (pow (prod t u)) (nt, nu),
+        ) (
           λ h. (
             (λ m. (let y = h .1 .1 .0 (m .0) (m .1) in (y .0, h .1 .0 (m .0) (y .0) (y .1) .1))),
             λ m. (let x = h .1 .1 .1 (m .0) (m .1) in (x .0, h .1 .0 (x .0) (m .0) (x .1) .0)),

@@ -88,11 +88,11 @@ module _ (I : Interpretation) (σ : ℕ → Ty) (Γ : Ctx) where
   unfolding SingleIntegers NoInterOverNothing opOf opAt classOf lookup formAt
   finite-union-keeps ks s =
       finite-keeps (many #BUnion ks) (⋀ (mapF fin ks)) (refl, refl)
-          (kit.many-single I Γ #LAnd (refl, refl) (mapF fin ks)
-            (many.map-single fin Γ Γ (kit.one-single I Γ #Finite (refl, refl)) ks (s .3 .0 .3)))
+      (kit.many-single I Γ #LAnd (refl, refl) (mapF fin ks)
+      (many.map-single fin Γ Γ (kit.one-single I Γ #Finite (refl, refl)) ks (s .3 .0 .3)))
       (λ a. kit.many-alive I Γ #LAnd (refl, refl) (mapF fin ks)
-            (many.map-alive I fin Γ Γ (kit.one-alive I Γ #Finite (refl, refl)) ks (a .2)))
-          (λ ρ. kit.and-truth I Γ (mapF fin ks) ρ ∙ fins-truth ρ ks)
+      (many.map-alive I fin Γ Γ (kit.one-alive I Γ #Finite (refl, refl)) ks (a .2)))
+      (λ ρ. kit.and-truth I Γ (mapF fin ks) ρ ∙ fins-truth ρ ks)
 
   -- ℙ S, r⁻¹, S ◁ r: the first operand
   pub finite-first-keeps : (g : ℕ) (s : Tree) (ks : Forest) → SingleIntegers (fin (many g (cons s ks))) Γ
@@ -117,13 +117,30 @@ module _ (I : Interpretation) (σ : ℕ → Ty) (Γ : Ctx) where
         let ht = h .3 .0 .3 .1 .0 in
         let ds = cons (_≐∅ Γ s) (pair (_≐∅ Γ t) (⋀ (pair (fin s) (fin t)))) in
         finite-keeps (two #CProd s t) product-new (refl, refl)
-        (kit.many-single I Γ #LOr (refl, refl) ds (kit.empty-single I Γ s hs,
-                (kit.empty-single I Γ t ht, (kit.many-single I Γ #LAnd (refl, refl) (pair (fin s) (fin t))
-                    (kit.one-single I Γ #Finite (refl, refl) s hs, (kit.one-single I Γ #Finite (refl, refl) t ht, tt)), tt))))
-        (λ a. kit.many-alive I Γ #LOr (refl, refl) ds (kit.empty-alive I Γ s (a .2 .0),
-                (kit.empty-alive I Γ t (a .2 .1 .0), (kit.many-alive I Γ #LAnd (refl, refl) (pair (fin s) (fin t))
-                    (kit.one-alive I Γ #Finite (refl, refl) s (a .2 .0),
-                      (kit.one-alive I Γ #Finite (refl, refl) t (a .2 .1 .0), tt)), tt))))
+        (kit.many-single I Γ #LOr (refl, refl) ds (
+          kit.empty-single I Γ s hs,
+          (
+            kit.empty-single I Γ t ht,
+            (
+              kit.many-single I Γ #LAnd (refl, refl) (pair (fin s) (fin t))
+                  (kit.one-single I Γ #Finite (refl, refl) s hs, (kit.one-single I Γ #Finite (refl, refl) t ht, tt)),
+              tt,
+            ),
+          ),
+        ))
+        (λ a. kit.many-alive I Γ #LOr (refl, refl) ds (
+          kit.empty-alive I Γ s (a .2 .0),
+          (
+            kit.empty-alive I Γ t (a .2 .1 .0),
+            (
+              kit.many-alive I Γ #LAnd (refl, refl) (pair (fin s) (fin t)) (
+                kit.one-alive I Γ #Finite (refl, refl) s (a .2 .0),
+                (kit.one-alive I Γ #Finite (refl, refl) t (a .2 .1 .0), tt),
+              ),
+              tt,
+            ),
+          ),
+        ))
         product-truth
 
   -- λx·P∣F, a set of maplets E ↦ F
@@ -146,14 +163,14 @@ module _ (I : Interpretation) (σ : ℕ → Ty) (Γ : Ctx) where
     unfolding means holds partitions disjoint any
     partition-none =
         partition-at nil ∙ and-true (equals I (pow u) (setOf I (means I s Γ) ρ u) (λ x. false)) ∙ is-empty (I .size) u
-            (setOf I (means I s Γ) ρ u) ∙ sym (kit.empty-truth I Γ s u h ρ)
+        (setOf I (means I s Γ) ρ u) ∙ sym (kit.empty-truth I Γ s u h ρ)
 
     partition-one : (t : Tree) → truth I (means I (many #Partition (pair s t)) Γ) ρ ≡ truth I (means I (s ≐ t) Γ) ρ
     unfolding means typeOf holds partitions disjoint disjointFrom any
     partition-one t =
         partition-at (sole t) ∙ and-true (equals I (pow u) (setOf I (means I s Γ) ρ u) (λ x. setOf I (means I t Γ) ρ u x || false))
         ∙ ap (λ f. equals I (pow u) (setOf I (means I s Γ) ρ u) f) (fun-ext (λ x. or-false (setOf I (means I t Γ) ρ u x))) ∙ sym
-            (kit.equal-truth I Γ s t (pow u) h ρ)
+        (kit.equal-truth I Γ s t (pow u) h ρ)
 
   pub partition-none-keeps : (s : Tree) → Accepted σ (many #Partition (sole s)) Γ predicate → SingleIntegers (many #Partition (sole s)) Γ
       → Keeps I Γ (many #Partition (sole s)) (_≐∅ Γ s)
@@ -161,7 +178,7 @@ module _ (I : Interpretation) (σ : ℕ → Ty) (Γ : Ctx) where
   partition-none-keeps s a h =
       let e = a .fits in
       keeps-truth I (many #Partition (sole s)) (_≐∅ Γ s) Γ (refl, refl) (refl, refl) (kit.empty-single I Γ s (h .3 .0))
-          (λ l. kit.empty-alive I Γ s (l .2 .0))
+      (λ l. kit.empty-alive I Γ s (l .2 .0))
       (λ l ρ. partition-none s (element (typeOf s Γ)) (cc) ρ)
 
   pub partition-one-keeps : (s t : Tree) → Accepted σ (many #Partition (pair s t)) Γ predicate → SingleIntegers (many #Partition (pair s t)) Γ
@@ -170,6 +187,6 @@ module _ (I : Interpretation) (σ : ℕ → Ty) (Γ : Ctx) where
   partition-one-keeps s t a h =
       let e = a .fits in
       keeps-truth I (many #Partition (pair s t)) (s ≐ t) Γ (refl, refl) (refl, refl)
-          (kit.two-single I Γ #Equal (refl, refl) s t (h .3 .0) (h .3 .1 .0))
-          (λ l. kit.two-alive I Γ #Equal (refl, refl) s t (l .2 .0) (l .2 .1 .0))
+      (kit.two-single I Γ #Equal (refl, refl) s t (h .3 .0) (h .3 .1 .0))
+      (λ l. kit.two-alive I Γ #Equal (refl, refl) s t (l .2 .0) (l .2 .1 .0))
       (λ l ρ. partition-one s (element (typeOf s Γ)) (cc) ρ t)

@@ -131,7 +131,7 @@ module _ (I : Interpretation) (σ : ℕ → Ty) (Γ : Ctx) where
     drop-neutral h =
         ap (joined b p) (many.append-means I Γ left (cons q right)) ∙ joined-mid p b (meansAll I left Γ) (means I q Γ) (meansAll I right Γ)
         ∙ ap (λ c. both b c (joined b p (meansAll I left Γ ++ meansAll I right Γ))) h ∙ both-neutral b
-            (joined b p (meansAll I left Γ ++ meansAll I right Γ))
+        (joined b p (meansAll I left Γ ++ meansAll I right Γ))
         ∙ ap (joined b p) (sym (many.append-means I Γ left right))
 
     drop-repeated : Among q left → says b ρ (append left (cons q right)) ≡ says b ρ (append left right)
@@ -165,13 +165,13 @@ module _ (I : Interpretation) (σ : ℕ → Ty) (Γ : Ctx) where
     decided-by : ((ρ : Vals I Γ) → says (f .by) ρ ps ≡ f .by) → Keeps I Γ (many g ps) (leaf d)
     decided-by h =
         keeps-truth I (many g ps) (leaf d) Γ (f .joins .formula) (f .decides .formula) (kit.leaf-single I Γ d (f .decides .formula))
-            (λ a. kit.leaf-alive I Γ d (f .decides .other))
+        (λ a. kit.leaf-alive I Γ d (f .decides .other))
         (λ a ρ. f .joins .truly ps ρ ∙ h ρ ∙ sym (f .decides .truly ρ))
 
     pub junction-decided-keeps : Among (leaf d) ps → Keeps I Γ (many g ps) (leaf d)
     junction-decided-keeps i =
         decided-by (λ ρ. joined-decided (λ k. truth I k ρ) (f .by) (meansAll I ps Γ) (means I (leaf d) Γ)
-              (many.among-means I Γ (leaf d) ps i) (f .decides .truly ρ))
+        (many.among-means I Γ (leaf d) ps i) (f .decides .truly ρ))
 
     pub junction-opposite-keeps : (q : Tree) → Among q ps → Among (¬ᵖ q) ps → Keeps I Γ (many g ps) (leaf d)
     junction-opposite-keeps q i k =
@@ -181,7 +181,7 @@ module _ (I : Interpretation) (σ : ℕ → Ty) (Γ : Ctx) where
     pub junction-none-keeps : Dropped n ps nil → Keeps I Γ (many g ps) (leaf n)
     junction-none-keeps r =
         keeps-truth I (many g ps) (leaf n) Γ (f .joins .formula) (f .neutral .formula) (kit.leaf-single I Γ n (f .neutral .formula))
-            (λ a. kit.leaf-alive I Γ n (f .neutral .other))
+        (λ a. kit.leaf-alive I Γ n (f .neutral .other))
         (λ a ρ. f .joins .truly ps ρ ∙ dropped-says n (f .by) ρ (f .neutral .truly ρ) r ∙ none-says (f .by) ρ ∙ sym (f .neutral .truly ρ))
 
     left-single : (ls : Forest) → Dropped n ps ls → SingleIntegers (many g ps) Γ → Every (λ k. SingleIntegers k Γ) ls
@@ -194,12 +194,12 @@ module _ (I : Interpretation) (σ : ℕ → Ty) (Γ : Ctx) where
         → Keeps I Γ (many g ps) q
     junction-one-keeps q r a s =
         keeps-truth I (many g ps) q Γ (f .joins .formula) (dropped-every Formula r (f .joins .kids-formula ps a) .0)
-            (left-single (sole q) r s .0) (λ l. left-alive (sole q) r l .0)
+        (left-single (sole q) r s .0) (λ l. left-alive (sole q) r l .0)
         (λ l ρ. f .joins .truly ps ρ ∙ dropped-says n (f .by) ρ (f .neutral .truly ρ) r ∙ one-says (f .by) ρ q)
 
     pub junction-fewer-keeps : (ls : Forest) → Dropped n ps ls → SingleIntegers (many g ps) Γ → Keeps I Γ (many g ps) (many g ls)
     junction-fewer-keeps ls r s =
         keeps-truth I (many g ps) (many g ls) Γ (f .joins .formula) (f .joins .formula)
-            (kit.many-single I Γ g (f .joins .formula) ls (single-all Γ ls (left-single ls r s)))
+        (kit.many-single I Γ g (f .joins .formula) ls (single-all Γ ls (left-single ls r s)))
         (λ a. kit.many-alive I Γ g (f .joins .other) ls (alive-all I Γ ls (left-alive ls r a)))
         (λ a ρ. f .joins .truly ps ρ ∙ dropped-says n (f .by) ρ (f .neutral .truly ρ) r ∙ sym (f .joins .truly ls ρ))

@@ -22,11 +22,33 @@ use Rattle.rules.specs.Equations.{¬ᵖ, _⇒_, _⇔_, ⋀, ∀ᵖ, ∃ᵖ, _�
 use Rattle.meaning.specs.Lists.{any, all}
 use Rattle.meaning.specs.Operations.{Logic, Op, logic, equal, subset, member, opAt, opOf}
 use Rattle.meaning.specs.Meaning.{
-  Interpretation, Vals, truth, val, setOf, some, every, equals, choices, bindersIn, nodeMeans, identifierValue, holds, valueOf,
-  quantified, means, meansAll
+  Interpretation,
+  Vals,
+  truth,
+  val,
+  setOf,
+  some,
+  every,
+  equals,
+  choices,
+  bindersIn,
+  nodeMeans,
+  identifierValue,
+  holds,
+  valueOf,
+  quantified,
+  means,
+  meansAll,
 }
 use Rattle.meaning.specs.Premises.{
-  NoInt, Single, AllNoInt, AllSingle, SingleIntegers, SingleIntegersIn, NoInterOverNothing, NoInterOverNothingIn
+  NoInt,
+  Single,
+  AllNoInt,
+  AllSingle,
+  SingleIntegers,
+  SingleIntegersIn,
+  NoInterOverNothing,
+  NoInterOverNothingIn,
 }
 use Rattle.meaning.proofs.Sound.{Formula, formula-type, binders-agree}
 use Rattle.meaning.proofs.Sets.{is-empty, is-full, every-true}

@@ -100,8 +100,11 @@ module _ {A : Type 0} where
   so-any p (y ∷ l) = step (so-any p l)
     where
       step : So (any p l) ↔ ((x : A) × In x l × So (p x)) → So (p y || any p l) ↔ ((x : A) × In x (y ∷ l) × So (p x))
-      step ih = simp so-or (λ o. elim o [ inl q ↦ (y, inl refl, q) | inr r ↦ let r = ih .0 r in (r .0, inr (r .1), r .2) ], λ h.
-            back (h .0) (h .1) (h .2))
+      step ih = simp so-or (
+        λ o. elim o [ inl q ↦ (y, inl refl, q) | inr r ↦ let r = ih .0 r in (r .0, inr (r .1), r .2) ],
+        λ h.
+            back (h .0) (h .1) (h .2),
+      )
         where
           back : (x : A) → In x (y ∷ l) → So (p x) → So (p y) ⊎ So (any p l)
           back x (inl e) q = inl (rw e at q)

@@ -41,15 +41,15 @@ module _ (I : Interpretation) (σ : ℕ → Ty) (Γ : Ctx) (xs : List Ty) where
     -- l is (q x·P) g … g (q x·Q)
     spread : (q g : ℕ) → Formula (leaf q) → ((us : List Ty) → bindersOf (formOf q .layout) us ≡ us) → NoInter q → Formula (leaf g) → NoInter g
         → (l : Tree) → Formula l → AllSingle xs → AllNoInt xs → SingleIntegersIn ps (push xs Γ)
-            → (NoInterOverNothing I l Γ → NoInterOverNothingIn I ps (push xs Γ))
+        → (NoInterOverNothing I l Γ → NoInterOverNothingIn I ps (push xs Γ))
         → ((ρ : Vals I Γ) → truth I (means I l Γ) ρ ≡ truth I (means I (many g (mapF (tree.quantified q xs) ps)) Γ) ρ)
-            → Keeps I Γ l (many g (mapF (tree.quantified q xs) ps))
+        → Keeps I Γ l (many g (mapF (tree.quantified q xs) ps))
     spread q g fq b nq fg ng l fl s n r k t =
         keeps-truth I l (many g (mapF (tree.quantified q xs) ps)) Γ fl fg
         (kit.many-single I Γ g fg (mapF (tree.quantified q xs) ps)
-              (many-law.map-single (tree.quantified q xs) (push xs Γ) Γ (λ p h. kit.bound-single I Γ q fq b xs p s n h) ps r))
+        (many-law.map-single (tree.quantified q xs) (push xs Γ) Γ (λ p h. kit.bound-single I Γ q fq b xs p s n h) ps r))
         (λ a. kit.many-alive I Γ g ng (mapF (tree.quantified q xs) ps)
-              (many-law.map-alive I (tree.quantified q xs) (push xs Γ) Γ (λ p h. kit.bound-alive I Γ q fq b xs p nq h) ps (k a)))
+        (many-law.map-alive I (tree.quantified q xs) (push xs Γ) Γ (λ p h. kit.bound-alive I Γ q fq b xs p nq h) ps (k a)))
         (λ a. t)
 
     -- ∀x·(P ∧ … ∧ Q) is (∀x·P) ∧ … ∧ (∀x·Q)
@@ -57,7 +57,7 @@ module _ (I : Interpretation) (σ : ℕ → Ty) (Γ : Ctx) (xs : List Ty) where
     unfolding Accepted SingleIntegers NoInterOverNothing typeOf opOf opAt classOf lookup formAt
     forall-and-keeps a s =
         spread #Forall #LAnd (refl, refl) (λ us. refl) (refl, refl) (refl, refl) (refl, refl) (∀ᵖ xs (⋀ ps)) (refl, refl) (s .0) (s .2)
-            (s .3 .0 .3) (λ l. l .2 .0 .2)
+        (s .3 .0 .3) (λ l. l .2 .0 .2)
         (forall-and-truth (many-law.each-alike bool (typesIn ps (push xs Γ)) (a .kids .0 .fits)))
 
     -- ∃x·(P ∨ … ∨ Q) is (∃x·P) ∨ … ∨ (∃x·Q)
@@ -65,7 +65,7 @@ module _ (I : Interpretation) (σ : ℕ → Ty) (Γ : Ctx) (xs : List Ty) where
     unfolding Accepted SingleIntegers NoInterOverNothing typeOf opOf opAt classOf lookup formAt
     exists-or-keeps a s =
         spread #Exists #LOr (refl, refl) (λ us. refl) (refl, refl) (refl, refl) (refl, refl) (∃ᵖ xs (⋁ ps)) (refl, refl) (s .0) (s .2)
-            (s .3 .0 .3) (λ l. l .2 .0 .2)
+        (s .3 .0 .3) (λ l. l .2 .0 .2)
         (exists-or-truth (many-law.each-alike bool (typesIn ps (push xs Γ)) (a .kids .0 .fits)))
 
   -- ∃x·(P ⇒ Q) is (∀x·P) ⇒ (∃x·Q)
@@ -74,9 +74,9 @@ module _ (I : Interpretation) (σ : ℕ → Ty) (Γ : Ctx) (xs : List Ty) where
   exists-imp-keeps p q s =
       keeps-truth I (∃ᵖ xs (p ⇒ q)) (∀ᵖ xs p ⇒ ∃ᵖ xs q) Γ (refl, refl) (refl, refl)
       (kit.two-single I Γ #LImp (refl, refl) (∀ᵖ xs p) (∃ᵖ xs q)
-            (kit.bound-single I Γ #Forall (refl, refl) (λ us. refl) xs p (s .0) (s .2) (s .3 .0 .3 .0))
-            (kit.bound-single I Γ #Exists (refl, refl) (λ us. refl) xs q (s .0) (s .2) (s .3 .0 .3 .1 .0)))
+      (kit.bound-single I Γ #Forall (refl, refl) (λ us. refl) xs p (s .0) (s .2) (s .3 .0 .3 .0))
+      (kit.bound-single I Γ #Exists (refl, refl) (λ us. refl) xs q (s .0) (s .2) (s .3 .0 .3 .1 .0)))
       (λ l. kit.two-alive I Γ #LImp (refl, refl) (∀ᵖ xs p) (∃ᵖ xs q)
-            (kit.bound-alive I Γ #Forall (refl, refl) (λ us. refl) xs p (refl, refl) (l .2 .0 .2 .0))
-            (kit.bound-alive I Γ #Exists (refl, refl) (λ us. refl) xs q (refl, refl) (l .2 .0 .2 .1 .0)))
+      (kit.bound-alive I Γ #Forall (refl, refl) (λ us. refl) xs p (refl, refl) (l .2 .0 .2 .0))
+      (kit.bound-alive I Γ #Exists (refl, refl) (λ us. refl) xs q (refl, refl) (l .2 .0 .2 .1 .0)))
       (λ l ρ. any-imp (truth I (means I p (push xs Γ))) (truth I (means I q (push xs Γ))) (choices I xs Γ ρ))

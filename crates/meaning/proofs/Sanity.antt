@@ -29,8 +29,20 @@ use Rattle.meaning.specs.Lists.{any, all}
 use Rattle.meaning.specs.Values.{listOf, sameElement, pairs, including, subsets, Value, default, values, same, someOf, everyOf, asType}
 use Rattle.meaning.specs.Operations.{opAt, opOf}
 use Rattle.meaning.specs.Meaning.{
-  Interpretation, Val, leInt, valueAt, choices, identifierValue, setOf, equals, holds, valueOf, quantified, boundSet, means,
-  isTrue
+  Interpretation,
+  Val,
+  leInt,
+  valueAt,
+  choices,
+  identifierValue,
+  setOf,
+  equals,
+  holds,
+  valueOf,
+  quantified,
+  boundSet,
+  means,
+  isTrue,
 }
 use Rattle.meaning.specs.Premises.{NoInt, SingleIntegers, NoInterOverNothing}
 use Rattle.meaning.proofs.Lists.{so-imp, so-any}

@@ -116,11 +116,11 @@ module _ (I : Interpretation) where
   -- ts are the types of the operands
   pred-node : (g n : ℕ) (us : List Ty) (ks : Forest) (Γ : Ctx) (ts : List Ty) → Formula (node (head g n us) ks)
       → let k = nodeMeans I (opOf g) g n us Γ ts (meansAll I ks (push (bindersIn I (opOf g) us) Γ)) in
-          (pred (truth I k) ≡ k) × (result (classOf g) n us Γ ts ≡ bool)
+      (pred (truth I k) ≡ k) × (result (classOf g) n us Γ ts ≡ bool)
   unfolding opOf
   pred-node g n us ks Γ ts f =
       suits-pred (formOf g .listed) (formOf g .sort) (opOf g) (result (classOf g) n us Γ ts) g n us Γ ts
-          (meansAll I ks (push (bindersIn I (opOf g) us) Γ)) (f .0) (f .1)
+      (meansAll I ks (push (bindersIn I (opOf g) us) Γ)) (f .0) (f .1)
       (class-op (classOf g) g n us Γ ts .1)
 
   pub is-pred : (t : Tree) (Γ : Ctx) → Formula t → pred (truth I (means I t Γ)) ≡ means I t Γ
@@ -192,4 +192,4 @@ module _ (I : Interpretation) where
       → (SingleIntegers v Δ → Keeps Δ v u) → Keeps Γ t (replace t k u)
   keeps-at-place t Γ k Δ v u e f h =
       at-place (λ Γ a b. SingleIntegers a Γ → Keeps Γ a b) (λ Γ ks ls. SingleIntegersIn ks Γ → KeepsAll Γ ks ls) at-node at-first
-          at-rest t Γ k Δ v u e h f
+      at-rest t Γ k Δ v u e h f

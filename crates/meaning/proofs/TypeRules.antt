@@ -8,8 +8,22 @@ use Rattle.frame.specs.Types.{Ty, pow, prod}
 use Rattle.frame.specs.Trees.{Tree, Forest, one, two, sole, pair, bodied, mapF}
 use Rattle.frame.specs.Tags.{expression, classOf, lookup, formAt}
 use Rattle.frame.specs.Operators.{
-  #SetMinus, #CProd, #DProd, #PProd, #DomRes, #DomSub, #RanRes, #RanSub, #UpTo, #KInter, #Converse, #QInter, #Equal, #Forall,
-  #LAnd, #LImp
+  #SetMinus,
+  #CProd,
+  #DProd,
+  #PProd,
+  #DomRes,
+  #DomSub,
+  #RanRes,
+  #RanSub,
+  #UpTo,
+  #KInter,
+  #Converse,
+  #QInter,
+  #Equal,
+  #Forall,
+  #LAnd,
+  #LImp,
 }
 use Rattle.frame.specs.Places.{Ctx, push}
 use Rattle.typing.specs.Typing.{element, relation, typeOf, typesIn}
@@ -17,14 +31,42 @@ use Rattle.typing.specs.TypeExpression.{toExpression}
 use Rattle.typing.specs.Accepted.{Accepted, TysOk}
 use Rattle.typing.proofs.TypeExpression.{express-type}
 use Rattle.rules.specs.Equations.{
-  _⇒_, ⋀, ∀ᵖ, _≐_, ext, inters, Fills, _≐∅, _≐Ty, «SIMP_BINTER_EQUAL_TYPE», «SIMP_SETMINUS_EQUAL_TYPE», «SIMP_CPROD_EQUAL_TYPE»,
-  «SIMP_UPTO_EQUAL_INTEGER», «SIMP_DOMRES_EQUAL_TYPE», «SIMP_DOMSUB_EQUAL_TYPE», «SIMP_RANRES_EQUAL_TYPE»,
-  «SIMP_RANSUB_EQUAL_TYPE», «SIMP_DPROD_EQUAL_TYPE», «SIMP_PPROD_EQUAL_TYPE», «SIMP_KINTER_EQUAL_TYPE»,
-  «SIMP_CONVERSE_EQUAL_TYPE», «SIMP_QINTER_EQUAL_TYPE»
+  _⇒_,
+  ⋀,
+  ∀ᵖ,
+  _≐_,
+  ext,
+  inters,
+  Fills,
+  _≐∅,
+  _≐Ty,
+  «SIMP_BINTER_EQUAL_TYPE»,
+  «SIMP_SETMINUS_EQUAL_TYPE»,
+  «SIMP_CPROD_EQUAL_TYPE»,
+  «SIMP_UPTO_EQUAL_INTEGER»,
+  «SIMP_DOMRES_EQUAL_TYPE»,
+  «SIMP_DOMSUB_EQUAL_TYPE»,
+  «SIMP_RANRES_EQUAL_TYPE»,
+  «SIMP_RANSUB_EQUAL_TYPE»,
+  «SIMP_DPROD_EQUAL_TYPE»,
+  «SIMP_PPROD_EQUAL_TYPE»,
+  «SIMP_KINTER_EQUAL_TYPE»,
+  «SIMP_CONVERSE_EQUAL_TYPE»,
+  «SIMP_QINTER_EQUAL_TYPE»,
 }
 use Rattle.rules.proofs.Nodes.{Has}
 use Rattle.rules.proofs.OldNodes.{
-  of-inter, of-converse, of-minus, of-times, of-domres, of-domsub, of-ranres, of-ransub, of-dprod, of-pprod, of-qinter
+  of-inter,
+  of-converse,
+  of-minus,
+  of-times,
+  of-domres,
+  of-domsub,
+  of-ranres,
+  of-ransub,
+  of-dprod,
+  of-pprod,
+  of-qinter,
 }
 use Rattle.meaning.specs.Lists.{any, all}
 use Rattle.meaning.specs.Operations.{opAt, opOf}
@@ -69,15 +111,15 @@ module _ (I : Interpretation) (σ : ℕ → Ty) (Γ : Ctx) where
   module _ (e a b : Tree) (t u v : Ty) (he : typeOf e Γ ≡ pow t) (ha : typeOf a Γ ≡ pow u) (hb : typeOf b Γ ≡ pow v)
       (s : SingleIntegers a Γ × SingleIntegers b Γ) (l : NoInterOverNothing I e Γ → NoInterOverNothing I a Γ × NoInterOverNothing I b Γ) where
     full-full : ((ρ : Vals I Γ) → (every I u (setOf I (means I a Γ) ρ u) && (every I v (setOf I (means I b Γ) ρ v) && true)) ≡ every I t
-          (setOf I (means I e Γ) ρ t)) → Filled I σ Γ e (⋀ (pair (_≐Ty Γ a) (_≐Ty Γ b)))
+        (setOf I (means I e Γ) ρ t)) → Filled I σ Γ e (⋀ (pair (_≐Ty Γ a) (_≐Ty Γ b)))
     full-full = both-say e a b t he s l (full-says a u ha) (full-says b v hb)
 
     full-none : ((ρ : Vals I Γ) → (every I u (setOf I (means I a Γ) ρ u) && (not (some I v (setOf I (means I b Γ) ρ v)) && true)) ≡ every I
-          t (setOf I (means I e Γ) ρ t)) → Filled I σ Γ e (⋀ (pair (_≐Ty Γ a) (_≐∅ Γ b)))
+        t (setOf I (means I e Γ) ρ t)) → Filled I σ Γ e (⋀ (pair (_≐Ty Γ a) (_≐∅ Γ b)))
     full-none = both-say e a b t he s l (full-says a u ha) (none-says b v hb)
 
     none-full : ((ρ : Vals I Γ) → (not (some I u (setOf I (means I a Γ) ρ u)) && (every I v (setOf I (means I b Γ) ρ v) && true)) ≡ every I
-          t (setOf I (means I e Γ) ρ t)) → Filled I σ Γ e (⋀ (pair (_≐∅ Γ a) (_≐Ty Γ b)))
+        t (setOf I (means I e Γ) ρ t)) → Filled I σ Γ e (⋀ (pair (_≐∅ Γ a) (_≐Ty Γ b)))
     none-full = both-say e a b t he s l (none-says a u ha) (full-says b v hb)
 
   -- ---- A ∖ B, S × T
@@ -94,7 +136,7 @@ module _ (I : Interpretation) (σ : ℕ → Ty) (Γ : Ctx) where
   times-filled a b u v ha hb s =
       full-full (two #CProd a b) a b (prod u v) u v (rw (ha, hb)) ha hb (s .3 .0, s .3 .1 .0) (λ l. (l .2 .0, l .2 .1 .0))
       (λ ρ. set.times-full (I .size) u v (kit.no-int a Γ u (s .3 .0) ha) (kit.no-int b Γ v (s .3 .1 .0) hb) (setOf I (means I a Γ) ρ u)
-            (setOf I (means I b Γ) ρ v))
+      (setOf I (means I b Γ) ρ v))
 
   -- ---- S ◁ r, S ⩤ r
   module _ (a r : Tree) (u v : Ty) (ha : typeOf a Γ ≡ pow u) (hr : typeOf r Γ ≡ relation u v) where
@@ -145,7 +187,7 @@ module _ (I : Interpretation) (σ : ℕ → Ty) (Γ : Ctx) where
       let n = kit.no-int p Γ (prod u v) (s .3 .0) hp in
       let m = kit.no-int q Γ (prod w x) (s .3 .1 .0) hq in
       full-full (two #PProd p q) p q (prod (prod u w) (prod v x)) (prod u v) (prod w x) (rw (hp, hq)) hp hq (s .3 .0, s .3 .1 .0)
-          (λ l. (l .2 .0, l .2 .1 .0))
+      (λ l. (l .2 .0, l .2 .1 .0))
       (λ ρ. set.pprod-full (I .size) u v w x (n .0) (n .1) (m .0) (m .1) (setOf I (means I p Γ) ρ (prod u v)) (setOf I (means I q Γ) ρ (prod w x)))
 
   -- ---- r∼
@@ -219,12 +261,12 @@ module _ (I : Interpretation) (σ : ℕ → Ty) (Γ : Ctx) where
       let Δ = push xs Γ in
       filled I σ Γ (bodied #QInter xs p e) (∀ᵖ xs (p ⇒ _≐Ty Δ e)) u he (refl, refl)
       (kit.bound-single I Γ #Forall (refl, refl) (λ us. refl) xs (p ⇒ _≐Ty Δ e) (s .0) (s .2)
-            (kit.two-single I Δ #LImp (refl, refl) p (_≐Ty Δ e) (s .3 .0) (kit.full-single I Δ e (s .3 .1 .0))))
+      (kit.two-single I Δ #LImp (refl, refl) p (_≐Ty Δ e) (s .3 .0) (kit.full-single I Δ e (s .3 .1 .0))))
       (λ a. kit.bound-alive I Γ #Forall (refl, refl) (λ us. refl) xs (p ⇒ _≐Ty Δ e) (refl, refl)
-            (kit.two-alive I Δ #LImp (refl, refl) p (_≐Ty Δ e) (a .2 .0) (kit.full-alive I Δ e (a .2 .1 .0))))
+      (kit.two-alive I Δ #LImp (refl, refl) p (_≐Ty Δ e) (a .2 .0) (kit.full-alive I Δ e (a .2 .1 .0))))
       (λ a ρ. kit.forall-truth I Γ xs (p ⇒ _≐Ty Δ e) ρ
       ∙ ap (λ f. all f (choices I xs Γ ρ)) (fun-ext (λ τ. kit.implies-truth I Δ p (_≐Ty Δ e) τ ∙ ap
-              (λ b. not (truth I (means I p Δ) τ) || b) (kit.full-truth I Δ e u he τ)))
+      (λ b. not (truth I (means I p Δ) τ) || b) (kit.full-truth I Δ e u he τ)))
       ∙ set.qinter-full (I .size) u (kit.no-int e Δ u (s .3 .1 .0) he) (truth I (means I p Δ)) (λ τ. setOf I (means I e Δ) τ u) (choices I xs Γ ρ))
 
   -- ---- every equation

@@ -70,7 +70,7 @@ module _ (size : ℕ → ℕ) where
   -- p ⊗ q
   pub dprod-full : (t u v : Ty) → NoInt t → NoInt u → NoInt v → (p : Value size (prod t u) → Bool) (q : Value size (prod t v) → Bool)
       → (everyOf size (prod t u) p && (everyOf size (prod t v) q && true)) ≡ everyOf size (prod t (prod u v))
-          (λ z. p (z .0, z .1 .0) && q (z .0, z .1 .1))
+      (λ z. p (z .0, z .1 .0) && q (z .0, z .1 .1))
   dprod-full t u v nt nu nv p q =
       iff (simp (so-and, so-every size (prod t u) (nt, nu), so-every size (prod t v) (nt, nv), so-every size (prod t (prod u v)) (nt, (nu, nv))) (
         λ h z. (h .0 (z .0, z .1 .0), h .1 .0 (z .0, z .1 .1)),
@@ -83,8 +83,13 @@ module _ (size : ℕ → ℕ) where
       → (everyOf size (prod t u) p && (everyOf size (prod v w) q && true))
       ≡ everyOf size (prod (prod t v) (prod u w)) (λ z. p (z .0 .0, z .1 .0) && q (z .0 .1, z .1 .1))
   pprod-full t u v w nt nu nv nw p q =
-      iff (simp (so-and, so-every size (prod t u) (nt, nu), so-every size (prod v w) (nv, nw), so-every size
-              (prod (prod t v) (prod u w)) ((nt, nv), (nu, nw))) (
+      iff (simp (
+        so-and,
+        so-every size (prod t u) (nt, nu),
+        so-every size (prod v w) (nv, nw),
+        so-every size
+            (prod (prod t v) (prod u w)) ((nt, nv), (nu, nw)),
+      ) (
         λ h z. (h .0 (z .0 .0, z .1 .0), h .1 .0 (z .0 .1, z .1 .1)),
         λ h.
             (λ x. h ((x .0, default size v), (x .1, default size w)) .0, (λ x. h ((default size t, x .0), (default size u, x .1)) .1, refl)),

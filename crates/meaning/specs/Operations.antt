@@ -5,8 +5,27 @@ use lib.Dec.{eqb}
 use Rattle.frame.specs.Tags.{pick}
 use Rattle.frame.specs.Tags as C
 use Rattle.frame.specs.Operators.{
-  #BTrue, #BUnion, #DomRes, #Equal, #Forall, #Gt, #In, #Integer, #KUnion, #LAnd, #LImp, #Le, #Lt, #Natural, #Pow, #QUnion,
-  #RanRes, #SRel, #STRel, #SubsetEq, #True
+  #BTrue,
+  #BUnion,
+  #DomRes,
+  #Equal,
+  #Forall,
+  #Gt,
+  #In,
+  #Integer,
+  #KUnion,
+  #LAnd,
+  #LImp,
+  #Le,
+  #Lt,
+  #Natural,
+  #Pow,
+  #QUnion,
+  #RanRes,
+  #SRel,
+  #STRel,
+  #SubsetEq,
+  #True,
 }
 
 -- of predicates without binders; unnamed: ≠ ∉ ⊂ ⊄ ⊈

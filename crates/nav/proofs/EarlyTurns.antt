@@ -44,7 +44,7 @@ is-two g a b l =
     let h : binary g (classOf g) ≡ true = every-tag binary 300 all-binary g (omega arith) in
     let x : (leb 101 g && leb g 252) ≡ true = ap (λ (i : Bool). i && leb g 252) (le-leb 101 g a) ∙ le-leb g 252 b in
     sym (ap (λ (i : Bool). not i || (not (formOf g .listed) || twoFixed (formOf g .layout))) x ∙ ap
-          (λ (i : Bool). not i || twoFixed (formOf g .layout)) l) ∙ h
+    (λ (i : Bool). not i || twoFixed (formOf g .layout)) l) ∙ h
 
 two-long : (ks : Forest) (es : List Sort) → Wfs ks es → length es ≡ 2 → 4 ≤ length (encs ks)
 unfolding enc
@@ -97,4 +97,4 @@ module _ (s : List ℕ) (x y tag : ℕ) where
             let zx : x + (2 + j) ≡ x + 2 + j = omega arith in
             let zy : y + (2 + j) ≡ y + 2 + j = omega arith in
             ap (λ (i : ℕ). getD s i 0) (sym zx) ∙ stand-byte st (2 + j) (omega arith) ∙ ap (λ (v : Tree). getD (enc v) (2 + j) 0) eq ∙ sym
-                (stand-byte su (2 + j) (omega arith)) ∙ ap (λ (i : ℕ). getD s i 0) zy
+            (stand-byte su (2 + j) (omega arith)) ∙ ap (λ (i : ℕ). getD s i 0) zy

@@ -170,7 +170,7 @@ mutual
   next-in nil Γ k Δ v f = absent-not Δ v f
   next-in (cons t ks) Γ k Δ v f =
       next-cons t ks k Δ v (find t Γ k) (findIn ks Γ (k - nodes t)) (ltb k (nodes t)) refl f (λ h. next-start t Γ k Δ v h)
-          (λ h. next-in ks Γ (k - nodes t) Δ v h)
+      (λ h. next-in ks Γ (k - nodes t) Δ v h)
 
 module _ (s : List ℕ) (t : Tree) (st : List ℕ) (n : ℕ) (fr : Framed s t st n) (k : ℕ) (Γ : Ctx) (v : Tree) (f : find t [] k ≡ found Γ v) where
   -- the subtree at place k ends where the next place after it starts

@@ -27,8 +27,21 @@ use Rattle.tags.proofs.TagTables.{code-form}
 use Rattle.frame.proofs.Splices.{find-some, find-lt}
 use Rattle.sameness.specs.Stands.{Stands}
 use Rattle.nav.specs.PlaceTables.{
-  arity, Framed, NextsFrom, Table, Rooted, ArityPost, hops, HopsIn, NextsPre, NextsPost, Placed, PlacedIn, TagPost, ChildrenPost,
-  EndAtPost
+  arity,
+  Framed,
+  NextsFrom,
+  Table,
+  Rooted,
+  ArityPost,
+  hops,
+  HopsIn,
+  NextsPre,
+  NextsPost,
+  Placed,
+  PlacedIn,
+  TagPost,
+  ChildrenPost,
+  EndAtPost,
 }
 use Rattle.sameness.proofs.View.{all-count}
 use Rattle.nav.proofs.Hops.{framed-few, place-stands, place-sorted, place-end, hops-node, ends-inside, ends-last}
@@ -144,8 +157,12 @@ module _ (s : List ℕ) (n : ℕ) (st : List ℕ) where
           (p .0, omega (arith, p .1, place-end t [] (k - 1) (v .0) (v .1) (v .2), framed-few s t st n fr))
 
       pub fill-turn : k - 1 < 2048 → (c : ℕ) → c ≡ hops l m (k - 1 + 1) → Filled s n st (k - 1) (set l (k - 1) c)
-      fill-turn h c ec = record { below = omega (arith, fl .below); long = length-set l
-            (k - 1) c ∙ fl .long; filled = λ t fr. record { next = next t fr } }
+      fill-turn h c ec = record {
+        below = omega (arith, fl .below);
+        long = length-set l
+            (k - 1) c ∙ fl .long;
+        filled = λ t fr. record { next = next t fr };
+      }
         where
           next : (t : Tree) → Framed s t st n → (j : ℕ) (Γ : Ctx) (v : Tree) → k - 1 ≤ j → find t [] j ≡ found Γ v
               → getD (set l (k - 1) c) j 0 ≡ j + nodes v

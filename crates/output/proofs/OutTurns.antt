@@ -26,7 +26,7 @@ module _ (src : List ℕ) (m : ℕ) (o p xs : List ℕ) (c : Copied src 0 (m - 0
       let z : getD p (0 + i) 0 ≡ getD src (0 + i) 0 = c .put i (omega arith) in
       let y : 0 + i ≡ i = omega arith in
       subst (λ (j : ℕ). getD p j 0 ≡ getD src j 0) y z ∙ sym (getD-take m src i 0 (omega arith)) ∙ ap (λ (u : List ℕ). getD u i 0) f ∙ sym
-          (List·getD-append xs (drop (length xs) o) 0 i b)
+      (List·getD-append xs (drop (length xs) o) 0 i b)
 
   back : (i : ℕ) → length xs ≤ i → getD p i 0 ≡ getD (xs ++ drop (length xs) o) i 0
   back i b =
@@ -58,8 +58,10 @@ module _ (scratch : List ℕ) (m : ℕ) (o : List ℕ) where
   fit-fits xs h l = rw (le-ltb 4096 (length xs) h, le-ltb (length o) (length xs) l)
 
   pub out-over : 4096 < m → OutPost scratch m o o (A.Refused 12)
-  out-over h = record { done = λ xs w. (let e = fit-over xs (wrote-full scratch m xs w h) in
-          (sym (ap stepAnswer e), sym (ap (λ (x : Outcome). stepOutput x o) e))) }
+  out-over h = record {
+    done = λ xs w. (let e = fit-over xs (wrote-full scratch m xs w h) in
+        (sym (ap stepAnswer e), sym (ap (λ (x : Outcome). stepOutput x o) e)));
+  }
 
   module _ (h : m ≤ 4096) where
     pub out-short : length o < m → OutPost scratch m o o (A.Refused 12)
@@ -76,7 +78,9 @@ module _ (scratch : List ℕ) (m : ℕ) (o : List ℕ) where
         record {
           done = λ xs w.
               (let v = wrote-held scratch m xs w h in
-              let e = fit-fits xs (omega (arith, v .0)) (omega (arith, v .0)) in
-              (ap A.Changed (v .0) ∙ sym (ap stepAnswer e), copied-front scratch m o p xs c (v .0) (v .1) l ∙ sym
-                    (ap (λ (x : Outcome). stepOutput x o) e)));
+              let e = fit-fits xs (omega (arith, v .0)) (omega (arith, v .0)) in (
+                ap A.Changed (v .0) ∙ sym (ap stepAnswer e),
+                copied-front scratch m o p xs c (v .0) (v .1) l ∙ sym
+                    (ap (λ (x : Outcome). stepOutput x o) e),
+              ));
         }

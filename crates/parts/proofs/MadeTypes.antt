@@ -209,7 +209,7 @@ module _ (s : List ℕ) (at c p : ℕ) (b : Bool) (v : InnerAt s at c p) (says :
     puts = λ m t k h. (let u = inner m t in
         puts-as o n z j _ _
         (ap (λ (ys : List ℕ). (3 ∷ []) ++ ys) (between-type s p e u l (v .there m t k h)) ∙ pow-type-bytes u ∙ ap encTy
-              (sym (made-power m t (says-powered m k ∙ is))))
+        (sym (made-power m t (says-powered m k ∙ is))))
         (puts-then o n q i z j _ _ x y));
   }
 

@@ -14,8 +14,22 @@ use Rattle.put.specs.Copied.{between}
 use Rattle.templates.specs.Template.{Mode, whole, Part, tag, byte, operand, type, expression, binders, Filling, operandAt, typeAt, partBytes, filled}
 use Rattle.templates.specs.Programs.{modeCode, opOf, code, program}
 use Rattle.parts.specs.Holds.{
-  fromOf, endOf, typeOfOperand, MadeFrom, CanMake, MadeType, MadeExpression, HoldsPart, Holds, CodeAt, PartReady, PartPut, sizeOf,
-  ProgramAt, Ready, Ran
+  fromOf,
+  endOf,
+  typeOfOperand,
+  MadeFrom,
+  CanMake,
+  MadeType,
+  MadeExpression,
+  HoldsPart,
+  Holds,
+  CodeAt,
+  PartReady,
+  PartPut,
+  sizeOf,
+  ProgramAt,
+  Ready,
+  Ran,
 }
 use Rattle.parts.specs.declared.Ranges.{Ranges}
 use Rattle.put.proofs.Puts.{puts-nil, puts-then, puts-as, between-span}
@@ -114,9 +128,11 @@ module _ (g : List ℕ) (at : ℕ) where
   unfolding code
   tag-code x h =
       let l = number-length 2 x in
-      let z : at + length (code (tag x)) ≡ at + 3 = omega arith in
-      (omega (arith, h .within), between-span g (at + 1) (at + 3) (encNumber 2 x)
-            (subst (λ (q : ℕ). Spans g (at + 1) q (encNumber 2 x)) z (span-first h .rest)))
+      let z : at + length (code (tag x)) ≡ at + 3 = omega arith in (
+        omega (arith, h .within),
+        between-span g (at + 1) (at + 3) (encNumber 2 x)
+            (subst (λ (q : ℕ). Spans g (at + 1) q (encNumber 2 x)) z (span-first h .rest)),
+      )
 
   byte-code : (x : ℕ) → CodeAt g at (byte x) → (at + 2 ≤ length g) × (between g (at + 1) (at + 2) ≡ x ∷ [])
   unfolding code
@@ -240,7 +256,7 @@ module _ (g : List ℕ) (at : ℕ) (s types : List ℕ) (r : Ranges) where
           as-bytes p _ f (v .1)
           (puts-as o n q k _ _
           (ap (λ (j : ℕ). between s (fromOf r j) (endOf r j)) i ∙ between-span s (fromOf r (v .0)) (endOf r (v .0))
-                (enc (operandAt (v .0) (f .operands))) (b .1)) w));
+          (enc (operandAt (v .0) (f .operands))) (b .1)) w));
     }
 
     pub type-put : (at′ : ℕ) → at′ ≡ typeOfOperand r (getD g (at + 2) 0) → getD g at 0 ≡ 4 → MadeType types at′ (getD g (at + 1) 0) o n q k
@@ -344,7 +360,7 @@ module _ (g : List ℕ) (start : ℕ) (s types : List ℕ) (r : Ranges) (o : Lis
     -- the part that comes next
     next : (ps : List Part) (f : Filling) (v : Left g s types r o n ps f at q k) → (getD g at 0 ≡ 0 → ⊥)
         → (p : Part) × (qs : List Part) × (v .left ≡ p ∷ qs) × CodeAt g at p × HoldsPart s types r f p
-            × ProgramAt g (at + length (code p)) qs × Holds s types r f qs
+        × ProgramAt g (at + length (code p)) qs × Holds s types r f qs
     next ps f v e =
         let x = program-op g at (v .left) (v .here) e in
         let a = program-next g at (x .0) (x .1) (subst (λ (l : List Part). ProgramAt g at l) (x .2) (v .here)) in
@@ -385,6 +401,6 @@ module _ (g : List ℕ) (start : ℕ) (s types : List ℕ) (r : Ranges) (o : Lis
           let z = program-end g at (v .left) (v .here) e in
           puts-as o n q k _ _
           (sym (append-nil (v .done)) ∙ ap (λ (l : List ℕ). v .done ++ l)
-                (sym (filled-none f) ∙ ap (λ (l : List Part). filled l f) (sym z)) ∙ v .whole)
+          (sym (filled-none f) ∙ ap (λ (l : List Part). filled l f) (sym z)) ∙ v .whole)
           (v .puts));
     }

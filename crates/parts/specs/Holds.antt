@@ -12,8 +12,26 @@ use Rattle.typing.specs.TypeExpression.{toExpression}
 use Rattle.put.specs.Out.{Puts}
 use Rattle.put.specs.Written.{TypeAt}
 use Rattle.templates.specs.Template.{
-  Mode, whole, ofDom, ofRan, ofElement, ofElements, ofSource, made, Part, tag, byte, operand, type, expression, binders, Filling,
-  operandAt, typeAt, partBytes, filled
+  Mode,
+  whole,
+  ofDom,
+  ofRan,
+  ofElement,
+  ofElements,
+  ofSource,
+  made,
+  Part,
+  tag,
+  byte,
+  operand,
+  type,
+  expression,
+  binders,
+  Filling,
+  operandAt,
+  typeAt,
+  partBytes,
+  filled,
 }
 use Rattle.templates.specs.Programs.{modeCode, code, program}
 use Rattle.parts.specs.declared.Ranges.{Ranges}

@@ -66,13 +66,13 @@ module _ (p : ℕ) (o : List ℕ) (m limit : ℕ) (s e : List ℕ) (k : ℕ) (ro
       record {
         answer = λ ρ env c.
             subst (λ (qs : List ℕ). Filling (allBound qs ρ && leb (m + length (filled qs ρ)) limit) (filled qs ρ) o m o (L.To m))
-                (sym (packed-end ps p pk z))
+            (sym (packed-end ps p pk z))
             (subst (λ (b : Bool). Filling b [] o m o (L.To m)) (sym (le-leb (m + 0) limit (omega arith))) d);
       }
 
   module _ (b : ℕ) (eb : b ≡ p % 16) (z : b ≡ 2 → ⊥) where
     over : ((rest : List ℕ) (ρ : List Ty) → EnvAt o m s e ρ → length ρ ≡ k
-          → (allBound (b ∷ rest) ρ && leb (m + length (filled (b ∷ rest) ρ)) limit) ≡ false) → Post o L.Over
+        → (allBound (b ∷ rest) ρ && leb (m + length (filled (b ∷ rest) ρ)) limit) ≡ false) → Post o L.Over
     over f =
         by-symbol p b eb z (λ ps. FillPost ps o m limit s e k o L.Over)
         (λ rest pk. record { answer = λ ρ env c. subst (λ (x : Bool). Filling x (filled (b ∷ rest) ρ) o m o L.Over) (sym (f rest ρ env c)) refl })
@@ -87,7 +87,7 @@ module _ (p : ℕ) (o : List ℕ) (m limit : ℕ) (s e : List ℕ) (k : ℕ) (ro
 
     -- this symbol's bytes are written, up to n
     goes-on : (o₁ : List ℕ) (n : ℕ) → ((ρ : List Ty) → EnvAt o m s e ρ → length ρ ≡ k
-          → Spans o₁ m n (symbolBytes b ρ) × (pick (ltb b 5) true (ltb (b - 5) (length ρ)) ≡ true)) → Kept o o₁ m → m ≤ n
+        → Spans o₁ m n (symbolBytes b ρ) × (pick (ltb b 5) true (ltb (b - 5) (length ρ)) ≡ true)) → Kept o o₁ m → m ≤ n
         → (q : List ℕ) (r : Filled) → ((rest : List ℕ) → Packed rest (p / 16) → FillPost rest o₁ n limit s e k q r) → Post q r
     unfolding allBound
     goes-on o₁ n f kept hn q r after =
@@ -99,9 +99,9 @@ module _ (p : ℕ) (o : List ℕ) (m limit : ℕ) (s e : List ℕ) (k : ℕ) (ro
               let F = symbolBytes b ρ ++ filled rest ρ in
               let y : n + length (filled rest ρ) ≡ m + length F = omega (arith, length-append (symbolBytes b ρ) (filled rest ρ), x .0 .long) in
               let d = then-fill (allBound rest ρ && leb (n + length (filled rest ρ)) limit) o o₁ q m n (symbolBytes b ρ)
-                  (filled rest ρ) r (x .0) kept a in
+              (filled rest ρ) r (x .0) kept a in
               subst (λ (t : Bool). Filling ((t && allBound rest ρ) && leb (m + length (filled (b ∷ rest) ρ)) limit)
-                    (filled (b ∷ rest) ρ) o m q r) (sym (x .1))
+              (filled (b ∷ rest) ρ) o m q r) (sym (x .1))
               (subst (λ (xs : List ℕ). Filling (allBound rest ρ && leb (m + length xs) limit) xs o m q r) (sym (filled-cons b rest ρ))
               (subst (λ (j : ℕ). Filling (allBound rest ρ && leb j limit) F o m q r) y d)));
         })
@@ -127,11 +127,14 @@ module _ (p : ℕ) (o : List ℕ) (m limit : ℕ) (s e : List ℕ) (k : ℕ) (ro
         }
 
         pub fill-fixed : (q : List ℕ) (r : Filled) → ((rest : List ℕ) → Packed rest (p / 16)
-              → FillPost rest (set o m x) (m + 1) limit s e k q r) → Post q r
+            → FillPost rest (set o m x) (m + 1) limit s e k q r) → Post q r
         fill-fixed q r fp =
             goes-on (set o m x) (m + 1)
-            (λ ρ env c. (subst (λ (xs : List ℕ). Spans (set o m x) m (m + 1) xs) (sym (fixed-bytes ρ))
-                    (span-one (omega (arith, length-set o m x)) (getD-set-same o m x 0 (omega arith) ∙ ex)), rw (lt-ltb b 5 l)))
+            (λ ρ env c. (
+              subst (λ (xs : List ℕ). Spans (set o m x) m (m + 1) xs) (sym (fixed-bytes ρ))
+                  (span-one (omega (arith, length-set o m x)) (getD-set-same o m x 0 (omega arith) ∙ ex)),
+              rw (lt-ltb b 5 l),
+            ))
             kept-set (omega arith) q r fp
 
     -- ---- a variable
@@ -145,9 +148,11 @@ module _ (p : ℕ) (o : List ℕ) (m limit : ℕ) (s e : List ℕ) (k : ℕ) (ro
 
       module _ (m₁ : b - 5 < k) (from to : ℕ) (ef : from ≡ getD s (b - 5) 0) (et : to ≡ getD e (b - 5) 0) where
         slot : (ρ : List Ty) → EnvAt o m s e ρ → length ρ ≡ k → Spans o from to (encTy (ty (b - 5) ρ)) × (to ≤ m)
-        slot ρ env c =
-            (subst₂ (λ (x y : ℕ). Spans o x y (encTy (ty (b - 5) ρ))) (sym ef) (sym et)
-                  (env .spans (b - 5) (omega (arith, c))), omega (arith, et, env .low (b - 5) (omega (arith, c))))
+        slot ρ env c = (
+          subst₂ (λ (x y : ℕ). Spans o x y (encTy (ty (b - 5) ρ))) (sym ef) (sym et)
+              (env .spans (b - 5) (omega (arith, c))),
+          omega (arith, et, env .low (b - 5) (omega (arith, c))),
+        )
 
         pub fill-long : limit - m < to - from → Post o L.Over
         fill-long f = over (λ rest ρ env c. too-long rest ρ (omega (arith, ap length (variable-bytes ρ), slot ρ env c .0 .long)))
@@ -170,7 +175,7 @@ module _ (p : ℕ) (o : List ℕ) (m limit : ℕ) (s e : List ℕ) (k : ℕ) (ro
             }
 
             pub fill-bound : (q : List ℕ) (r : Filled) → ((rest : List ℕ) → Packed rest (p / 16)
-                  → FillPost rest o₁ (m + (to - from)) limit s e k q r) → Post q r
+                → FillPost rest o₁ (m + (to - from)) limit s e k q r) → Post q r
             fill-bound q r fp =
                 goes-on o₁ (m + (to - from))
                 (λ ρ env c. (

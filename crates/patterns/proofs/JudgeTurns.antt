@@ -13,14 +13,44 @@ use Rattle.frame.specs.Types.{Ty}
 use Rattle.frame.specs.Tags.{pick}
 use Rattle.frame.specs.Spans.{Spans}
 use Rattle.type_rules.specs.Patterns.{
-  Matched, fits, differs, matches, Rule, Judged, typed, wrong, completed, allBound, filled, pairsFit, lastOnes, thenMatched, ends,
-  judge
+  Matched,
+  fits,
+  differs,
+  matches,
+  Rule,
+  Judged,
+  typed,
+  wrong,
+  completed,
+  allBound,
+  filled,
+  pairsFit,
+  lastOnes,
+  thenMatched,
+  ends,
+  judge,
 }
 use Rattle.type_rules.specs.RuleNumbers.{Packed}
 use Rattle.type_bytes.specs.Buffers.{Copied, Apart}
 use Rattle.patterns.specs.PatternPosts.{
-  RowAt, Slots, EnvAt, Kept, MatchPre, Matching, MatchPost, PairsPre, Pairing, PairsPost, OperandsFit, OperandsPost, FillPre,
-  Filling, FillPost, JudgePre, Judging, JudgePost
+  RowAt,
+  Slots,
+  EnvAt,
+  Kept,
+  MatchPre,
+  Matching,
+  MatchPost,
+  PairsPre,
+  Pairing,
+  PairsPost,
+  OperandsFit,
+  OperandsPost,
+  FillPre,
+  Filling,
+  FillPost,
+  JudgePre,
+  Judging,
+  JudgePost,
 }
 use Rattle.patterns.specs.declared.Typed.the-variants as T
 use Rattle.patterns.specs.declared.Fit.{Fit}
@@ -77,7 +107,7 @@ complete-by : (r : List ℕ) (σ : List Ty) (n : ℕ) → completed r σ ≡ pic
 complete-by r σ n =
     two-tests (allBound r σ) (leb (length (filled r σ)) 64) (typed (filled r σ))
     ∙ ap (λ (b : Bool). pick (allBound r σ && b) (typed (filled r σ)) wrong)
-        (sym (leb-add n (length (filled r σ)) 64 (leb (length (filled r σ)) 64) refl))
+    (sym (leb-add n (length (filled r σ)) 64 (leb (length (filled r σ)) 64) refl))
 
 -- ---- what is known after each call, of every row of types that stands at `from`
 pub record Paired (R : Rule) (o : List ℕ) (from n : ℕ) (s e : List ℕ) (last : ℕ) : Type 0 where
@@ -123,13 +153,13 @@ module _ (R : Rule) {o : List ℕ} {from n : ℕ} where
       firstly : (ts : List Ty) (y : Fit) → RowAt o from n ts → x ≡ y → Matching (matches (R .first) ts []) o n s₂ e₂ y
       firstly ts y row ex =
           subst (λ (w : Fit). Matching (matches (R .first) ts []) o n s₂ e₂ w) ex
-              (post .answer ts [] row (env-empty o n s₁ e₁ (known .answer ts row .2)) refl)
+          (post .answer ts [] row (env-empty o n s₁ e₁ (known .answer ts row .2)) refl)
 
       -- what is left of the rule once the first operand has answered
       first-are : (ts : List Ty) (w : Matched) → RowAt o from n ts → matches (R .first) ts [] ≡ w
           → judge R ts ≡ thenMatched w (λ ρ. thenMatched (matches (R .last) (lastOnes ts) ρ) (λ σ. completed (R .result) σ))
       first-are ts w row e = known .answer ts row .0 ∙ ap (λ (m : Matched). thenMatched m
-            (λ ρ. thenMatched (matches (R .last) (lastOnes ts) ρ) (λ σ. completed (R .result) σ))) e
+          (λ ρ. thenMatched (matches (R .last) (lastOnes ts) ρ) (λ σ. completed (R .result) σ))) e
 
       pub first-off : x ≡ F.Differs → (ts : List Ty) → RowAt o from n ts → judge R ts ≡ wrong
       first-off ex ts row = first-are ts differs row (unfitted-of (matches (R .first) ts []) o n s₂ e₂ (firstly ts F.Differs row ex))
@@ -151,7 +181,7 @@ module _ (R : Rule) {o : List ℕ} {from n : ℕ} where
       lastly ts y row ex =
           let f = known .answer ts row in
           subst (λ (w : Fit). Matching (matches (R .last) (lastOnes ts) (f .0)) o n s₃ e₃ w) ex
-              (post .answer (lastOnes ts) (f .0) (f .2) (f .3) (f .4))
+          (post .answer (lastOnes ts) (f .0) (f .2) (f .3) (f .4))
 
       -- with the variables of the first
       last-are : (ts : List Ty) (w : Matched) (row : RowAt o from n ts) → matches (R .last) (lastOnes ts) (known .answer ts row .0) ≡ w
@@ -166,7 +196,7 @@ module _ (R : Rule) {o : List ℕ} {from n : ℕ} where
           go (F.Fits k) ex =
               record {
                 answer = λ ts row. (let f = fitted-of (matches (R .last) (lastOnes ts) (known .answer ts row .0)) o n s₃ e₃ k
-                      (lastly ts (F.Fits k) row ex) in
+                    (lastly ts (F.Fits k) row ex) in
                     (f .1, last-are ts (fits (f .0) (f .1)) row (f .2), f .3, f .4));
               }
           go F.Differs ex = λ ts row. last-are ts differs row

@@ -213,9 +213,11 @@ module _ (v : ℕ) (h : v < 4) (types : List ℕ) (at n : ℕ) (l : at < n) (s e
   back-to = omega arith
 
   standing : (s₁ e₁ : List ℕ) (r : Part) → ((rest : List ℕ) (t : Ty) (vs ρ : List Ty) → RowAt types at n (t ∷ vs) → EnvAt types n s e ρ
-        → length ρ ≡ k → Standing r v rest (t ∷ vs) ρ types at n s₁ e₁) → VariablePost v types at n s e k s₁ e₁ r
-  standing s₁ e₁ r f = record { answer = λ rest us ρ row env c. by-first types at n l (λ vs. Standing r v rest vs ρ types at n s₁ e₁)
-        (λ t vs w. f rest t vs ρ w env c) us row }
+      → length ρ ≡ k → Standing r v rest (t ∷ vs) ρ types at n s₁ e₁) → VariablePost v types at n s e k s₁ e₁ r
+  standing s₁ e₁ r f = record {
+    answer = λ rest us ρ row env c. by-first types at n l (λ vs. Standing r v rest vs ρ types at n s₁ e₁)
+        (λ t vs w. f rest t vs ρ w env c) us row;
+  }
 
   pub first-type : MatchPre types at n s e k → TypeAt types at
   first-type p = by-first types at n l (λ vs. TypeAt types at) (λ t vs r. row-type types at n t vs r) (p .us) (p .row)
@@ -291,12 +293,14 @@ module _ (p : ℕ) (types : List ℕ) (at n : ℕ) (s e : List ℕ) (k : ℕ) wh
   pub fit-end : p % 16 ≡ 2 → Post s e (F.Fits k)
   unfolding matches
   fit-end z ps pk =
-      record { answer = λ us ρ row env c. subst (λ (qs : List ℕ). Matching (matches qs us ρ) types n s e (F.Fits k))
-            (sym (packed-end ps p pk z)) (ap F.Fits (sym c), env) }
+      record {
+        answer = λ us ρ row env c. subst (λ (qs : List ℕ). Matching (matches qs us ρ) types n s e (F.Fits k))
+            (sym (packed-end ps p pk z)) (ap F.Fits (sym c), env);
+      }
 
   module _ (b : ℕ) (eb : b ≡ p % 16) (z : b ≡ 2 → ⊥) where
     pub off : (s₁ e₁ : List ℕ) → ((rest : List ℕ) (us ρ : List Ty) → RowAt types at n us → EnvAt types n s e ρ → length ρ ≡ k
-          → matches (b ∷ rest) us ρ ≡ differs) → Post s₁ e₁ F.Differs
+        → matches (b ∷ rest) us ρ ≡ differs) → Post s₁ e₁ F.Differs
     off s₁ e₁ f =
         by-symbol p b eb z (λ ps. MatchPost ps types at n s e k s₁ e₁ F.Differs)
         (λ rest pk. record { answer = λ us ρ row env c. subst (λ (m : Matched). Matching m types n s₁ e₁ F.Differs) (sym (f rest us ρ row env c)) refl })
@@ -307,7 +311,7 @@ module _ (p : ℕ) (types : List ℕ) (at n : ℕ) (s e : List ℕ) (k : ℕ) wh
 
     module _ (l : at < n) where
       off-first : ((rest : List ℕ) (t : Ty) (vs ρ : List Ty) → RowAt types at n (t ∷ vs) → EnvAt types n s e ρ → length ρ ≡ k
-            → matches (b ∷ rest) (t ∷ vs) ρ ≡ differs) → Post s e F.Differs
+          → matches (b ∷ rest) (t ∷ vs) ρ ≡ differs) → Post s e F.Differs
       off-first f = off s e (λ rest us ρ row env c. by-first types at n l (λ vs. matches (b ∷ rest) vs ρ ≡ differs) (λ t vs r. f rest t vs ρ r env c) us row)
 
       pub fit-other : b < 5 → (getD types at 0 ≡ b → ⊥) → Post s e F.Differs
@@ -319,7 +323,7 @@ module _ (p : ℕ) (types : List ℕ) (at n : ℕ) (s e : List ℕ) (k : ℕ) wh
       -- what goes on
       on-first : (at₁ : ℕ) (s₁ e₁ : List ℕ) (k₁ : ℕ)
           → ((rest : List ℕ) (t : Ty) (vs ρ : List Ty) → RowAt types at n (t ∷ vs) → EnvAt types n s e ρ → length ρ ≡ k
-                → Next (b ∷ rest) (t ∷ vs) ρ rest types at₁ n s₁ e₁ k₁)
+          → Next (b ∷ rest) (t ∷ vs) ρ rest types at₁ n s₁ e₁ k₁)
           → (rest : List ℕ) (us ρ : List Ty) → RowAt types at n us → EnvAt types n s e ρ → length ρ ≡ k → Next (b ∷ rest) us ρ rest types at₁ n s₁ e₁ k₁
       on-first at₁ s₁ e₁ k₁ f rest us ρ row env c = by-first types at n l (λ vs. Next (b ∷ rest) vs ρ rest types at₁ n s₁ e₁ k₁) (λ t vs r. f rest t vs ρ r env c) us row
 

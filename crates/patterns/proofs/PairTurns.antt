@@ -51,11 +51,11 @@ module _ (ps types : List ℕ) (at n : ℕ) (s e : List ℕ) where
       after : (t : Ty) (vs : List Ty) → RowAt types at n (t ∷ vs) → RowAt types q n vs
       after t vs row =
           subst (λ (x : ℕ). RowAt types x n vs) (sym (en .is t (at + length (encTy t)) (row-first types at n t vs row)))
-              (row-rest types at n t vs row)
+          (row-rest types at n t vs row)
 
       pub pairs-past : {w : ℕ} → PairsPre w types at n s e → at < q
       pairs-past p = by-first types at n l (λ vs. at < q) (λ t vs r.
-            omega (arith, en .is t (at + length (encTy t)) (row-first types at n t vs r), ty-long t)) (p .us) (p .row)
+          omega (arith, en .is t (at + length (encTy t)) (row-first types at n t vs r), ty-long t)) (p .us) (p .row)
 
       pub pairs-last : n ≤ q → PairsPost ps types at n s e s e (P.Last at)
       unfolding pairsFit
@@ -73,7 +73,7 @@ module _ (ps types : List ℕ) (at n : ℕ) (s e : List ℕ) where
         secondly X f us row =
             by-first types at n l X (λ t vs r. (let v = row-some types q n vs (after t vs r) h in
             subst (λ (ws : List Ty). X (t ∷ ws)) (sym (v .2)) (f t (v .0) (v .1)
-                  (subst (λ (ws : List Ty). RowAt types at n (t ∷ ws)) (v .2) r)))) us row
+            (subst (λ (ws : List Ty). RowAt types at n (t ∷ ws)) (v .2) r)))) us row
 
         module _ (s₁ e₁ : List ℕ) (f : Fit) (mp : MatchPost ps types at n s e 0 s₁ e₁ f) where
           -- what the match says of two in a row
@@ -87,7 +87,7 @@ module _ (ps types : List ℕ) (at n : ℕ) (s e : List ℕ) where
                 answer = λ us row sl. secondly (λ vs. Pairing (pairsFit ps vs) types n vs s₁ e₁ P.Differ) (λ t u vs r. (
                     let a = subst (λ (x : Fit). Matching (matches ps (t ∷ u ∷ vs) []) types n s₁ e₁ x) ef (matched (t ∷ u ∷ vs) r sl) in
                     subst (λ (b : Bool). Pairing (b && pairsFit ps (u ∷ vs)) types n (t ∷ u ∷ vs) s₁ e₁ P.Differ)
-                        (sym (fit-not (matches ps (t ∷ u ∷ vs) []) types n s₁ e₁ a)) refl)) us row;
+                    (sym (fit-not (matches ps (t ∷ u ∷ vs) []) types n s₁ e₁ a)) refl)) us row;
               }
 
           module _ (k : ℕ) (ef : f ≡ F.Fits k) where
@@ -99,7 +99,7 @@ module _ (ps types : List ℕ) (at n : ℕ) (s e : List ℕ) where
             pairs-further {w} p =
                 let sl = fitted (p .us) (p .row) (p .slots) .1 in
                 by-first types at n l (λ vs. PairsPre w types q n s₁ e₁)
-                    (λ t vs r. record { ps = p .ps; packed = p .packed; us = vs; row = after t vs r; slots = sl }) (p .us) (p .row)
+                (λ t vs r. record { ps = p .ps; packed = p .packed; us = vs; row = after t vs r; slots = sl }) (p .us) (p .row)
 
             pairs-more : (s₂ e₂ : List ℕ) (r : Pairs) → PairsPost ps types q n s₁ e₁ s₂ e₂ r → PairsPost ps types at n s e s₂ e₂ r
             unfolding pairsFit
@@ -109,7 +109,7 @@ module _ (ps types : List ℕ) (at n : ℕ) (s e : List ℕ) where
                       let z = fitted (t ∷ u ∷ vs) w sl in
                       let a = pp .answer (u ∷ vs) (after t (u ∷ vs) w) (z .1) in
                       subst (λ (b : Bool). Pairing (b && pairsFit ps (u ∷ vs)) types n (t ∷ u ∷ vs) s₂ e₂ r) (sym (z .0))
-                          (again (pairsFit ps (u ∷ vs)) t u vs a))) us row;
+                      (again (pairsFit ps (u ∷ vs)) t u vs a))) us row;
                 }
               where
                 again : (b : Bool) (t u : Ty) (vs : List Ty) → Pairing b types n (u ∷ vs) s₂ e₂ r → Pairing b types n (t ∷ u ∷ vs) s₂ e₂ r
@@ -128,7 +128,7 @@ module _ (p : ℕ) (types : List ℕ) (at₀ n : ℕ) (s₀ e₀ : List ℕ) whe
 
   pub going-next : (at : ℕ) (s e : List ℕ) → Going p types at₀ n s₀ e₀ at s e → at < n → (q : ℕ) → EndOf types at q → q < n
       → (s₁ e₁ : List ℕ) (f : Fit) → ((ps : List ℕ) → Packed ps p → MatchPost ps types at n s e 0 s₁ e₁ f) → (k : ℕ) → f ≡ F.Fits k
-          → Going p types at₀ n s₀ e₀ q s₁ e₁
+      → Going p types at₀ n s₀ e₀ q s₁ e₁
   going-next at s e g l q en h s₁ e₁ f mp k ef =
       let pre = g .pre in
       record {

@@ -13,7 +13,20 @@ use Rattle.frame.specs.Spans.{Spans}
 use Rattle.frame.specs.Reading.{typeLimit}
 use Rattle.typing.specs.Typing.{ty}
 use Rattle.type_rules.specs.Patterns.{
-  Matched, fits, differs, matches, allBound, filled, pairsFit, lastOnes, Rule, Judged, typed, wrong, completed, judge
+  Matched,
+  fits,
+  differs,
+  matches,
+  allBound,
+  filled,
+  pairsFit,
+  lastOnes,
+  Rule,
+  Judged,
+  typed,
+  wrong,
+  completed,
+  judge,
 }
 use Rattle.type_rules.specs.RuleNumbers.{Packed}
 use Rattle.patterns.specs.declared.Typed.{Typed}

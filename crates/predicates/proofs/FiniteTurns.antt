@@ -60,8 +60,18 @@ module _ (s st nx : List ℕ) (k tag : ℕ) (pt : TagPost s st k tag) where
     pub set-here : Here s st nx k → SetPre s st nx k
     set-here h =
         let o = shape (h .table) (h .there) in
-        record { t = h .t; n = h .n; table = h .table; Γ = h .Γ; x = o .n; us = o .us; p = o .a; e = o .b; there = h .there ∙
-              ap (found (h .Γ)) (o .is) }
+        record {
+          t = h .t;
+          n = h .n;
+          table = h .table;
+          Γ = h .Γ;
+          x = o .n;
+          us = o .us;
+          p = o .a;
+          e = o .b;
+          there = h .there ∙
+              ap (found (h .Γ)) (o .is);
+        }
 
     pub finite-set : (r : Decision) → SetPost s st nx k r → Decides rewriteFinite s st nx k r
     unfolding onTag rewriteFinite
@@ -92,9 +102,25 @@ module _ (s st nx : List ℕ) (k tag : ℕ) (pt : TagPost s st k tag) where
   finite-none h0 h1 h2 h3 h4 h5 h6 h7 h8 h9 h10 h11 h12 h13 h14 h15 = by-rest rewriteFinite s st nx k tag pt (λ Γ v. rest Γ v) D.Rests refl
     where
       rest : (Γ : Ctx) (v : Tree) → tagOf v ≡ tag → rewriteFinite Γ v ≡ same
-      rest Γ (node (head o n us) ks) z = rw z (simp (ne-eqb tag 407 h0, ne-eqb tag 402 h1, ne-eqb tag 403 h2, ne-eqb tag 401 h3, ne-eqb tag
-              404 h4, ne-eqb tag 412 h5, ne-eqb tag 5 h6, ne-eqb tag 301 h7, ne-eqb tag 752 h8, ne-eqb tag 214 h9, ne-eqb tag 763 h10,
-              ne-eqb tag 221 h11, ne-eqb tag 803 h12, ne-eqb tag 217 h13, ne-eqb tag 410 h14, ne-eqb tag 411 h15))
+      rest Γ (node (head o n us) ks) z = rw z (simp (
+        ne-eqb tag 407 h0,
+        ne-eqb tag 402 h1,
+        ne-eqb tag 403 h2,
+        ne-eqb tag 401 h3,
+        ne-eqb tag
+            404 h4,
+        ne-eqb tag 412 h5,
+        ne-eqb tag 5 h6,
+        ne-eqb tag 301 h7,
+        ne-eqb tag 752 h8,
+        ne-eqb tag 214 h9,
+        ne-eqb tag 763 h10,
+        ne-eqb tag 221 h11,
+        ne-eqb tag 803 h12,
+        ne-eqb tag 217 h13,
+        ne-eqb tag 410 h14,
+        ne-eqb tag 411 h15,
+      ))
 
 -- ---- finite(S ◁ r), where r is id, prj1 or prj2
 module _ (s st nx : List ℕ) (a b tag : ℕ) (pt : TagPost s st b tag) where

@@ -31,7 +31,7 @@ module _ (s st nx : List ℕ) (k tag : ℕ) (pt : TagPost s st k tag) where
     -- by the node's children
     part : (r : Decision)
         → ((t : Tree) (n : ℕ) (Γ : Ctx) (i : ℕ) (us : List Ty) (ks : Forest) → Table s t st nx n
-              → find t [] k ≡ found Γ (node (head 901 i us) ks) → m ≡ count ks
+        → find t [] k ≡ found Γ (node (head 901 i us) ks) → m ≡ count ks
         → (w : Tree) (Ξ : Ctx) (kept : List ℕ) → Means t w Ξ kept r (rewritePartition Γ ks))
         → Decides partitionOf s st nx k r
     unfolding onTag
@@ -53,7 +53,7 @@ module _ (s st nx : List ℕ) (k tag : ℕ) (pt : TagPost s st k tag) where
         go t n Γ i us (cons a nil) tb fx h =
             let fa = only-child t nx (tb .follows) k Γ 901 i us a fx in
             fixed-at t 14 14 (to 14 (isEmpty Γ a)) (isEmpty Γ a) refl (k + 1) (k + 1) k Γ Γ a a
-                (node (head 901 i us) (cons a nil)) fa fa fx refl (sym (right-side 14 refl Γ a a us))
+            (node (head 901 i us) (cons a nil)) fa fa fx refl (sym (right-side 14 refl Γ a a us))
         go t n Γ i us (cons a (cons b ks)) tb fx h = absurd (omega arith)
 
     pub part-15 : m ≡ 2 → (j : ℕ) → (k + 1 < 2048 → j ≡ getD nx (k + 1) 0) → (r : Decision) → r ≡ D.Fixed 15 15 (k + 1) j k
@@ -69,7 +69,7 @@ module _ (s st nx : List ℕ) (k tag : ℕ) (pt : TagPost s st k tag) where
             let fs = two-children t nx (tb .follows) k Γ 901 i us a b fx in
             rw (ej (place-few tb (fs .0)))
             (fixed-at t 15 15 (to 15 (two #Equal a b)) (two #Equal a b) refl (k + 1) (getD nx (k + 1) 0) k Γ Γ a b
-                  (node (head 901 i us) (cons a (cons b nil))) (fs .0) (fs .1) fx refl (sym (right-side 15 refl Γ a b us)))
+            (node (head 901 i us) (cons a (cons b nil))) (fs .0) (fs .1) fx refl (sym (right-side 15 refl Γ a b us)))
         go t n Γ i us (cons a (cons b (cons c ks))) tb fx h = absurd (omega arith)
 
     pub part-none : (m ≡ 1 → ⊥) → (m ≡ 2 → ⊥) → Decides partitionOf s st nx k D.Rests

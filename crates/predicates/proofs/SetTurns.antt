@@ -75,15 +75,24 @@ module _ (s st nx : List ℕ) (k : ℕ) where
         sides t n Γ us e tb f =
             let Δ : Ctx = push us Γ in
             let o = double 201 expression expression (λ x. refl) e (place-sorted s t st n (tb .framed) j Δ e f)
-                (sym (pt .tag t n Δ e (tb .framed) f) ∙ key) in
+            (sym (pt .tag t n Δ e (tb .framed) f) ∙ key) in
             let c = two-children t nx (tb .follows) j Δ 201 (o .n) (o .us) (o .a) (o .b) (f ∙ ap (found Δ) (o .is)) in
             record { shape = o; left = c .0; right = rw (ei (place-few tb (c .0))) (c .1) }
 
         pub set-sides : SetPre s st nx k → Both s st nx (j + 1) i
         set-sides h =
             let q = sides (h .t) (h .n) (h .Γ) (h .us) (h .e) (h .table) (here-parts h .value) in
-            record { t = h .t; N = h .n; table = h .table; Γ = push (h .us)
-                  (h .Γ); v = q .shape .a; w = q .shape .b; at-left = q .left; at-right = q .right }
+            record {
+              t = h .t;
+              N = h .n;
+              table = h .table;
+              Γ = push (h .us)
+                  (h .Γ);
+              v = q .shape .a;
+              w = q .shape .b;
+              at-left = q .left;
+              at-right = q .right;
+            }
 
         module _ (n : ℕ) (pn : BindersPost s st k n) (b : Bool) (pb : FunctionalPost s st nx (j + 1) i n b) where
           -- what the check says of the two sides
@@ -107,8 +116,8 @@ module _ (s st nx : List ℕ) (k : ℕ) where
                     let new : Tree = finite (bodied #CSet us p a) in
                     rw (er, q .shape .is, y)
                     (fixed-at t 11 11 (to 11 new) new refl (k + 1) (j + 1) k (push us Γ) Γ p a
-                          (node (head #CSet x us) (cons p (cons e nil))) (h .body) (q .left) f refl
-                          (sym (right-side 11 refl (push us Γ) p a us)));
+                    (node (head #CSet x us) (cons p (cons e nil))) (h .body) (q .left) f refl
+                    (sym (right-side 11 refl (push us Γ) p a us)));
               }
 
           pub set-none : b ≡ false → SetPost s st nx k D.Rests

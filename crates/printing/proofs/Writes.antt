@@ -70,7 +70,7 @@ pub decimal-more : (n : ℕ) → 10 ≤ n → decimal n ≡ decimal (n / 10) ++ 
 unfolding decimal decimalIn
 decimal-more zero h = absurd (omega arith)
 decimal-more (suc n) h = rw (le-ltb (suc n) 10 h) (ap (λ (x : List ℕ). x ++ ((48 + suc n % 10) ∷ []))
-      (decimal-in n (suc n / 10) (suc n / 10) (omega arith) (omega arith)))
+    (decimal-in n (suc n / 10) (suc n / 10) (omega arith) (omega arith)))
 
 pub decimal-length : (n : ℕ) → 10 ≤ n → length (decimal n) ≡ length (decimal (n / 10)) + 1
 decimal-length n h = ap (λ (x : List ℕ). length x) (decimal-more n h) ∙ length-append (decimal (n / 10)) ((48 + n % 10) ∷ [])
@@ -105,7 +105,7 @@ frame-written o s part at r h w =
     let ld : length d ≡ m = omega (arith, length-drop at o) in
     let whole : take m d ≡ d = take-all m d (omega arith) in
     let v = subst (λ (x : List ℕ). (r ≡ length ws) × (part ≡ ws ++ drop (length ws) x)) whole
-        (w .wrote (omega (arith, ap (λ (x : List ℕ). length x) whole))) in
+    (w .wrote (omega (arith, ap (λ (x : List ℕ). length x) whole))) in
     let none : drop m d ≡ [] = ap (λ (k : ℕ). drop k d) (sym ld) ∙ drop-length d in
     record {
       after = omega (arith, v .0);

@@ -39,9 +39,11 @@ pub put-in : (o : List ℕ) (n b : ℕ) → n < 4096 → Puts o n (set o n b) (n
 put-in o n b h xs w = record {
   whole = length-set o n b ∙ w .whole;
   held = λ k. (let z = length-append xs (b ∷ []) in
-      let v = w .held (omega arith) in
-      (omega (arith, v .0), ap (λ (i : ℕ). take i (set o n b)) (add-one n) ∙ take-suc-set o n b (omega (arith, w .whole)) ∙ ap
-            (λ (u : List ℕ). u ++ (b ∷ [])) (v .1)));
+      let v = w .held (omega arith) in (
+        omega (arith, v .0),
+        ap (λ (i : ℕ). take i (set o n b)) (add-one n) ∙ take-suc-set o n b (omega (arith, w .whole)) ∙ ap
+            (λ (u : List ℕ). u ++ (b ∷ [])) (v .1),
+      ));
   full = λ k. (let z = length-append xs (b ∷ []) in by-fit xs (λ f. absurd (omega (arith, w .held f .0))) (λ f. absurd (omega (arith, w .full f))));
 }
 

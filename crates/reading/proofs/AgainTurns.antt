@@ -69,9 +69,15 @@ places-end s at k t₀ h = record { by = λ ts es a. go ts es a }
 -- the tree by its head
 seen : (s : List ℕ) → Bytes s → (e : Sort) (at : ℕ) (t : Tree) (q : ℕ) → IsAt s e at t q → (h : Head) (p : ℕ) (es : List Sort)
     → readHead s at e ≡ okH h p es → (g n m : ℕ) × (a b : Bool) × View s e at t q g n (typesAt s at) p m a b
-seen s bs e at t q w (head g n us) p es eq =
-    (g, n, length es, firstSort es, laterSort es, view s e at t q w (headThere s at e) refl bs g n (typesAt s at) p (length es)
-          (firstSort es) (laterSort es) (ap (headAnswer (typesAt s at)) eq))
+seen s bs e at t q w (head g n us) p es eq = (
+  g,
+  n,
+  length es,
+  firstSort es,
+  laterSort es,
+  view s e at t q w (headThere s at e) refl bs g n (typesAt s at) p (length es)
+      (firstSort es) (laterSort es) (ap (headAnswer (typesAt s at)) eq),
+)
 
 module _ (s : List ℕ) (bs : Bytes s) (at k : ℕ) (l : at < length s) where
   module _ (p : ℕ) where
@@ -90,7 +96,7 @@ module _ (s : List ℕ) (bs : Bytes s) (at k : ℕ) (l : at < length s) where
         let sp = kids-span s bs (kindsFor m a b) p (v .top .types .within) ks q (v .below) in
         let et : t ≡ node (head g n (v .us)) ks = v .is in
         let long : length (enc t) ≡ length (encHead (head g n (v .us)) x) + length (encs ks) = ap
-            (λ (u : Tree). length (enc u)) et ∙ length-append (encHead (head g n (v .us)) x) (encs ks) in
+        (λ (u : Tree). length (enc u)) et ∙ length-append (encHead (head g n (v .us)) x) (encs ks) in
         let y : at + length (encHead (head g n (v .us)) x) ≡ p = omega (arith, sp .long) in
         let eq : p + length (encs ks) ≡ at + length (enc t) = omega (arith, sp .long) in (
           ks,
@@ -115,7 +121,7 @@ module _ (s : List ℕ) (bs : Bytes s) (at k : ℕ) (l : at < length s) where
         let y : k .p ≡ p = sym (he .by (f .e) (f .t) (f .q) (f .stands) (k .h) (k .p) (k .es) (k .headed)) in
         let v = seen s bs (f .e) at (f .t) (f .q) (f .stands) (k .h) p (k .es) (k .headed ∙ ap (λ (i : ℕ). okH (k .h) i (k .es)) y) in
         subst (λ (us : Forest). After us es) (sym (f .is)) (after-node (f .t) (f .later) (f .e) (f .sorts) (f .q) (f .after) (v .0) (v .1)
-              (typesAt s at) (v .2) (v .3) (v .4) (v .5) z)
+        (typesAt s at) (v .2) (v .3) (v .4) (v .5) z)
 
     pub places-next : HeadEnd s at p → (t₀ : List ℕ) → PlacesPre s at k t₀ → (at + 2 ≤ p) × PlacesPre s p (k + 1) (set t₀ k at)
     places-next he t₀ w =

@@ -81,7 +81,7 @@ module _ (s : List ℕ) (e : Sort) (at k : ℕ) (t₀ t₁ : List ℕ) (room : R
         let et : node top ts ≡ t = cc in
         let z : k + 1 ≡ suc k = omega arith in
         let c : m ≡ count ts = sym (many-count (kindsFor m a b) (readNode f s) p ts q' ex ∙ ap
-              (λ (es : List Sort). length es) kinds ∙ sym (said .many)) in
+        (λ (es : List Sort). length es) kinds ∙ sym (said .many)) in
         let y : p ≡ at + length (encHead top (count ts)) = sym (spanned .0 .long) ∙ ap (λ (i : ℕ). at + length (encHead top i)) c in
         post .table f l ts q' ex
         ∙ ap₂ (λ (i j : ℕ). sets (set t₀ k at) i (startsIn ts j)) z y
@@ -128,7 +128,7 @@ module _ (s : List ℕ) (n : ℕ) (a b : Bool) (at k : ℕ) (t₀ : List ℕ) wh
         is-no f l =
             step f
             ∙ ap (λ (x : Res). thenF x (λ q. readMany (kindsFor (n - 1) b b) (readNode f s) q))
-                (node-no (readNode f s (sortFor a) at) k c (sym ec ∙ post .answer f l))
+            (node-no (readNode f s (sortFor a) at) k c (sym ec ∙ post .answer f l))
 
     module _ (bs : Bytes s) (p j : ℕ) (ep : r₁ ≡ Ends p j) where
       first : (f : ℕ) → length s < at + f → (t : Tree) × (readNode f s (sortFor a) at ≡ ok t p) × (j ≡ k + nodes t)

@@ -116,10 +116,10 @@ module _ (s st nx : List ℕ) (k tag : ℕ) (pt : TagPost s st k tag) where
     unfolding simplifyPredicateNode onTag lookup classOf formAt
     to-imp key =
         by-both s st nx k tag pt 251 key predicate predicate (λ x. refl) b eb (λ Γ. simplifyPredicateNode) (λ Γ. simplifyImp)
-            (λ Γ n us v w. or-same (simplifyImp v w))
+        (λ Γ n us v w. or-same (simplifyImp v w))
 
     pub to-eqv : tag ≡ 252 → (r : Decision) → DecidesTwo simplifyEqv s st nx (k + 1) b r → DecidesOne simplifyPredicateNode s st nx k r
     unfolding simplifyPredicateNode onTag lookup classOf formAt
     to-eqv key =
         by-both s st nx k tag pt 252 key predicate predicate (λ x. refl) b eb (λ Γ. simplifyPredicateNode) (λ Γ. simplifyEqv)
-            (λ Γ n us v w. or-same (simplifyEqv v w))
+        (λ Γ n us v w. or-same (simplifyEqv v w))

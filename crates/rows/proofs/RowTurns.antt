@@ -58,8 +58,10 @@ not-minus (node (head g n us) ks) d = let z = ne-eqb g 213 d in (rw z refl, λ l
 
 module _ (s : List ℕ) (n : ℕ) (st nx : List ℕ) (c : ℕ) (o : List ℕ) (at : ℕ) where
   pub besides-none : (x : Share) (k : ℕ) → x ≡ Besides k → c ≡ k → ShareOfPost s n st nx c x o at o at
-  besides-none x k e z = record { puts = λ t Γ w tb f. puts-as o at o at _ _
-        (sym (ap (λ (y : Share). shareOf y c w) e ∙ rw (eq-eqb c k z) refl)) (puts-nil o at) }
+  besides-none x k e z = record {
+    puts = λ t Γ w tb f. puts-as o at o at _ _
+        (sym (ap (λ (y : Share). shareOf y c w) e ∙ rw (eq-eqb c k z) refl)) (puts-nil o at);
+  }
 
   module _ (q : List ℕ) (r : ℕ) where
     pub besides-some : (x : Share) (k : ℕ) → x ≡ Besides k → (c ≡ k → ⊥) → CopyPost s n st nx c o at q r → ShareOfPost s n st nx c x o at q r
@@ -70,7 +72,7 @@ module _ (s : List ℕ) (n : ℕ) (st nx : List ℕ) (c : ℕ) (o : List ℕ) (a
     -- the operands of a difference, and their places
     parts : tag ≡ 213 → (t : Tree) (Γ : Ctx) (w : Tree) → Table s t st nx n → find t [] c ≡ found Γ w
         → (d : Double 213 w) × ((find t [] (c + 1) ≡ found (under 213 (d .us) Γ) (d .a))
-              × (find t [] (getD nx (c + 1) 0) ≡ found (under 213 (d .us) Γ) (d .b)))
+        × (find t [] (getD nx (c + 1) 0) ≡ found (under 213 (d .us) Γ) (d .b)))
     parts key t Γ w tb f =
         let d = minus-double w (place-sorted s t st n (tb .framed) c Γ w f) (sym (pt .tag t n Γ w (tb .framed) f) ∙ key) in
         (d, two-children t nx (tb .follows) c Γ 213 (d .n) (d .us) (d .a) (d .b) (f ∙ ap (found Γ) (d .is)))
@@ -89,8 +91,12 @@ module _ (s : List ℕ) (n : ℕ) (st nx : List ℕ) (c : ℕ) (o : List ℕ) (a
     right-in key b eb p =
         let v = find-some (p .t) [] c (p .below) in
         let d = parts key (p .t) (v .0) (v .1) (p .table) (v .2) in
-        record { t = p .t; table = p .table; below = rw (second-is key b eb (p .t) (v .0) (v .1) (p .table) (v .2))
-              (find-lt (p .t) [] (getD nx (c + 1) 0) _ _ (d .1 .1)) }
+        record {
+          t = p .t;
+          table = p .table;
+          below = rw (second-is key b eb (p .t) (v .0) (v .1) (p .table) (v .2))
+              (find-lt (p .t) [] (getD nx (c + 1) 0) _ _ (d .1 .1));
+        }
 
     module _ (q : List ℕ) (r : ℕ) (x : Share) where
       pub minuend-left : x ≡ Minuend → tag ≡ 213 → CopyPost s n st nx (c + 1) o at q r → ShareOfPost s n st nx c x o at q r
@@ -107,7 +113,7 @@ module _ (s : List ℕ) (n : ℕ) (st nx : List ℕ) (c : ℕ) (o : List ℕ) (a
           record {
             puts = λ t Γ w tb f.
                 puts-as o at q r _ _ (sym (ap (λ (y : Share). shareOf y c w) e ∙ ap enc
-                        (not-minus w (λ z. h (pt .tag t n Γ w (tb .framed) f ∙ z)) .0))) (p .puts t Γ w tb f);
+                (not-minus w (λ z. h (pt .tag t n Γ w (tb .framed) f ∙ z)) .0))) (p .puts t Γ w tb f);
           }
 
       pub subtrahend-right : x ≡ Subtrahend → tag ≡ 213 → (b : ℕ) → (c + 1 < 2048 → b ≡ getD nx (c + 1) 0) → CopyPost s n st nx b o at q r
@@ -118,7 +124,7 @@ module _ (s : List ℕ) (n : ℕ) (st nx : List ℕ) (c : ℕ) (o : List ℕ) (a
             puts = λ t Γ w tb f.
                 (let d = parts key t Γ w tb f in
                 puts-as o at q r _ _ (sym (ap (λ (y : Share). shareOf y c w) e ∙ ap (λ (u : Tree). encs (withSubtrahend (minusOf u) nil))
-                        (d .0 .is) ∙ append-nil (enc (d .0 .b))))
+                (d .0 .is) ∙ append-nil (enc (d .0 .b))))
                 (p .puts t _ (d .0 .b) tb (ap (find t []) (second-is key b eb t Γ w tb f) ∙ d .1 .1)));
           }
 
@@ -128,7 +134,7 @@ module _ (s : List ℕ) (n : ℕ) (st nx : List ℕ) (c : ℕ) (o : List ℕ) (a
         record {
           puts = λ t Γ w tb f.
               puts-as o at o at _ _ (sym (ap (λ (y : Share). shareOf y c w) e ∙ ap encs
-                      (not-minus w (λ z. h (pt .tag t n Γ w (tb .framed) f ∙ z)) .1 nil))) (puts-nil o at);
+              (not-minus w (λ z. h (pt .tag t n Γ w (tb .framed) f ∙ z)) .1 nil))) (puts-nil o at);
         }
 
 -- ---- rows
@@ -145,7 +151,7 @@ module _ (s : List ℕ) (n : ℕ) (st nx : List ℕ) (c m : ℕ) where
     -- the first child, and the others
     pub split-row : (t : Tree) (Γ : Ctx) (ks : Forest) → Table s t st nx n → RowAt t c Γ ks → m ≡ count ks
         → (w : Tree) × ((ls : Forest) × ((ks ≡ cons w ls) × ((find t [] c ≡ found Γ w)
-                  × (RowAt t (getD nx c 0) Γ ls × ((m - 1 ≡ count ls) × (getD nx c 0 ≡ c + nodes w))))))
+        × (RowAt t (getD nx c 0) Γ ls × ((m - 1 ≡ count ls) × (getD nx c 0 ≡ c + nodes w))))))
     split-row t Γ nil tb row em = absurd (some em)
     split-row t Γ (cons w ls) tb row em =
         let f = child-next t nx 0 (tb .follows) c Γ w ls (omega arith) row in
@@ -190,7 +196,7 @@ module _ (s : List ℕ) (n : ℕ) (st nx : List ℕ) (c m : ℕ) where
     -- b counts the first child with the others
     counted : (b : ℕ) → b ≤ r + 1
         → ((t : Tree) (Γ : Ctx) (w : Tree) → Table s t st nx n → find t [] c ≡ found Γ w → (ls : Forest)
-              → r + count (withSubtrahend (minusOf w) ls) ≡ b + count ls)
+        → r + count (withSubtrahend (minusOf w) ls) ≡ b + count ls)
         → MinusRowPost s n st nx c m b
     unfolding subtrahends
     counted b l h =
@@ -213,7 +219,7 @@ module _ (s : List ℕ) (n : ℕ) (st nx : List ℕ) (c m : ℕ) where
 
     pub minus-no : (tag ≡ 213 → ⊥) → MinusRowPost s n st nx c m r
     minus-no h = counted r (omega arith) (λ t Γ w tb f ls. ap (λ (l : Forest). r + count l)
-          (not-minus w (λ i. h (pt .tag t n Γ w (tb .framed) f ∙ i)) .1 ls))
+        (not-minus w (λ i. h (pt .tag t n Γ w (tb .framed) f ∙ i)) .1 ls))
 
 -- ---- kept children
 take-next : (kept : List ℕ) (i m : ℕ) → i < m → i < length kept → take (m - i) (drop i kept) ≡ getD kept i 0 ∷ take (m - (i + 1)) (drop (i + 1) kept)
@@ -247,13 +253,13 @@ module _ (s : List ℕ) (n : ℕ) (st nx kept : List ℕ) (long : length kept �
   module _ (h : i < m) where
     split-kept : m ≤ 256 → (t : Tree) (Γ : Ctx) (ks : Forest) → At t Γ (take (m - i) (drop i kept)) ks
         → (w : Tree) × ((ls : Forest) × ((ks ≡ cons w ls) × ((find t [] (getD kept i 0) ≡ found Γ w)
-                  × At t Γ (take (m - (i + 1)) (drop (i + 1) kept)) ls)))
+        × At t Γ (take (m - (i + 1)) (drop (i + 1) kept)) ls)))
     unfolding At
     split-kept f t Γ ks l = go ks (subst (λ (ps : List ℕ). At t Γ ps ks) (take-next kept i m h (omega arith)) l)
       where
         go : (ks : Forest) → At t Γ (getD kept i 0 ∷ take (m - (i + 1)) (drop (i + 1) kept)) ks
             → (w : Tree) × ((ls : Forest) × ((ks ≡ cons w ls) × ((find t [] (getD kept i 0) ≡ found Γ w)
-                      × At t Γ (take (m - (i + 1)) (drop (i + 1) kept)) ls)))
+            × At t Γ (take (m - (i + 1)) (drop (i + 1) kept)) ls)))
         go nil l = absurd l
         go (cons w ls) l = (w, (ls, (refl, l)))
 

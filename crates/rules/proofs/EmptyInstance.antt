@@ -9,9 +9,38 @@ use Rattle.frame.specs.Types.{Ty}
 use Rattle.frame.specs.Trees.{head, Tree, node, Forest, nil, cons, count, leaf, two, many, sole, pair, append, mapF}
 use Rattle.frame.specs.Tags.{pick, classOf, lookup, formAt}
 use Rattle.frame.specs.Operators.{
-  #SetExt, #SRel, #STRel, #SetMinus, #CProd, #DProd, #PProd, #DomRes, #DomSub, #RanRes, #RanSub, #UpTo, #RelImage, #BUnion,
-  #BInter, #BComp, #FComp, #Ovr, #LAnd, #Natural, #Natural1, #KPrj1Gen, #KPrj2Gen, #KIdGen, #BFalse, #Pow, #Pow1, #KUnion, #KDom,
-  #KRan, #Converse, #QUnion
+  #SetExt,
+  #SRel,
+  #STRel,
+  #SetMinus,
+  #CProd,
+  #DProd,
+  #PProd,
+  #DomRes,
+  #DomSub,
+  #RanRes,
+  #RanSub,
+  #UpTo,
+  #RelImage,
+  #BUnion,
+  #BInter,
+  #BComp,
+  #FComp,
+  #Ovr,
+  #LAnd,
+  #Natural,
+  #Natural1,
+  #KPrj1Gen,
+  #KPrj2Gen,
+  #KIdGen,
+  #BFalse,
+  #Pow,
+  #Pow1,
+  #KUnion,
+  #KDom,
+  #KRan,
+  #Converse,
+  #QUnion,
 }
 use Rattle.frame.specs.Places.{Ctx}
 use Rattle.frame.proofs.Inversion.{true-not}
@@ -19,14 +48,52 @@ use Rattle.typing.specs.Typing.{typeOf}
 use Rattle.rules.specs.Change.{Change, isTag, with2, joined}
 use Rattle.rules.specs.Negation.{isEmpty}
 use Rattle.rules.specs.EqualsEmptySet.{
-  Single, single, none, soleOf, singleOf, anySingle, Singled, singled, noneSingled, besides, orNext, firstSingle, interSingle,
-  Minus, minus, whole, partsOf, minusOf, isMinus, minuend, withSubtrahend, anyMinus, minuends, subtrahends, interEmpty,
-  rewriteEqualsEmptySet
+  Single,
+  single,
+  none,
+  soleOf,
+  singleOf,
+  anySingle,
+  Singled,
+  singled,
+  noneSingled,
+  besides,
+  orNext,
+  firstSingle,
+  interSingle,
+  Minus,
+  minus,
+  whole,
+  partsOf,
+  minusOf,
+  isMinus,
+  minuend,
+  withSubtrahend,
+  anyMinus,
+  minuends,
+  subtrahends,
+  interEmpty,
+  rewriteEqualsEmptySet,
 }
 use Rattle.rules.specs.Equations
 use Rattle.rules.specs.Equations.{Empties, Subtracted, over, ext, inters}
 use Rattle.rules.proofs.Shapes.{
-  Is, gives, nothing, or-else, by-test, either, Ok, OkAll, on-many, on-two, on-one, on-bodied, is-leaf, is-many, is-two, is-typed
+  Is,
+  gives,
+  nothing,
+  or-else,
+  by-test,
+  either,
+  Ok,
+  OkAll,
+  on-many,
+  on-two,
+  on-one,
+  on-bodied,
+  is-leaf,
+  is-many,
+  is-two,
+  is-typed,
 }
 
 -- ---- joined lists
@@ -78,7 +145,7 @@ first-in σ Γ (cons k ks) a = next-in k ks (singleOf k) (firstSingle ks) (singl
 single-empties : (Γ : Ctx) (ks : Forest) (s : Singled) → SingledIn ks s → Is (λ p u. Empties Γ p (inters ks) u) (interSingle s)
 single-empties Γ ks (singled a rest) w =
     by-test (eqb (count rest) 1 || not (anySingle rest)) (λ h. gives
-          (rw (joined-over #BInter rest, w .3) (Equations.«SIMP_BINTER_SING_EQUAL_EMPTY» a ks (w .0) (w .1) (w .2))))
+    (rw (joined-over #BInter rest, w .3) (Equations.«SIMP_BINTER_SING_EQUAL_EMPTY» a ks (w .0) (w .1) (w .2))))
 single-empties Γ ks noneSingled w = nothing
 
 -- ---- (A ∖ B) ∩ C ∩ (D ∖ E)
@@ -184,9 +251,9 @@ empties {σ} {Γ} {e} a =
     (or-else (on-one _ #KRan a refl (λ x q w. rw q (gives (Equations.«SIMP_RAN_EQUAL_EMPTY» x))))
     (or-else (on-one _ #Converse a refl (λ x q w. rw q (gives (Equations.«SIMP_CONVERSE_EQUAL_EMPTY» x))))
     (or-else (on-many _ #FComp a 2 refl (λ ks q m w. of-two _ ks
-              (λ x y p. rw (q ∙ ap (many #FComp) p) (gives (Equations.«SIMP_FCOMP_EQUAL_EMPTY» x y)))))
+    (λ x y p. rw (q ∙ ap (many #FComp) p) (gives (Equations.«SIMP_FCOMP_EQUAL_EMPTY» x y)))))
     (or-else (on-many _ #BComp a 2 refl (λ ks q m w. of-two _ ks
-              (λ x y p. rw (q ∙ ap (many #BComp) p) (gives (Equations.«SIMP_BCOMP_EQUAL_EMPTY» x y)))))
+    (λ x y p. rw (q ∙ ap (many #BComp) p) (gives (Equations.«SIMP_BCOMP_EQUAL_EMPTY» x y)))))
     (or-else (on-many _ #Ovr a 2 refl (λ ks q m w. rw (joined-many #LAnd (isEmpty Γ) ks m, q) (gives (Equations.«SIMP_OVERL_EQUAL_EMPTY» ks))))
     (or-else (on-bodied _ #QUnion a refl (λ us x y q v w. rw q (gives (Equations.«SIMP_QUNION_EQUAL_EMPTY» us x y))))
     (or-else (by-test (isTag #Natural e || isTag #Natural1 e) (λ h. gives (natural-empties a h)))

@@ -17,7 +17,20 @@ use Rattle.frame.proofs.Inversion.{true-not}
 use Rattle.frame.proofs.SameTrees.{same-tree}
 use Rattle.rules.specs.Change.{isTag, contains}
 use Rattle.rules.specs.Simplify.{
-  soleOr, makeNeg, Verdict, drops, keeps, decides, verdict, Kept, kept, decided, afterVerdict, scan, finish, simplifyAssocPred
+  soleOr,
+  makeNeg,
+  Verdict,
+  drops,
+  keeps,
+  decides,
+  verdict,
+  Kept,
+  kept,
+  decided,
+  afterVerdict,
+  scan,
+  finish,
+  simplifyAssocPred,
 }
 use Rattle.rules.specs.Equations
 use Rattle.rules.specs.Equations.{Equation, Among, Junction, conjunction, disjunction, Dropped, Opposite, ¬ᵖ}
@@ -137,8 +150,8 @@ finish-instance {g} {n} {d} j m ps c (kept nil) h = gives (Equations.«SIMP_SPEC
 finish-instance {g} {n} {d} j m ps c (kept (cons a nil)) h = gives (Equations.«SIMP_SPECIAL_AND_BTRUE/OR_BFALSE/MULTI_AND/OR/one» g n d ps a j h)
 finish-instance {g} {n} {d} j m ps c (kept (cons a (cons b ks))) h =
     by-test (not (eqb (count (cons a (cons b ks))) m)) (λ i. gives
-          (Equations.«SIMP_SPECIAL_AND_BTRUE/OR_BFALSE/MULTI_AND/OR» g n d ps a b ks j h
-            (λ e. other-count (count (cons a (cons b ks))) m i (e ∙ sym c))))
+    (Equations.«SIMP_SPECIAL_AND_BTRUE/OR_BFALSE/MULTI_AND/OR» g n d ps a b ks j h
+    (λ e. other-count (count (cons a (cons b ks))) m i (e ∙ sym c))))
 
 pub junction-instance : (σ : ℕ → Ty) (Γ : Ctx) {g n d : ℕ} → Junction g n d → (ks : Forest) → OkAll σ Γ ks
     → Is (λ p u. Equation Γ p (many g ks) u) (simplifyAssocPred g n d ks)

@@ -10,7 +10,20 @@ use Rattle.frame.specs.Tags.{predicate, expression, classOf, lookup, formAt}
 use Rattle.frame.specs.Places.{Ctx}
 use Rattle.typing.specs.Accepted.{Accepted}
 use Rattle.rules.specs.Equations.{
-  Junction, conjunction, disjunction, Dropped, Opposite, negated, restored, Emptiness, is-∅, in-∅, ∅-is, Fullness, is-Ty, Ty-is
+  Junction,
+  conjunction,
+  disjunction,
+  Dropped,
+  Opposite,
+  negated,
+  restored,
+  Emptiness,
+  is-∅,
+  in-∅,
+  ∅-is,
+  Fullness,
+  is-Ty,
+  Ty-is,
 }
 use Rattle.rules.proofs.Nodes.{Is, Holds, Has, Each}
 use Rattle.rules.proofs.NewNodes.{true-holds, false-holds, not-holds, and-holds, or-holds}

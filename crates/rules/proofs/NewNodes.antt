@@ -20,8 +20,21 @@ use Rattle.typing.specs.Accepted.{TyOk, TysOk}
 use Rattle.typing.proofs.TypeExpression.{type-expression}
 use Rattle.rules.specs.Equations.{⊤, ⊥ᵖ, ¬ᵖ, _⇒_, _⇔_, ⋀, ⋁, ∀ᵖ, ∃ᵖ, _≐_, _∈ᵖ_, _⊆_, fin, ext, dom, ran, inters, over, ∅, _≐∅, _≐Ty}
 use Rattle.rules.proofs.Nodes.{
-  Are, Holds, Has, Each, Binders, short, ok-of, are-none, are-more, are-one, are-two, build, these-head, counted-head,
-  binding-head
+  Are,
+  Holds,
+  Has,
+  Each,
+  Binders,
+  short,
+  ok-of,
+  are-none,
+  are-more,
+  are-one,
+  are-two,
+  build,
+  these-head,
+  counted-head,
+  binding-head,
 }
 
 -- ---- lists of children
@@ -116,13 +129,13 @@ module _ {σ : ℕ → Ty} {Γ : Ctx} where
   unfolding classOf lookup formAt encTy
   and-holds ps l m h =
       build 351 0 [] ps (copies bool ps) (counted-head 351 (count ps) (lit< tt) refl refl tt refl l m (lit< tt)) (alike-copies bool ps)
-          (lit≤ tt) (are-each predicate bool ps h)
+      (lit≤ tt) (are-each predicate bool ps h)
 
   pub or-holds : (ps : Forest) → 2 ≤ count ps → count ps ≤ 255 → Each σ Γ predicate bool ps → Holds σ Γ (⋁ ps)
   unfolding classOf lookup formAt encTy
   or-holds ps l m h =
       build 352 0 [] ps (copies bool ps) (counted-head 352 (count ps) (lit< tt) refl refl tt refl l m (lit< tt)) (alike-copies bool ps)
-          (lit≤ tt) (are-each predicate bool ps h)
+      (lit≤ tt) (are-each predicate bool ps h)
 
   pub and-two : {p q : Tree} → Holds σ Γ p → Holds σ Γ q → Holds σ Γ (⋀ (pair p q))
   and-two {p} {q} h k = and-holds (pair p q) (lit≤ tt) (lit≤ tt) (h, (k, tt))
@@ -152,8 +165,16 @@ module _ {σ : ℕ → Ty} {Γ : Ctx} where
   empty-has u h l =
       build 407 0 (pow u ∷ []) nil []
       (record {
-        formed = record { small = lit< tt; listed = refl; sort = refl; fits = lit< tt; own = refl; range = refl; many = refl;
-              types = (wf-of σ u h, l, tt) };
+        formed = record {
+          small = lit< tt;
+          listed = refl;
+          sort = refl;
+          fits = lit< tt;
+          own = refl;
+          range = refl;
+          many = refl;
+          types = (wf-of σ u h, l, tt);
+        };
         indexed = refl;
         named = tt;
         types = (h, tt);
@@ -187,7 +208,7 @@ module _ {σ : ℕ → Ty} {Γ : Ctx} where
   unfolding classOf lookup formAt
   cap-has k ks u l m h =
       build 302 0 [] (cons k ks) (copies (pow u) (cons k ks))
-          (counted-head 302 (suc (count ks)) (lit< tt) refl refl tt refl (omega arith) (omega arith) (lit< tt))
+      (counted-head 302 (suc (count ks)) (lit< tt) refl refl tt refl (omega arith) (omega arith) (lit< tt))
       (alike-copies (pow u) (cons k ks)) (short (h .0)) (are-each expression (pow u) (cons k ks) h)
 
   pub cup-has : (k : Tree) (ks : Forest) (u : Ty) → 1 ≤ count ks → count ks ≤ 254 → Each σ Γ expression (pow u) (cons k ks)
@@ -195,14 +216,14 @@ module _ {σ : ℕ → Ty} {Γ : Ctx} where
   unfolding classOf lookup formAt
   cup-has k ks u l m h =
       build 301 0 [] (cons k ks) (copies (pow u) (cons k ks))
-          (counted-head 301 (suc (count ks)) (lit< tt) refl refl tt refl (omega arith) (omega arith) (lit< tt))
+      (counted-head 301 (suc (count ks)) (lit< tt) refl refl tt refl (omega arith) (omega arith) (lit< tt))
       (alike-copies (pow u) (cons k ks)) (short (h .0)) (are-each expression (pow u) (cons k ks) h)
 
   pub cap-two : {a b : Tree} {u : Ty} → Has σ Γ a (pow u) → Has σ Γ b (pow u) → Has σ Γ (inters (pair a b)) (pow u)
   cap-two {a} {b} {u} h k = cap-has a (sole b) u (lit≤ tt) (lit≤ tt) (h, (k, tt))
 
   over-has : (g : ℕ) (u : Ty) → ((k : Tree) (ks : Forest) → 1 ≤ count ks → count ks ≤ 254 → Each σ Γ expression (pow u) (cons k ks)
-        → Has σ Γ (many g (cons k ks)) (pow u)) → (ks : Forest) → 1 ≤ count ks → count ks ≤ 255 → Each σ Γ expression (pow u) ks
+      → Has σ Γ (many g (cons k ks)) (pow u)) → (ks : Forest) → 1 ≤ count ks → count ks ≤ 255 → Each σ Γ expression (pow u) ks
       → Has σ Γ (over g ks) (pow u)
   over-has g u f nil l m h = absurd (omega arith)
   over-has g u f (cons a nil) l m h = h .0

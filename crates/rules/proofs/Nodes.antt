@@ -13,13 +13,73 @@ use borrow.Author.Tests.{leb-true, le-leb}
 use Rattle.frame.specs.Types.{Ty, bool}
 use Rattle.frame.specs.Trees.{head, Tree, node, Forest, nil, cons, count}
 use Rattle.frame.specs.Tags.{
-  pick, Sort, predicate, expression, Layout, these, counted, binding, Form, classOf, formAt, formOf, sortsOf, repeat, Class,
-  literalPred, equality, order, membership, inclusion, binaryPred, associativePred, negation, quantifiedPred, finite, partition,
-  identifier, bound, literal, setExtension, maplet, relationSet, setMinus, cartesian, directProduct, parallelProduct,
-  domainRestriction, rangeRestriction, upTo, arithmetic, functionImage, relationalImage, setOperation, backwardComposition,
-  forwardComposition, override, sum, integerSet, boolSet, truthValue, integerRelation, emptySet, projection1, projection2,
-  identity, boolExpr, cardinal, powerset, generalised, domain, range, extremum, converse, unaryMinus, quantifiedSet,
-  comprehension, unlisted
+  pick,
+  Sort,
+  predicate,
+  expression,
+  Layout,
+  these,
+  counted,
+  binding,
+  Form,
+  classOf,
+  formAt,
+  formOf,
+  sortsOf,
+  repeat,
+  Class,
+  literalPred,
+  equality,
+  order,
+  membership,
+  inclusion,
+  binaryPred,
+  associativePred,
+  negation,
+  quantifiedPred,
+  finite,
+  partition,
+  identifier,
+  bound,
+  literal,
+  setExtension,
+  maplet,
+  relationSet,
+  setMinus,
+  cartesian,
+  directProduct,
+  parallelProduct,
+  domainRestriction,
+  rangeRestriction,
+  upTo,
+  arithmetic,
+  functionImage,
+  relationalImage,
+  setOperation,
+  backwardComposition,
+  forwardComposition,
+  override,
+  sum,
+  integerSet,
+  boolSet,
+  truthValue,
+  integerRelation,
+  emptySet,
+  projection1,
+  projection2,
+  identity,
+  boolExpr,
+  cardinal,
+  powerset,
+  generalised,
+  domain,
+  range,
+  extremum,
+  converse,
+  unaryMinus,
+  quantifiedSet,
+  comprehension,
+  unlisted,
 }
 use Rattle.frame.specs.Encoding.{encTy}
 use Rattle.frame.specs.Places.{Ctx, under}
@@ -210,8 +270,17 @@ module _ {σ : ℕ → Ty} {Γ : Ctx} {e : Sort} (g k : ℕ) (small : g < 65536)
   counted-head f i m s l h b =
       record {
         formed =
-            record { small = small; listed = rw f; sort = rw f; fits = rw f (omega arith); own = rw f; range = rw f
-                  (between l h); many = rw f; types = tt };
+            record {
+              small = small;
+              listed = rw f;
+              sort = rw f;
+              fits = rw f (omega arith);
+              own = rw f;
+              range = rw f
+                  (between l h);
+              many = rw f;
+              types = tt;
+            };
         indexed = i;
         named = m;
         types = tt;
@@ -224,8 +293,17 @@ module _ {σ : ℕ → Ty} {Γ : Ctx} {e : Sort} (g k : ℕ) (small : g < 65536)
   binding-head f i m s b =
       record {
         formed =
-            record { small = small; listed = rw f; sort = rw f; fits = rw f (omega arith); own = rw f; range = rw f
-                  (between (b .some) (b .few)); many = rw f; types = b .formed };
+            record {
+              small = small;
+              listed = rw f;
+              sort = rw f;
+              fits = rw f (omega arith);
+              own = rw f;
+              range = rw f
+                  (between (b .some) (b .few));
+              many = rw f;
+              types = b .formed;
+            };
         indexed = i;
         named = m;
         types = b .types;

@@ -12,8 +12,33 @@ use Rattle.frame.specs.Types.{Ty}
 use Rattle.frame.specs.Trees.{Tree, Forest, nil, cons, leaf, two, many, bodied}
 use Rattle.frame.specs.Tags.{classOf, lookup, formAt}
 use Rattle.frame.specs.Operators.{
-  #SetExt, #Equal, #Lt, #Le, #Gt, #Ge, #Mapsto, #CProd, #DomRes, #UpTo, #BUnion, #Integer, #Natural, #Natural1, #Bool, #True,
-  #False, #EmptySet, #KPrj1Gen, #KPrj2Gen, #KIdGen, #BFalse, #Not, #Pow, #Converse, #CSet, #Partition
+  #SetExt,
+  #Equal,
+  #Lt,
+  #Le,
+  #Gt,
+  #Ge,
+  #Mapsto,
+  #CProd,
+  #DomRes,
+  #UpTo,
+  #BUnion,
+  #Integer,
+  #Natural,
+  #Natural1,
+  #Bool,
+  #True,
+  #False,
+  #EmptySet,
+  #KPrj1Gen,
+  #KPrj2Gen,
+  #KIdGen,
+  #BFalse,
+  #Not,
+  #Pow,
+  #Converse,
+  #CSet,
+  #Partition,
 }
 use Rattle.frame.specs.Places.{Ctx, push}
 use Rattle.frame.proofs.Booleans.{both-true, or-then}
@@ -25,8 +50,22 @@ use Rattle.rules.specs.Equations
 use Rattle.rules.specs.Equations.{Equation, fin, ¬ᵖ, _≐_}
 use Rattle.rules.proofs.Recovery.{occurs-used, recovered-leaf}
 use Rattle.rules.proofs.Shapes.{
-  Is, gives, nothing, or-else, by-test, either, Ok, on-many, on-two, on-one, on-typed, on-bodied, is-leaf, is-many, is-two,
-  is-typed
+  Is,
+  gives,
+  nothing,
+  or-else,
+  by-test,
+  either,
+  Ok,
+  on-many,
+  on-two,
+  on-one,
+  on-typed,
+  on-bodied,
+  is-leaf,
+  is-many,
+  is-two,
+  is-typed,
 }
 
 -- ---- ¬

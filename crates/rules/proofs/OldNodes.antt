@@ -11,9 +11,38 @@ use Rattle.frame.specs.Types.{Ty, bool, int, pow, prod}
 use Rattle.frame.specs.Trees.{Tree, Forest, count, leaf, one, two, many, typed, sole, pair, bodied}
 use Rattle.frame.specs.Tags.{Sort, predicate, expression, repeat, classOf, lookup, formAt}
 use Rattle.frame.specs.Operators.{
-  #Lt, #Le, #Gt, #Ge, #Mapsto, #SRel, #STRel, #SetMinus, #CProd, #DProd, #PProd, #DomRes, #DomSub, #RanRes, #RanSub, #UpTo,
-  #RelImage, #BUnion, #BComp, #FComp, #Ovr, #True, #False, #Pow, #Pow1, #KUnion, #KInter, #Converse, #QUnion, #QInter, #CSet,
-  #Partition
+  #Lt,
+  #Le,
+  #Gt,
+  #Ge,
+  #Mapsto,
+  #SRel,
+  #STRel,
+  #SetMinus,
+  #CProd,
+  #DProd,
+  #PProd,
+  #DomRes,
+  #DomSub,
+  #RanRes,
+  #RanSub,
+  #UpTo,
+  #RelImage,
+  #BUnion,
+  #BComp,
+  #FComp,
+  #Ovr,
+  #True,
+  #False,
+  #Pow,
+  #Pow1,
+  #KUnion,
+  #KInter,
+  #Converse,
+  #QUnion,
+  #QInter,
+  #CSet,
+  #Partition,
 }
 use Rattle.frame.specs.Encoding.{encTy}
 use Rattle.frame.specs.Places.{Ctx, push}
@@ -250,13 +279,19 @@ module _ {σ : ℕ → Ty} {Γ : Ctx} where
   -- ---- binders
   pub of-qunion : {xs : List Ty} {p e : Tree} {t : Ty} → Has σ Γ (bodied #QUnion xs p e) t → (u : Ty) × Body σ Γ xs p e (pow u)
   unfolding classOf lookup formAt typeOf
-  of-qunion {xs} {p} {e} h = (element (typeOf e (push xs Γ)), record
-        { binders = bound (top h) (top h .formed .range); pred = kid₀ (opened h); expr = kid₁ (opened h) })
+  of-qunion {xs} {p} {e} h = (
+    element (typeOf e (push xs Γ)),
+    record
+        { binders = bound (top h) (top h .formed .range); pred = kid₀ (opened h); expr = kid₁ (opened h) },
+  )
 
   pub of-qinter : {xs : List Ty} {p e : Tree} {t : Ty} → Has σ Γ (bodied #QInter xs p e) t → (u : Ty) × Body σ Γ xs p e (pow u)
   unfolding classOf lookup formAt typeOf
-  of-qinter {xs} {p} {e} h = (element (typeOf e (push xs Γ)), record
-        { binders = bound (top h) (top h .formed .range); pred = kid₀ (opened h); expr = kid₁ (opened h) })
+  of-qinter {xs} {p} {e} h = (
+    element (typeOf e (push xs Γ)),
+    record
+        { binders = bound (top h) (top h .formed .range); pred = kid₀ (opened h); expr = kid₁ (opened h) },
+  )
 
   pub of-set : {xs : List Ty} {p e : Tree} {t : Ty} → Has σ Γ (bodied #CSet xs p e) t → (u : Ty) × (t ≡ pow u) × Body σ Γ xs p e u
   unfolding classOf lookup formAt typeOf

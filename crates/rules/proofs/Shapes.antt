@@ -120,8 +120,13 @@ module _ (σ : ℕ → Ty) (Γ : Ctx) (g n : ℕ) (us : List Ty) (ks : Forest) (
           → AcceptedAll σ ks (push (bindersOf l us) Γ) (sortsOf l (numberOf l n (length us) (count ks))) → Fixed σ Γ m k n us ks
       go (these es) c h p q r =
           let b = both-true (eqb c m) (eqb (length es) k) h in
-          record { number = sym p; types = q ∙ eqb-true c m (b .0); kids = all-count σ Γ ks es r ∙ eqb-true (length es) k
-                (b .1); each = all-ok σ Γ ks es r }
+          record {
+            number = sym p;
+            types = q ∙ eqb-true c m (b .0);
+            kids = all-count σ Γ ks es r ∙ eqb-true (length es) k
+                (b .1);
+            each = all-ok σ Γ ks es r;
+          }
       go (payload w) c h p q r = true-not h
       go (counted lo hi e) c h p q r = true-not h
       go (binding lo hi es) c h p q r = true-not h
@@ -139,8 +144,12 @@ module _ (σ : ℕ → Ty) (Γ : Ctx) (g n : ℕ) (us : List Ty) (ks : Forest) (
       go (counted lo hi e) c h p q i r =
           let b = both-true (eqb c 0) (eqb m lo) h in
           let d = both-true (leb lo (count ks)) (leb (count ks) hi) i in
-          record { number = sym p; types = q ∙ eqb-true c 0 (b .0);
-                kids = omega (arith, leb-true lo (count ks) (d .0), eqb-true m lo (b .1)); each = all-ok σ Γ ks _ r }
+          record {
+            number = sym p;
+            types = q ∙ eqb-true c 0 (b .0);
+            kids = omega (arith, leb-true lo (count ks) (d .0), eqb-true m lo (b .1));
+            each = all-ok σ Γ ks _ r;
+          }
       go (binding lo hi es) c h p q i r = true-not h
 
   binds-node : (k : ℕ) → binds k (formOf g .layout) ≡ true → Binds σ Γ k n us ks

@@ -25,7 +25,7 @@ unfolding makeNeg
 among-instance {y} ks w =
     or-else (by-test (contains y ks) (λ h. gives (Equations.«SIMP_MULTI_IMP_AND» ks y (contains-among y ks h))))
     (by-test (contains (makeNeg y) ks) (λ h. gives (Equations.«SIMP_MULTI_IMP_AND_NOT_R/L» ks y (makeNeg y) (make-opposite w)
-              (contains-among (makeNeg y) ks h))))
+    (contains-among (makeNeg y) ks h))))
 
 imp-instance : {σ : ℕ → Ty} {Γ : Ctx} {x y : Tree} → Ok σ Γ x → Ok σ Γ y → Is (λ p u. Equation Γ p (x ⇒ y) u) (simplifyImp x y)
 unfolding classOf lookup formAt
@@ -34,7 +34,7 @@ imp-instance {x} {y} v w =
     (or-else (by-test (isTag #BFalse x) (λ h. rw (is-leaf #BFalse v h refl) (gives (Equations.«SIMP_SPECIAL_IMP_BFALSE_L» y))))
     (or-else (by-test (isTag #BTrue y) (λ h. rw (is-leaf #BTrue w h refl) (gives (Equations.«SIMP_SPECIAL_IMP_BTRUE_R» x))))
     (or-else (by-test (isTag #BFalse y) (λ h. rw (is-leaf #BFalse w h refl)
-              (gives (Equations.«SIMP_SPECIAL_IMP_BFALSE_R» x (makeNeg x) (make-opposite v)))))
+    (gives (Equations.«SIMP_SPECIAL_IMP_BFALSE_R» x (makeNeg x) (make-opposite v)))))
     (or-else (by-test (sameTree x y) (λ h. rw (same-tree x y h) (gives (Equations.«SIMP_MULTI_IMP» y))))
     (or-else (on-many _ #LAnd v 2 refl (λ ks q m u. rw q (among-instance ks w)))
     (or-else (on-one _ #Not v refl (λ z q u. rw q (by-test (sameTree z y) (λ h. rw (same-tree z y h) (gives (Equations.«SIMP_MULTI_IMP_NOT_L» y))))))
@@ -47,11 +47,11 @@ eqv-instance {x} {y} v w =
     (or-else (by-test (isTag #BTrue x) (λ h. rw (is-leaf #BTrue v h refl) (gives (Equations.«SIMP_SPECIAL_EQV_BTRUE/left» y))))
     (or-else (by-test (sameTree x y) (λ h. rw (same-tree x y h) (gives (Equations.«SIMP_MULTI_EQV» y))))
     (or-else (by-test (isTag #BFalse y) (λ h. rw (is-leaf #BFalse w h refl)
-              (gives (Equations.«SIMP_SPECIAL_EQV_BFALSE/right» x (makeNeg x) (make-opposite v)))))
+    (gives (Equations.«SIMP_SPECIAL_EQV_BFALSE/right» x (makeNeg x) (make-opposite v)))))
     (or-else (by-test (isTag #BFalse x) (λ h. rw (is-leaf #BFalse v h refl)
-              (gives (Equations.«SIMP_SPECIAL_EQV_BFALSE/left» y (makeNeg y) (make-opposite w)))))
+    (gives (Equations.«SIMP_SPECIAL_EQV_BFALSE/left» y (makeNeg y) (make-opposite w)))))
     (or-else (on-one _ #Not w refl (λ z q u. rw q (by-test (sameTree z x)
-                (λ h. rw (same-tree z x h) (gives (Equations.«SIMP_MULTI_EQV_NOT/right» x))))))
+    (λ h. rw (same-tree z x h) (gives (Equations.«SIMP_MULTI_EQV_NOT/right» x))))))
     (on-one _ #Not v refl (λ z q u. rw q (by-test (sameTree z y) (λ h. rw (same-tree z y h) (gives (Equations.«SIMP_MULTI_EQV_NOT/left» y)))))))))))
 
 neg-instance : {σ : ℕ → Ty} {Γ : Ctx} {x : Tree} → Ok σ Γ x → Is (λ p u. Equation Γ p (¬ᵖ x) u) (simplifyNot x)

@@ -9,16 +9,50 @@ use Rattle.typing.specs.TypeExpression.{toExpression}
 use Rattle.typing.specs.Accepted.{TysOk}
 use Rattle.typing.proofs.Derived.{push-all-ok}
 use Rattle.rules.specs.Equations.{
-  _≐_, ext, Fills, _≐Ty, «SIMP_BINTER_EQUAL_TYPE», «SIMP_SETMINUS_EQUAL_TYPE», «SIMP_CPROD_EQUAL_TYPE», «SIMP_UPTO_EQUAL_INTEGER»,
-  «SIMP_DOMRES_EQUAL_TYPE», «SIMP_DOMSUB_EQUAL_TYPE», «SIMP_RANRES_EQUAL_TYPE», «SIMP_RANSUB_EQUAL_TYPE», «SIMP_DPROD_EQUAL_TYPE»,
-  «SIMP_PPROD_EQUAL_TYPE», «SIMP_KINTER_EQUAL_TYPE», «SIMP_CONVERSE_EQUAL_TYPE», «SIMP_QINTER_EQUAL_TYPE»
+  _≐_,
+  ext,
+  Fills,
+  _≐Ty,
+  «SIMP_BINTER_EQUAL_TYPE»,
+  «SIMP_SETMINUS_EQUAL_TYPE»,
+  «SIMP_CPROD_EQUAL_TYPE»,
+  «SIMP_UPTO_EQUAL_INTEGER»,
+  «SIMP_DOMRES_EQUAL_TYPE»,
+  «SIMP_DOMSUB_EQUAL_TYPE»,
+  «SIMP_RANRES_EQUAL_TYPE»,
+  «SIMP_RANSUB_EQUAL_TYPE»,
+  «SIMP_DPROD_EQUAL_TYPE»,
+  «SIMP_PPROD_EQUAL_TYPE»,
+  «SIMP_KINTER_EQUAL_TYPE»,
+  «SIMP_CONVERSE_EQUAL_TYPE»,
+  «SIMP_QINTER_EQUAL_TYPE»,
 }
 use Rattle.rules.proofs.Nodes.{Holds, Has, short, ok-of}
 use Rattle.rules.proofs.NewNodes.{
-  short-member, false-holds, equal-holds, imp-holds, and-two, forall-holds, single-has, type-has, is-empty, is-type
+  short-member,
+  false-holds,
+  equal-holds,
+  imp-holds,
+  and-two,
+  forall-holds,
+  single-has,
+  type-has,
+  is-empty,
+  is-type,
 }
 use Rattle.rules.proofs.OldNodes.{
-  of-inter, of-converse, of-minus, of-times, of-domres, of-domsub, of-ranres, of-ransub, of-dprod, of-pprod, of-cap, of-qinter
+  of-inter,
+  of-converse,
+  of-minus,
+  of-times,
+  of-domres,
+  of-domsub,
+  of-ranres,
+  of-ransub,
+  of-dprod,
+  of-pprod,
+  of-cap,
+  of-qinter,
 }
 use Rattle.rules.proofs.Operands.{all-hold}
 

@@ -6,8 +6,27 @@ use Rattle.frame.specs.Types.{bool, pow}
 use Rattle.frame.specs.Trees.{head, Tree, node, nil, leaf, one, two, many, typed, sole, pair, bodied}
 use Rattle.frame.specs.Tags.{lookup, classOf, formAt}
 use Rattle.frame.specs.Operators.{
-  #FreeIdent, #BoundIdent, #SetExt, #Equal, #In, #SubsetEq, #Mapsto, #SetMinus, #BUnion, #BInter, #True, #False, #EmptySet, #LImp,
-  #LEqv, #LAnd, #BTrue, #BFalse, #Not, #Finite, #CSet
+  #FreeIdent,
+  #BoundIdent,
+  #SetExt,
+  #Equal,
+  #In,
+  #SubsetEq,
+  #Mapsto,
+  #SetMinus,
+  #BUnion,
+  #BInter,
+  #True,
+  #False,
+  #EmptySet,
+  #LImp,
+  #LEqv,
+  #LAnd,
+  #BTrue,
+  #BFalse,
+  #Not,
+  #Finite,
+  #CSet,
 }
 use Rattle.frame.specs.Sameness.{sameTy, sameTys, sameTree}
 use Rattle.typing.specs.Typing.{typeOf}

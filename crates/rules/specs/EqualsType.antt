@@ -1,8 +1,25 @@
 -- `rewrite_equals_type` (document 000), in the source's order: a set equated to the type expression of its elements.
 use Rattle.frame.specs.Trees.{Tree, leaf, two, many, sole, pair, quantified, mapF}
 use Rattle.frame.specs.Operators.{
-  #SetExt, #Equal, #SetMinus, #CProd, #DProd, #PProd, #DomRes, #DomSub, #RanRes, #RanSub, #UpTo, #LImp, #BInter, #LAnd, #BFalse,
-  #KInter, #Converse, #QInter, #Forall
+  #SetExt,
+  #Equal,
+  #SetMinus,
+  #CProd,
+  #DProd,
+  #PProd,
+  #DomRes,
+  #DomSub,
+  #RanRes,
+  #RanSub,
+  #UpTo,
+  #LImp,
+  #BInter,
+  #LAnd,
+  #BFalse,
+  #KInter,
+  #Converse,
+  #QInter,
+  #Forall,
 }
 use Rattle.frame.specs.Places.{Ctx, push}
 use Rattle.typing.specs.Typing.{typeOf, element}

@@ -8,8 +8,29 @@ use Rattle.frame.specs.Types.{Ty}
 use Rattle.frame.specs.Trees.{head, Tree, node, Forest, nil, cons, leaf, one, many, pair, bodied, mapF}
 use Rattle.frame.specs.Tags.{formOf, bindersOf}
 use Rattle.frame.specs.Operators.{
-  #BoundIdent, #SetExt, #Mapsto, #CProd, #DomRes, #UpTo, #BUnion, #LAnd, #LOr, #Integer, #Natural, #Natural1, #Bool, #EmptySet,
-  #KPrj1Gen, #KPrj2Gen, #KIdGen, #BTrue, #BFalse, #Finite, #Pow, #Converse, #CSet
+  #BoundIdent,
+  #SetExt,
+  #Mapsto,
+  #CProd,
+  #DomRes,
+  #UpTo,
+  #BUnion,
+  #LAnd,
+  #LOr,
+  #Integer,
+  #Natural,
+  #Natural1,
+  #Bool,
+  #EmptySet,
+  #KPrj1Gen,
+  #KPrj2Gen,
+  #KIdGen,
+  #BTrue,
+  #BFalse,
+  #Finite,
+  #Pow,
+  #Converse,
+  #CSet,
 }
 use Rattle.frame.specs.Places.{Ctx}
 use Rattle.typing.specs.Typing.{carriedTy, source}

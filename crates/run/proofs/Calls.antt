@@ -22,7 +22,17 @@ use Rattle.step.proofs.Steps.{step-accepted, fit-wrote}
 use Rattle.run.specs.Run as R
 use Rattle.run.specs.Run.{Ran, ran, endedBy, runTree, run}
 use Rattle.run.specs.Series.{
-  Call, stepAt, runWith, heldAfterStep, heldAfterRun, heldAfter, stepCount, runCount, changesOf, heldAfterAll, changingSteps
+  Call,
+  stepAt,
+  runWith,
+  heldAfterStep,
+  heldAfterRun,
+  heldAfter,
+  stepCount,
+  runCount,
+  changesOf,
+  heldAfterAll,
+  changingSteps,
 }
 use Rattle.run.specs.Steps.{Steps, none, more}
 use Rattle.run.proofs.Runs.{steps-join, run-steps}

@@ -196,7 +196,7 @@ conjuncts k (cons l ks) x d n m u g =
     let ps = finites (cons l ks) in
     let e = truth-drops l ks (d .1) in
     let g₁ = onward n (many #LAnd (cons (finite k) ps)) (many #LAnd (cons ⊤ ps)) m u
-        (first-child _ _ _ 5 _ (conjunction-rests k l ks d) (first-becomes k ps (x .0))) g in
+    (first-child _ _ _ 5 _ (conjunction-rests k l ks d) (first-becomes k ps (x .0))) g in
     let g₂ = onward (n + 1) (many #LAnd (cons ⊤ ps)) (joined #LAnd ps) m u (first-root _ _ (e .0) _ (e .1)) g₁ in
     conjuncts l ks (x .1) (d .1) (n + 1 + 1) m u g₂ ∙ omega arith
 

@@ -25,8 +25,27 @@ use Rattle.typing.specs.declared.CheckAnswer.{CheckAnswer}
 use Rattle.typing.specs.declared.CheckAnswer.the-variants as C
 use Rattle.typing.proofs.Answers.{accepted-is, refused-is}
 use Rattle.run.specs.Run.{
-  First, next, nowhere, firstStep, Word, REST, SPENT, FULL, ran, atEnd, goOn, runTree, RunOutcome, ended, turnedDown, endedBy,
-  runOn, run, wordAnswer, runAnswer, runOutput
+  First,
+  next,
+  nowhere,
+  firstStep,
+  Word,
+  REST,
+  SPENT,
+  FULL,
+  ran,
+  atEnd,
+  goOn,
+  runTree,
+  RunOutcome,
+  ended,
+  turnedDown,
+  endedBy,
+  runOn,
+  run,
+  wordAnswer,
+  runAnswer,
+  runOutput,
 }
 use Rattle.run.proofs.Runs.{first-step}
 use Rattle.run.specs.declared.RunAnswer.the-variants as A
@@ -146,7 +165,7 @@ module _ (held₀ : List ℕ) (start budget : ℕ) where
           pub going-full : 4096 < m → (r : Ended) → r .answer ≡ A.Full count n → r .length ≡ n → RoundsPost held₀ start budget held r
           going-full h r ea el =
               ends FULL (λ u c. (let w = writes u c in ap (λ (i : ℕ). runTree i count u) less ∙ full-run (left - 1) u (w .0) count (w .1)
-                      (wrote-full q m (enc (w .0)) (w .2) h))) r ea el
+              (wrote-full q m (enc (w .0)) (w .2) h))) r ea el
 
           module _ (h : m ≤ 4096) where
             pub going-copy : (0 ≤ m) × (m ≤ length q) × (0 + (m - 0) ≤ length held)
@@ -162,9 +181,14 @@ module _ (held₀ : List ℕ) (start budget : ℕ) where
                       let v = wrote-held q m (enc (w .0)) (w .2) h in
                       let l : length (enc (w .0)) ≤ 4096 = omega (arith, v .0) in
                       let o = copied-front q m held held' (enc (w .0)) c (v .0) (v .1) (omega (arith, g .long)) in
-                      let front : take m held' ≡ enc (w .0) = ap (take m) o ∙ take-at (enc (w .0)) (drop (length (enc (w .0))) held) m (sym (v .0)) in
-                      (w .0, (ap check front ∙ next-checks (take n held) (bytes-take n held bytes) u (w .0) (y .1 .0) (w .1) l, y .1 .1 ∙ ap
-                              (λ (i : ℕ). runTree i count u) less ∙ on-run (left - 1) u (w .0) count (w .1) l)));
+                      let front : take m held' ≡ enc (w .0) = ap (take m) o ∙ take-at (enc (w .0)) (drop (length (enc (w .0))) held) m (sym (v .0)) in (
+                        w .0,
+                        (
+                          ap check front ∙ next-checks (take n held) (bytes-take n held bytes) u (w .0) (y .1 .0) (w .1) l,
+                          y .1 .1 ∙ ap
+                              (λ (i : ℕ). runTree i count u) less ∙ on-run (left - 1) u (w .0) count (w .1) l,
+                        ),
+                      ));
                   fits = h;
                   long = c .long ∙ g .long;
                   scratch-long = pf .room;
@@ -181,7 +205,7 @@ module _ (s : List ℕ) (b : Bytes s) (budget : ℕ) (o : List ℕ) (p : Checked
     held-front =
         let f = check-accepts s b (p .t) (p .checks) .fits in
         ap (take (length s)) (copied-front s (length s) zeros held s c refl (take-length s) (omega arith)) ∙ take-at s
-            (drop (length s) zeros) (length s) refl
+        (drop (length s) zeros) (length s) refl
 
     pub checked-rounds : RoundsPre held (length s)
     checked-rounds =
@@ -227,7 +251,7 @@ module _ (s : List ℕ) (budget : ℕ) (o : List ℕ) (a : CheckAnswer) (ea : a 
     run-short h =
         let t = accepted-is (check s) m (sym e ∙ ea) in
         turned-down 12 (ap (runOn budget (length o)) (t .1 .0) ∙ ap
-              (λ (x : Bool). pick x (turnedDown 12) (endedBy (runTree budget 0 (t .0)))) (lt-ltb (length o) 4096 h))
+        (λ (x : Bool). pick x (turnedDown 12) (endedBy (runTree budget 0 (t .0)))) (lt-ltb (length o) 4096 h))
 
     pub run-pre : 4096 ≤ length o → CheckedPre s o
     run-pre h = let t = accepted-is (check s) m (sym e ∙ ea) in record { t = t .0; checks = t .1 .0; room = h }

@@ -99,7 +99,7 @@ module _ (s : List ℕ) (e : Sort) (a b : ℕ) where
               let z : p - a ≡ length h = omega (arith, r .top .long, d .from) in
               let within : b + (p - a) ≤ length s = omega (arith, stand-inside y) in
               let win : take (length h) (drop b s) ≡ h = subst (λ (i : ℕ). take i (drop b s) ≡ h) z
-                  (sym (post .same eo) ∙ ap (λ (i : ℕ). take i (drop a s)) z ∙ r .top .bytes) in
+              (sym (post .same eo) ∙ ap (λ (i : ℕ). take i (drop a s)) z ∙ r .top .bytes) in
               let sp : Spans s b (b + (p - a)) h = record { long = omega arith; within = within; bytes = win } in
               let back = head-back s b e (r .g) (r .n) (r .us) (count (r .ks)) (b + (p - a)) (r .wf) sp in
               let eg : o .g ≡ r .g = cc (o .read, back) in

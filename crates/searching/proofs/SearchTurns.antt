@@ -122,8 +122,15 @@ module _ (s : List ℕ) (n : ℕ) (st nx leaves : List ℕ) where
           go false e = true-not (sym h ∙ ap isRests (pd .rests t n (spot t tb .0) (spot t tb .1 .0) tb (spot t tb .1 .1) e))
 
       pub search-splice : isRests d ≡ false → SplicePre s n st nx leaves k kept d scratch
-      search-splice h = record { t = p .t; table = p .table; held = p .held; decided = not-rests h (p .t)
-            (p .table); long = pd .long; room = p .room }
+      search-splice h = record {
+        t = p .t;
+        table = p .table;
+        held = p .held;
+        decided = not-rests h (p .t)
+            (p .table);
+        long = pd .long;
+        room = p .room;
+      }
 
       here-more : (t : Tree) → Table s t st nx n → firstFrom (n - k) t k ≡ orNext (stepTree t k) (firstFrom (n - (k + 1)) t (k + 1))
       here-more t tb = let z : n - k ≡ suc (n - (k + 1)) = omega arith in ap (λ (i : ℕ). firstFrom i t k) z ∙ from-more t (n - (k + 1)) k
@@ -136,9 +143,12 @@ module _ (s : List ℕ) (n : ℕ) (st nx leaves : List ℕ) where
           given t tb hd =
               let x = not-rests h t tb in
               let c = changes t (x .v) (x .Γ) kept d (dispatch (x .Γ) (x .v)) h (x .means) in
-              let e = step-predicate t k (x .Γ) (x .v) (x .there) (x .is-predicate) (to (c .0) (c .1 .0)) (c .1 .1) in
-              (replace t k (c .1 .0), g .goes t tb ∙ here-more t tb ∙ ap
-                    (λ (y : Stepped). orNext y (firstFrom (n - (k + 1)) t (k + 1))) e, ps .wrote t tb hd x (c .0) (c .1 .0) (c .1 .1))
+              let e = step-predicate t k (x .Γ) (x .v) (x .there) (x .is-predicate) (to (c .0) (c .1 .0)) (c .1 .1) in (
+                replace t k (c .1 .0),
+                g .goes t tb ∙ here-more t tb ∙ ap
+                    (λ (y : Stepped). orNext y (firstFrom (n - (k + 1)) t (k + 1))) e,
+                ps .wrote t tb hd x (c .0) (c .1 .0) (c .1 .1),
+              )
 
       pub search-next : (old : List ℕ) → Searching k old → isRests d ≡ true → Searching (k + 1) kept
       search-next old g h = record { goes = λ t tb. g .goes t tb ∙ here-more t tb ∙ later t tb; long = pd .long; upto = omega arith }
@@ -150,9 +160,9 @@ module _ (s : List ℕ) (n : ℕ) (st nx leaves : List ℕ) where
                   → orNext (stepTree t k) (firstFrom (n - (k + 1)) t (k + 1)) ≡ firstFrom (n - (k + 1)) t (k + 1)
               go true e =
                   let c = none-first t (spot t tb .1 .0) (spot t tb .0) kept d (dispatch (spot t tb .0) (spot t tb .1 .0)) h
-                      (pd .means t n (spot t tb .0) (spot t tb .1 .0) tb (spot t tb .1 .1) e) in
+                  (pd .means t n (spot t tb .0) (spot t tb .1 .0) tb (spot t tb .1 .1) e) in
                   ap (λ (y : Stepped). orNext y (firstFrom (n - (k + 1)) t (k + 1)))
-                      (step-predicate t k (spot t tb .0) (spot t tb .1 .0) (spot t tb .1 .1) e same c)
+                  (step-predicate t k (spot t tb .0) (spot t tb .1 .0) (spot t tb .1 .1) e same c)
               go false e = ap (λ (y : Stepped). orNext y (firstFrom (n - (k + 1)) t (k + 1)))
                   (step-expression t k (spot t tb .0) (spot t tb .1 .0) (spot t tb .1 .1) e)
 

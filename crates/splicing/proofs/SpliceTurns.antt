@@ -55,8 +55,14 @@ module _ (s : List ℕ) (n : ℕ) (st nx leaves : List ℕ) (k : ℕ) (kp : List
     splice-in = record { t = p .t; table = p .table; below = find-lt (p .t) [] k (p .decided .Γ) (p .decided .v) (p .decided .there) }
 
     pub splice-build : BuildPre (OfDecision k kp d) s n st nx leaves
-    splice-build = record { t = p .t; table = p .table; held = p .held; c = dispatch (p .decided .Γ) (p .decided .v); means = of-decided
-          (p .long) (p .t) (p .held) (p .decided) }
+    splice-build = record {
+      t = p .t;
+      table = p .table;
+      held = p .held;
+      c = dispatch (p .decided .Γ) (p .decided .v);
+      means = of-decided
+          (p .long) (p .t) (p .held) (p .decided);
+    }
 
     module _ (from : ℕ) (ef : from ≡ getD st k 0) (to : ℕ) (et : EndAtPost s n st nx k to) where
       within : (t : Tree) → Table s t st nx n → (Γ : Ctx) (v : Tree) → find t [] k ≡ found Γ v → (from + length (enc v) ≡ to) × (to ≤ length s)

@@ -20,8 +20,22 @@ use Rattle.typing.specs.Check.{Checked, accepted, refused, check}
 use Rattle.rules.specs.Change.{Change, to, same}
 use Rattle.rules.specs.Dispatch.{dispatch}
 use Rattle.step.specs.Step.{
-  Stepped, changed, unchanged, noPlace, isPredicate, stepChange, stepFound, stepTree, Outcome, wrote, kept, turnedDown, fit,
-  outcomeOf, outcomeOn, step
+  Stepped,
+  changed,
+  unchanged,
+  noPlace,
+  isPredicate,
+  stepChange,
+  stepFound,
+  stepTree,
+  Outcome,
+  wrote,
+  kept,
+  turnedDown,
+  fit,
+  outcomeOf,
+  outcomeOn,
+  step,
 }
 
 -- ---- at a predicate node

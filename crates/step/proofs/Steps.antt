@@ -29,8 +29,20 @@ use Rattle.rules.proofs.Instance.{instance}
 use Rattle.rules.proofs.Nodes.{predicate-type}
 use Rattle.rules.proofs.EquationAccepted.{equation-accepted}
 use Rattle.step.specs.Step.{
-  Stepped, changed, unchanged, noPlace, isPredicate, stepChange, stepFound, stepTree, wrote, turnedDown, fit, outcomeOf,
-  outcomeOn, step
+  Stepped,
+  changed,
+  unchanged,
+  noPlace,
+  isPredicate,
+  stepChange,
+  stepFound,
+  stepTree,
+  wrote,
+  turnedDown,
+  fit,
+  outcomeOf,
+  outcomeOn,
+  step,
 }
 use Rattle.step.proofs.Places.{AcceptedIn, accepted-at, Stays, accepted-replaced}
 
@@ -60,8 +72,16 @@ step-inv t k place u e = on-found (find t [] k) refl e
   where
     on-change : (Γ : Ctx) (v : Tree) → find t [] k ≡ found Γ v → isPredicate v ≡ true → (c : Change) → dispatch Γ v ≡ c
         → stepChange t k c ≡ changed place u → StepInv t k place u
-    on-change Γ v f p (to q w) d e = record { Γ = Γ; old = v; new = w; there = f; is-predicate = p; rule = d ∙
-          (let y : q ≡ place = cc in ap (λ (i : ℕ). to i w) y); result = cc }
+    on-change Γ v f p (to q w) d e = record {
+      Γ = Γ;
+      old = v;
+      new = w;
+      there = f;
+      is-predicate = p;
+      rule = d ∙
+          (let y : q ≡ place = cc in ap (λ (i : ℕ). to i w) y);
+      result = cc;
+    }
     on-change Γ v f p same d e = let z : _≡_ {A = ℕ} 0 1 = cc in absurd (omega arith)
 
     on-sort : (Γ : Ctx) (v : Tree) → find t [] k ≡ found Γ v → (b : Bool) → isPredicate v ≡ b
@@ -146,8 +166,18 @@ step-wrote s b k c xs e = on-check (check s) refl e
         let f = fit-wrote c (enc u) xs e in
         let l : length xs ≤ frameLimit = rw (f .0) at (f .1) in
         let w = step-accepted (signature t) t k p u (a .accepted) x in
-        record { old = t; place = p; new = u; accepts = a; stepped = x; bytes = sym (f .0); fits = l; stays = w; checks = rw (← (f .0))
-              (check-back (signature t) u w (f .1)) }
+        record {
+          old = t;
+          place = p;
+          new = u;
+          accepts = a;
+          stepped = x;
+          bytes = sym (f .0);
+          fits = l;
+          stays = w;
+          checks = rw (← (f .0))
+              (check-back (signature t) u w (f .1));
+        }
     on-step t a unchanged x e = let z : _≡_ {A = ℕ} 0 1 = cc in absurd (omega arith)
     on-step t a noPlace x e = let z : _≡_ {A = ℕ} 0 1 = cc in absurd (omega arith)
 

@@ -30,8 +30,20 @@ use Rattle.decision.specs.Decision.{Means}
 use Rattle.decision.proofs.Series.{none-first, changes}
 use Rattle.decision.specs.declared.Decision.{Decision}
 use Rattle.step.specs.Step.{
-  noPlace, isPredicate, stepFound, stepTree, Outcome, wrote, kept, turnedDown, fit, outcomeOf, outcomeOn, step, stepAnswer,
-  stepOutput
+  noPlace,
+  isPredicate,
+  stepFound,
+  stepTree,
+  Outcome,
+  wrote,
+  kept,
+  turnedDown,
+  fit,
+  outcomeOf,
+  outcomeOn,
+  step,
+  stepAnswer,
+  stepOutput,
 }
 use Rattle.step.specs.declared.StepAnswer.{StepAnswer}
 use Rattle.step.specs.declared.StepAnswer.the-variants as A
@@ -102,7 +114,7 @@ module _ (s : List ℕ) (n : ℕ) (st leaves : List ℕ) (p : HeldPre s n st lea
             held-rests r er z =
                 let c = none-first (p .t) (here .1 .0) (here .0) kp d (dispatch (here .0) (here .1 .0)) (sym er ∙ z) means in
                 ends kept (stepped ∙ ap (outcomeOf (length o)) (step-predicate (p .t) k (here .0) (here .1 .0) (here .1 .1) is-pred same c))
-                    A.Unchanged refl o refl
+                A.Unchanged refl o refl
 
             decided : Decided (p .t) k kp d
             decided = record { Γ = here .0; v = here .1 .0; there = here .1 .1; is-predicate = is-pred; means = means }
@@ -127,8 +139,8 @@ module _ (s : List ℕ) (n : ℕ) (st leaves : List ℕ) (p : HeldPre s n st lea
                     let u = enc (replace (p .t) k (change .1 .0)) in
                     let w = po .done u new-bytes in
                     ends (fit (length o) u) (stepped ∙ ap (outcomeOf (length o))
-                          (step-predicate (p .t) k (here .0) (here .1 .0) (here .1 .1) is-pred (to (change .0) (change .1 .0))
-                            (change .1 .1))) a (w .0) q (w .1)
+                    (step-predicate (p .t) k (here .0) (here .1 .0) (here .1 .1) is-pred (to (change .0) (change .1 .0))
+                    (change .1 .1))) a (w .0) q (w .1)
 
 -- ---- `step_read`
 module _ (s : List ℕ) (k : ℕ) (o : List ℕ) where

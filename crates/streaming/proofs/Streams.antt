@@ -73,7 +73,7 @@ module _ (s : List ℕ) (at : ℕ) where
       let y : at + k ≡ i = omega arith in
       let g : getD d k 0 ≡ getD s i 0 = getD-drop at s k 0 ∙ ap (λ (j : ℕ). getD s j 0) y in
       let e : take (i + 1 - at) d ≡ take k d ++ (getD s i 0 ∷ []) = ap (λ (j : ℕ). take j d) z ∙ take-suc d k 0
-          (omega (arith, length-drop at s)) ∙ ap (λ (x : ℕ). take k d ++ (x ∷ [])) g in
+      (omega (arith, length-drop at s)) ∙ ap (λ (x : ℕ). take k d ++ (x ∷ [])) g in
       subst NoEnd (sym e) (no-end-more (take k d) (getD s i 0) h n)
 
 -- ---- `feed`
@@ -104,7 +104,7 @@ module _ (piece : List ℕ) (st : LineState) (b o : List ℕ) where
           ap (λ (x : List ℕ). answers x held) line-part
           ∙ answers-join (take at piece) (take (e - at) (drop at piece)) held
           ∙ ap (λ (x : List ℕ). answers (take at piece) held ++ x)
-              (none-answers (take (e - at) (drop at piece)) (lastLine (take at piece) held) (end .none) .0)
+          (none-answers (take (e - at) (drop at piece)) (lastLine (take at piece) held) (end .none) .0)
           ∙ append-nil (answers (take at piece) held) in
           appends-as o 0 (answers (take at piece) held) (answers (take e piece) held) o' n (sym z) (f .puts held h)
           );
@@ -125,7 +125,7 @@ module _ (piece : List ℕ) (st : LineState) (b o : List ℕ) where
           ∙ last-join (take e piece) (newline ∷ []) held
           ∙ end-answers (lastLine (take e piece) held) .1 in
           let k : length b' ≡ frameLimit = ap (λ (x : List ℕ). length x) (w .buffer) ∙ length-sets (w .old) 0
-              (take frameLimit (lineBytes (lastLine (take e piece) held))) ∙ w .long in
+          (take frameLimit (lineBytes (lastLine (take e piece) held))) ∙ w .long in
           subst (λ (x : List ℕ). Holds st'' b' x) (sym z) (record { old = b'; long = k; state = es; buffer = refl })
           );
       puts = λ held h. (
@@ -134,7 +134,7 @@ module _ (piece : List ℕ) (st : LineState) (b o : List ℕ) where
           ∙ answers-join (take e piece) (newline ∷ []) held
           ∙ ap (λ (x : List ℕ). answers (take e piece) held ++ x) (end-answers (lastLine (take e piece) held) .0) in
           let a = appends-then o 0 (answers (take e piece) held) o' n (lineText (lastLine (take e piece) held)) p m (f .puts held h)
-              (q .puts (lastLine (take e piece) held) (f .line held h)) in
+          (q .puts (lastLine (take e piece) held) (f .line held h)) in
           appends-as o 0 (answers (take e piece) held ++ lineText (lastLine (take e piece) held)) (answers (take (e + 1) piece) held) p m (sym z) a
           );
     }

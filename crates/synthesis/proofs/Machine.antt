@@ -41,9 +41,9 @@ module _ (g n : ℕ) (us : List Ty) (Γ : Ctx) (ts : List Ty) where
       let e : ts ++ (t ∷ typesIn ks Γ′) ≡ (ts ++ (t ∷ [])) ++ typesIn ks Γ′ = sym (append-assoc ts (t ∷ []) (typesIn ks Γ′)) in
       close-up (opened g n us Γ ts (cons k ks)) ps
       ∙ swapped (nodeTyped g n us Γ (ts ++ (t ∷ typesIn ks Γ′))) (typedTree k Γ′) (typedForest ks Γ′)
-          (deliver (result (classOf g) n us Γ (ts ++ (t ∷ typesIn ks Γ′))) ps)
+      (deliver (result (classOf g) n us Γ (ts ++ (t ∷ typesIn ks Γ′))) ps)
       ∙ ap (λ (l : List Ty). pick (typedTree k Γ′) (pick (nodeTyped g n us Γ l && typedForest ks Γ′)
-              (deliver (result (classOf g) n us Γ l) ps) bad) bad) e
+      (deliver (result (classOf g) n us Γ l) ps) bad) bad) e
       ∙ ap (λ (a : Answer). pick (typedTree k Γ′) a bad) (sym (close-up (given (opened g n us Γ ts ks) t) ps))
       ∙ sym (close-up (opened h m vs Γ′ [] ls) (opened g n us Γ ts ks ∷ ps))
 

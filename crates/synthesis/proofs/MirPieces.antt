@@ -3,7 +3,25 @@
 use Prim.Native.Nat.{ℕ, zero, suc}
 use mathlib.Core.List.{[], _∷_, List}
 use package.mir.Syntax.{
-  Ty, tyUnit, Local, local, Body, skip, seq, assign, block, loop, cond, switch, exit, return, call, Arms, arm, default, noDefault
+  Ty,
+  tyUnit,
+  Local,
+  local,
+  Body,
+  skip,
+  seq,
+  assign,
+  block,
+  loop,
+  cond,
+  switch,
+  exit,
+  return,
+  call,
+  Arms,
+  arm,
+  default,
+  noDefault,
 }
 
 abbrev pub tyIn : List Local → ℕ → Ty

@@ -83,7 +83,7 @@ module _ (s : List ℕ) (at : ℕ) (e : Sort) (t : Tree) (q : ℕ) where
       let d = tree-down s e at t q (w .0) (w .1) in
       let v = d .1 in
       view-of (v .top) (v .from) (v .sorts) (v .kids) (d .0) (v .headed) (v .below) (v .is) tag n tp p k a b
-          (sym hi ∙ eh ∙ ap (headAnswer (typesAt s at)) (v .headed))
+      (sym hi ∙ eh ∙ ap (headAnswer (typesAt s at)) (v .headed))
 
   refused-of {ℓ} : {X : Type ℓ} (top : Head) (p : ℕ) (es : List Sort) (c : ℕ) → H.Refused c ≡ headAnswer (typesAt s at) (okH top p es) → X
   refused-of (head g m us) p es c eq = let z : _≡_ {A = ℕ} 0 1 = cc in absurd (omega arith)
@@ -121,10 +121,12 @@ module _ (s : List ℕ) (bs : Bytes s) (at : ℕ) (e : Sort) (t : Tree) (q tag n
       let z = read .is in
       let a : read .tag ≡ tag = cc in
       let b : read .own ≡ n = cc in
-      let c : read .ts ≡ v .us = cc in
-      (v .counted ∙ ap length (read .sorts ∙ subst₃ (λ (i j : ℕ) (l : List Ty). sortsOf (formOf i .layout)
-                (numberIn i j l (count (v .ks))) ≡ sortsOf (formOf tag .layout) (numberIn tag n (v .us) (count (v .ks)))) (sym a) (sym b)
-              (sym c) refl), formed .range)
+      let c : read .ts ≡ v .us = cc in (
+        v .counted ∙ ap length (read .sorts ∙ subst₃ (λ (i j : ℕ) (l : List Ty). sortsOf (formOf i .layout)
+            (numberIn i j l (count (v .ks))) ≡ sortsOf (formOf tag .layout) (numberIn tag n (v .us) (count (v .ks)))) (sym a) (sym b)
+            (sym c) refl),
+        formed .range,
+      )
 
   pub view-past : (at + 2 ≤ p) × (p ≤ length s)
   view-past = (read .past, read .span .within)
@@ -139,15 +141,17 @@ module _ (s : List ℕ) (bs : Bytes s) (at : ℕ) (e : Sort) (t : Tree) (q tag n
         let g = bound-only tag h (ltb tag 902) refl in
         let l = subst (λ (x : Tree). LeafAt x Γ s leaf) (v .is) lf in
         subst (λ (b : Bool). pick {X = Type 0} b (Spans s leaf (leaf + length (encTy (typeAt Γ n))) (encTy (typeAt Γ n)))
-              (Unit {0})) (eq-eqb tag 3 g) l
+        (Unit {0})) (eq-eqb tag 3 g) l
 
     of-carried : 0 < ruleNumber (classOf tag) → ruleNumber (classOf tag) < 6 → (x : ℕ) × Spans s tp x (encTy (carriedTy (v .us)))
     unfolding encTys
     of-carried l h =
         let o = one-type (v .us) (formed .many ∙ carries-one (classOf tag) _ l h) in
-        let a = subst (λ (us : List Ty). Spans s tp p (encTys us)) (o .1) carried-span in
-        (tp + length (encTy (o .0)), subst (λ (us : List Ty). Spans s tp (tp + length (encTy (o .0))) (encTy (carriedTy us))) (sym (o .1))
-              (span-left (encTy (o .0)) [] a))
+        let a = subst (λ (us : List Ty). Spans s tp p (encTys us)) (o .1) carried-span in (
+          tp + length (encTy (o .0)),
+          subst (λ (us : List Ty). Spans s tp (tp + length (encTy (o .0))) (encTy (carriedTy us))) (sym (o .1))
+              (span-left (encTy (o .0)) [] a),
+        )
 
     pub own-at : OwnAt (classOf tag) n (v .us) Γ s (ownPlace (classOf tag) tp leaf)
     own-at = record { stands = λ u eq. by (eqb (ruleNumber (classOf tag)) 6) refl u eq }
@@ -201,9 +205,11 @@ module _ (s : List ℕ) (bs : Bytes s) (at leaf : ℕ) (t₀ l₀ f₀ : List �
     pub open-small : OpenPre s at leaf o end → (tag < 65536) × (k < 65536) × (end < 4294967296)
     unfolding nodes
     open-small x =
-        let v = seen (x .sort) (x .tree) (x .to) (x .stands) in
-        (formed s bs at (x .sort) (x .tree) (x .to) tag n tp p k v .small,
-              omega (arith, v .many, count-few (v .ks), ap nodes (v .is), x .few), omega (arith, x .low))
+        let v = seen (x .sort) (x .tree) (x .to) (x .stands) in (
+          formed s bs at (x .sort) (x .tree) (x .to) tag n tp p k v .small,
+          omega (arith, v .many, count-few (v .ks), ap nodes (v .is), x .few),
+          omega (arith, x .low),
+        )
 
     module _ (types : List ℕ) (r : Typed) (op : OwnPost (classOf tag) s (ownPlace (classOf tag) tp leaf) o end types r) where
       owning : (e : Sort) (t : Tree) (q : ℕ) (Γ : Ctx) (w : IsAt s e at t q) → LeafAt t Γ s leaf

@@ -38,9 +38,11 @@ type-wf s bs (given n) at e a =
     omega (arith, f .byte, bs (at + 1))
 type-wf s bs (pow t) at e a = type-wf s bs t (at + 1) e (span-first a .rest)
 type-wf s bs (prod t u) at e a =
-    let r = span-first a .rest in
-    (type-wf s bs t (at + 1) (at + 1 + length (encTy t)) (span-left (encTy t) (encTy u) r), type-wf s bs u (at + 1 + length (encTy t)) e
-          (span-right (encTy t) (encTy u) r))
+    let r = span-first a .rest in (
+      type-wf s bs t (at + 1) (at + 1 + length (encTy t)) (span-left (encTy t) (encTy u) r),
+      type-wf s bs u (at + 1 + length (encTy t)) e
+          (span-right (encTy t) (encTy u) r),
+    )
 
 -- ---- put_type
 module _ (s : List ℕ) (p : ℕ) (types : List ℕ) (end q : ℕ) (en : EndOf s p q) where
@@ -53,9 +55,13 @@ module _ (s : List ℕ) (p : ℕ) (types : List ℕ) (end q : ℕ) (en : EndOf s
   pub put-is : PutPre s p types end → q - p ≤ 64 → (o : List ℕ) → Copied s p (q - p) types o end → PutPost s p types end o (T.Is (end + (q - p)))
   put-is a h o c =
       record {
-        answer = λ u e b. (let z = en .is u e b in
-            (omega (arith, b .long), omega (arith, b .long), copied-span (q - p) types o end (omega (arith, z)) b c
-                  (omega (arith, a .room)), record { long = c .long; low = c .low }));
+        answer = λ u e b. (let z = en .is u e b in (
+          omega (arith, b .long),
+          omega (arith, b .long),
+          copied-span (q - p) types o end (omega (arith, z)) b c
+              (omega (arith, a .room)),
+          record { long = c .long; low = c .low },
+        ));
       }
 
 -- ---- own_type
@@ -70,9 +76,15 @@ module _ (c : Class) (s : List ℕ) (p : ℕ) (types : List ℕ) (end : ℕ) whe
     owned : (r : Typed) (o : List ℕ) (n : ℕ) (us : List Ty) (Γ : Ctx) (u : Ty) → ownTypes c n us Γ ≡ u ∷ [] → TyWf u
         → Putting r u types end o → Owning r c n us Γ types end o
     unfolding encTys
-    owned (T.Is m) o n us Γ u z w a =
-        (subst (RowAt o end m) (sym z) (record { span = subst (λ (xs : List ℕ). Spans o end m xs) (sym (append-nil (encTy u)))
-                  (a .2); fit = (w, tt) }), omega (arith, a .0, a .1), a .3)
+    owned (T.Is m) o n us Γ u z w a = (
+      subst (RowAt o end m) (sym z) (record {
+        span = subst (λ (xs : List ℕ). Spans o end m xs) (sym (append-nil (encTy u)))
+            (a .2);
+        fit = (w, tt);
+      }),
+      omega (arith, a .0, a .1),
+      a .3,
+    )
     owned T.Bad o n us Γ u z w a = (u, z, a)
 
     pub own-put : (o : List ℕ) (r : Typed) → PutPost s p types end o r → OwnPost c s p types end o r
@@ -87,9 +99,11 @@ module _ (c : Class) (s : List ℕ) (p : ℕ) (types : List ℕ) (end : ℕ) whe
   unfolding encTys
   own-none f a =
       record {
-        answer = λ n us Γ own.
-            (subst (RowAt types end end) (sym (f n us Γ)) (record { span = span-nil (omega (arith, a .room)); fit = tt }), omega arith,
-                  record { long = refl; low = λ j h. refl });
+        answer = λ n us Γ own. (
+          subst (RowAt types end end) (sym (f n us Γ)) (record { span = span-nil (omega (arith, a .room)); fit = tt }),
+          omega arith,
+          record { long = refl; low = λ j h. refl },
+        );
       }
 
 -- by the number of the rule

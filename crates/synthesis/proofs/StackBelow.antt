@@ -41,8 +41,11 @@ tys-snoc (u ∷ us) t = ap (λ (xs : List ℕ). encTy u ++ xs) (tys-snoc us t) �
 pub row-more : (o p : List ℕ) (at n m : ℕ) (us : List Ty) (t : Ty) → Kept o p n → RowAt o at n us → Spans p n m (encTy t) → TyWf t
     → RowAt p at m (us ++ (t ∷ []))
 row-more o p at n m us t k r a w =
-    record { span = subst (λ (xs : List ℕ). Spans p at m xs) (sym (tys-snoc us t))
-          (span-join (row-kept o p at n us k r .span) a); fit = fit-snoc us t (r .fit) w }
+    record {
+      span = subst (λ (xs : List ℕ). Spans p at m xs) (sym (tys-snoc us t))
+          (span-join (row-kept o p at n us k r .span) a);
+      fit = fit-snoc us t (r .fit) w;
+    }
 
 -- the types that an open node has in the buffer
 abbrev pub shown : Open → List Ty
@@ -79,17 +82,24 @@ module _ (s leaves : List ℕ) (base stop : ℕ) (t l f types t₁ l₁ f₁ typ
   pub stack-kept : (out : ℕ) (o : Open) (ps : List Open) (n at k : ℕ) → Agree t t₁ (length ps) → Agree l l₁ (length ps)
       → Agree f f₁ (length ps) → Kept types types₁ n → Stack t l f s leaves types base stop out o ps n at k
       → Stack t₁ l₁ f₁ s leaves types₁ base stop out o ps n at k
-  stack-kept out o [] n at k at₁ al af kept h =
-      (h .0, held-kept out o 0 n at (h .0) k (at₁ 0 (omega arith)) (al 0 (omega arith)) (af 0 (omega arith)) kept
-            (h .1), h .2, af 0 (omega arith) ∙ h .3)
+  stack-kept out o [] n at k at₁ al af kept h = (
+    h .0,
+    held-kept out o 0 n at (h .0) k (at₁ 0 (omega arith)) (al 0 (omega arith)) (af 0 (omega arith)) kept
+        (h .1),
+    h .2,
+    af 0 (omega arith) ∙ h .3,
+  )
   stack-kept out o (p ∷ ps) n at k at₁ al af kept h =
       let d = suc (length ps) in
       let e = af d (omega arith) in
       let g = stack-kept 1 p ps (getD f d 0) (h .0) (k + nodesIn (o .todo)) (agree-less t t₁ d (length ps) (omega arith) at₁)
-          (agree-less l l₁ d (length ps) (omega arith) al) (agree-less f f₁ d (length ps) (omega arith) af)
-      (kept-less types types₁ (getD f d 0) n (row-low types (getD f d 0) n (shown o) (h .1 .row)) kept) (h .2) in
-      (h .0, held-kept out o d n at (h .0) k (at₁ d (omega arith)) (al d (omega arith)) e kept (h .1), subst
-            (λ (i : ℕ). Stack t₁ l₁ f₁ s leaves types₁ base stop 1 p ps i (h .0) (k + nodesIn (o .todo))) (sym e) g)
+      (agree-less l l₁ d (length ps) (omega arith) al) (agree-less f f₁ d (length ps) (omega arith) af)
+      (kept-less types types₁ (getD f d 0) n (row-low types (getD f d 0) n (shown o) (h .1 .row)) kept) (h .2) in (
+        h .0,
+        held-kept out o d n at (h .0) k (at₁ d (omega arith)) (al d (omega arith)) e kept (h .1),
+        subst
+            (λ (i : ℕ). Stack t₁ l₁ f₁ s leaves types₁ base stop 1 p ps i (h .0) (k + nodesIn (o .todo))) (sym e) g,
+      )
 
 module _ (t l f s leaves types : List ℕ) (base stop : ℕ) where
   abbrev pub St : ℕ → Open → List Open → ℕ → ℕ → ℕ → Type 0
@@ -119,7 +129,7 @@ module _ (t l f s leaves types : List ℕ) (base stop : ℕ) where
   held-given types₁ p d from m at q k u h kept a w =
       let own = ownTypes (classOf (p .tag)) (p .payload) (p .types) (p .ctx) in
       let z : 1 + length (p .done) + count (p .todo) ≡ 0 + length (p .done ++ (u ∷ [])) + count
-          (p .todo) = omega (arith, length-append (p .done) (u ∷ [])) in
+      (p .todo) = omega (arith, length-append (p .done) (u ∷ [])) in
       record {
         tag = h .tag;
         left = h .left;

@@ -82,7 +82,7 @@ module _ (t l f s leaves types : List ℕ) (st : State) where
         let h = run .stack in
         let k = h .1 in
         let q : h .0 ≡ st .at = kids-none t l f s leaves types base stop (k .sorts) (st .at) (h .0) (k .kids .0)
-            (subst (λ (ks : Forest). readMany (k .sorts) (readNode (k .kids .0) s) (st .at) ≡ okF ks (h .0)) z (k .kids .1)) in
+        (subst (λ (ks : Forest). readMany (k .sorts) (readNode (k .kids .0) s) (st .at) ≡ okF ks (h .0)) z (k .kids .1)) in
         let y : st .place + nodesIn (o .todo) ≡ st .place = omega (arith, ap nodesIn z) in
         let e : getD f (suc (length ps)) 0 ≡ from = ap (λ (d : ℕ). getD f d 0) (sym (run .top)) in
         let below = subst₃ (λ (i j w : ℕ). Stack t l f s leaves types base stop 1 p ps i j w) e q y (h .2) in
@@ -299,7 +299,7 @@ module _ (t l f s leaves types : List ℕ) (bs : Bytes s) (st : State) (left : g
           let a = kid-at base stop o ps run .1 in
           bad-kid o ps (n .0) (n .1) (n .2)
           (subst (λ (x : Opened). Opening x s (st .at) (n .0) (a .mid) (inner o) t (set l (st .top) (getD l (st .top) 0 - 1)) f
-                  (st .top + 1) types (st .end) t₁ l₁ f₁ types₁) er (opening base stop o ps run (a .sort) (a .mid) (a .tree))));
+          (st .top + 1) types (st .end) t₁ l₁ f₁ types₁) er (opening base stop o ps run (a .sort) (a .mid) (a .tree))));
     }
 
     module _ (p m : ℕ) (nd₁ : OpenNode) (er : r ≡ O.To p m nd₁) where
@@ -326,11 +326,11 @@ module _ (t l f s leaves types : List ℕ) (bs : Bytes s) (st : State) (left : g
           let zt : getD t₁ d 0 ≡ g = ap (λ (a : List ℕ). getD a d 0) (nd .tags ∙ ap (λ (i : ℕ). set t i g) e) ∙ getD-set-same t d g 0 (omega (arith, run .lent .of-tags, sp .0)) in
           let l₀ = set l (st .top) (getD l (st .top) 0 - 1) in
           let zl : getD l₁ d 0 ≡ count ls = ap (λ (a : List ℕ). getD a d 0)
-              (nd .lefts ∙ ap (λ (i : ℕ). set l₀ i (count ls)) e) ∙ getD-set-same l₀ d (count ls) 0
-              (omega (arith, length-set l (st .top) (getD l (st .top) 0 - 1), run .lent .of-lefts, sp .0)) in
+          (nd .lefts ∙ ap (λ (i : ℕ). set l₀ i (count ls)) e) ∙ getD-set-same l₀ d (count ls) 0
+          (omega (arith, length-set l (st .top) (getD l (st .top) 0 - 1), run .lent .of-lefts, sp .0)) in
           let zf : getD f₁ d 0 ≡ st .end = ap (λ (a : List ℕ). getD a d 0)
-              (nd .froms ∙ ap (λ (i : ℕ). set f i (st .end)) e) ∙ getD-set-same f d (st .end) 0
-              (omega (arith, run .lent .of-froms, sp .0)) in
+          (nd .froms ∙ ap (λ (i : ℕ). set f i (st .end)) e) ∙ getD-set-same f d (st .end) 0
+          (omega (arith, run .lent .of-froms, sp .0)) in
           let held : Held t₁ l₁ f₁ s leaves types₁ base 0 o₁ d m p mid (st .place + 1) = record {
             tag = zt;
             left = zl;
@@ -362,14 +362,14 @@ module _ (t l f s leaves types : List ℕ) (bs : Bytes s) (st : State) (left : g
             buffer = omega (arith, nd .kept .long, run .buffer);
           } in
           let same = sym (ap (λ (x : Forest). closeUp (without o x) ps) (z ∙ ap (λ (x : Tree). cons x ks) (nd .is)) ∙ machine-push (o .tag)
-                (o .payload) (o .types) (o .ctx) (o .done) g n us ls ks ps) in
+          (o .payload) (o .types) (o .ctx) (o .done) g n us ls ks ps) in
           (o₁, without o ks ∷ ps, on, same, omega (arith, nd .past, nd .within))
 
       made : (base stop : ℕ) (o : Open) (ps : List Open) (run : Running t l f s leaves types st base stop o ps) (e : Sort) (mid : ℕ) → IsAt s e (st .at) (next-kid base stop o ps run .0) mid
           → NodeOpen s (st .at) (next-kid base stop o ps run .0) mid (inner o) t (set l (st .top) (getD l (st .top) 0 - 1)) f (st .top + 1) types (st .end) t₁ l₁ f₁ types₁ p m
       made base stop o ps run e mid w =
           subst (λ (x : Opened). Opening x s (st .at) (next-kid base stop o ps run .0) mid (inner o) t
-                (set l (st .top) (getD l (st .top) 0 - 1)) f (st .top + 1) types (st .end) t₁ l₁ f₁ types₁) er
+          (set l (st .top) (getD l (st .top) 0 - 1)) f (st .top + 1) types (st .end) t₁ l₁ f₁ types₁) er
           (opening base stop o ps run e mid w)
 
       pub turn-open : (u₁ c₁ : OpenNode) → TurnPost t l f s leaves types st t₁ l₁ f₁ types₁ (U.Down u₁ c₁ next)
@@ -380,7 +380,7 @@ module _ (t l f s leaves types : List ℕ) (bs : Bytes s) (st : State) (left : g
             let nd = made base stop o ps run (a .1 .sort) (a .1 .mid) (a .1 .tree) in
             let e : st .top + 1 ≡ suc (length ps) = omega (arith, run .top) in
             let b = below-stack s leaves bs base stop t l f types (run .lent) t₁ l₁ f₁ types₁ o (k .0) (k .1) (k .2) (nd .tag)
-                (count (nd .kids)) ps (st .end) (st .at) (st .place) (run .stack)
+            (count (nd .kids)) ps (st .end) (st .at) (st .place) (run .stack)
             (omega (arith, run .top, open-room base stop o ps run .0))
             (nd .tags ∙ ap (λ (i : ℕ). set t i (nd .tag)) e)
             (nd .lefts ∙ ap₂ (λ (i j : ℕ). set (set l i (getD l i 0 - 1)) j (count (nd .kids))) (run .top) e)

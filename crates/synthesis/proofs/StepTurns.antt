@@ -17,8 +17,25 @@ use Rattle.patterns.specs.PatternPosts.{JudgePre, Judging, JudgePost}
 use Rattle.synthesis.specs.Machine.{Open, closeUp}
 use Rattle.synthesis.specs.OpenNodes.{noNode}
 use Rattle.synthesis.specs.TypingPosts.{
-  OpenPre, NodePost, closedTo, Closing, ClosePost, Running, stepsLeft, Ending, Turning, TurnPost, Top, StepPre, tagsAfter,
-  leftsAfter, fromsAfter, Moving, StepPost, TurnsPre, TurnsPost
+  OpenPre,
+  NodePost,
+  closedTo,
+  Closing,
+  ClosePost,
+  Running,
+  stepsLeft,
+  Ending,
+  Turning,
+  TurnPost,
+  Top,
+  StepPre,
+  tagsAfter,
+  leftsAfter,
+  fromsAfter,
+  Moving,
+  StepPost,
+  TurnsPre,
+  TurnsPost,
 }
 use Rattle.patterns.specs.declared.Typed.{Typed}
 use Rattle.patterns.specs.declared.Typed.the-variants as T
@@ -30,7 +47,16 @@ use Rattle.synthesis.specs.declared.Opened.{Opened}
 use Rattle.synthesis.specs.declared.Opened.the-variants as O
 use Rattle.synthesis.proofs.StackBelow.{shown}
 use Rattle.synthesis.proofs.StackTurns.{
-  top-held, turn-room, close-pre, turn-close, turn-space, open-pre, turn-bad, turn-open, close-as, judge-as
+  top-held,
+  turn-room,
+  close-pre,
+  turn-close,
+  turn-space,
+  open-pre,
+  turn-bad,
+  turn-open,
+  close-as,
+  judge-as,
 }
 
 -- ---- a turn
@@ -47,8 +73,13 @@ module _ (nd : OpenNode) (s leaves types : List ℕ) (st : State) where
 
   closes-to : (b : Bool) (m : ℕ) → eqb (st .top) 0 ≡ b → Closes (closedTo b st m)
   closes-to true m e = record { moves = tt; same-tags = λ t. refl; same-lefts = λ l. refl; same-froms = λ f. refl }
-  closes-to false m e = record { moves = let z = eqb-false (st .top) 0 e in
-        omega arith; same-tags = λ t. refl; same-lefts = λ l. refl; same-froms = λ f. refl }
+  closes-to false m e = record {
+    moves = let z = eqb-false (st .top) 0 e in
+        omega arith;
+    same-tags = λ t. refl;
+    same-lefts = λ l. refl;
+    same-froms = λ f. refl;
+  }
 
   closes-by : (j : Judged) (from : ℕ) (p : List ℕ) (r : Turned) → Closing j st types from p r → Closes r
   closes-by (typed xs) from p r a = subst Closes (sym (a .0)) (closes-to (eqb (st .top) 0) (from + length xs) refl)
@@ -85,8 +116,10 @@ module _ (nd : OpenNode) (s leaves types : List ℕ) (st : State) where
         moves = tt;
         turned = λ t l f w. (
             let q = turn-bad t l f s leaves types bs st (λ z. left (sym (w .of-left) ∙ z)) leaf el in
-            record { answer = λ base stop o ps run. q _ _ _ types₁ r
-                  (np .opens t (set l (st .top) (getD l (st .top) 0 - 1)) f (st .top + 1)) er .answer base stop o ps run });
+            record {
+              answer = λ base stop o ps run. q _ _ _ types₁ r
+                  (np .opens t (set l (st .top) (getD l (st .top) 0 - 1)) f (st .top + 1)) er .answer base stop o ps run;
+            });
       }
 
       module _ (p m : ℕ) (c : OpenNode) (er : r ≡ O.To p m c) where
@@ -105,9 +138,9 @@ module _ (nd : OpenNode) (s leaves types : List ℕ) (st : State) where
                   let i = st .top in
                   let a = turn-open t l f s leaves types bs st (λ z. left (sym (w .of-left) ∙ z)) leaf el
                   (set t (i + 1) (c .tag)) (set (set l i (getD l i 0 - 1)) (i + 1) (c .left)) (set f (i + 1) (c .from)) types₁ (O.To p m c)
-                      (np₁ .opens t (set l i (getD l i 0 - 1)) f (i + 1)) p m c refl under c in
+                  (np₁ .opens t (set l i (getD l i 0 - 1)) f (i + 1)) p m c refl under c in
                   subst (λ (n : ℕ). TurnPost t l f s leaves types st (set t (i + 1) (c .tag)) (set (set l i (n - 1)) (i + 1) (c .left))
-                        (set f (i + 1) (c .from)) types₁ (U.Down under c next)) (w .of-left) a);
+                  (set f (i + 1) (c .from)) types₁ (U.Down under c next)) (w .of-left) a);
             }
 
 -- ---- all turns
@@ -129,7 +162,7 @@ module _ (stack : List OpenNode) (i : ℕ) (room : i + 1 < 2048) (long : length 
   below-at d h true eb =
       let e = eqb-true d i eb in
       let g : getD (set stack i u) d noNode ≡ u = ap (λ (j : ℕ). getD (set stack i u) j noNode) e ∙ getD-set-same stack i u noNode
-          (omega (arith, long, room)) in
+      (omega (arith, long, room)) in
       subst (λ (x : OpenNode). On x d) (sym g)
       (record {
         of-tag = getD-set-other t (i + 1) d (c .tag) 0 (omega arith) ∙ ap (λ (j : ℕ). getD t j 0) e ∙ w .of-tag ∙ sym et;
@@ -168,8 +201,10 @@ pub record Going (nd₀ : OpenNode) (s leaves types₀ : List ℕ) (st₀ : Stat
 
 module _ (nd₀ : OpenNode) (s leaves types₀ : List ℕ) (st₀ : State) where
   pub going-start : st₀ .top ≡ 0 → (stack : List OpenNode) → Going nd₀ s leaves types₀ st₀ stack types₀ nd₀ st₀
-  going-start z stack = record { follows = λ t l f base stop o ps w run.
-        (t, l, f, record { each = λ d h. absurd (omega (arith, z)) }, w, o, ps, run, refl) }
+  going-start z stack = record {
+    follows = λ t l f base stop o ps w run.
+        (t, l, f, record { each = λ d h. absurd (omega (arith, z)) }, w, o, ps, run, refl);
+  }
 
   module _ (pre : TurnsPre nd₀ s leaves types₀ st₀) (stack : List OpenNode) (types : List ℕ) (nd : OpenNode) (st : State)
       (going : Going nd₀ s leaves types₀ st₀ stack types nd st) where
@@ -178,8 +213,14 @@ module _ (nd₀ : OpenNode) (s leaves types₀ : List ℕ) (st₀ : State) where
         let x = pre .step in
         let y = x .turn in
         let a = going .follows (x .tags) (x .lefts) (x .froms) (y .base) (y .stop) (y .o) (y .ps) (x .at-top) (y .running) in
-        record { tags = a .0; lefts = a .1; froms = a .2; at-top = a .4; turn = record
-              { base = y .base; stop = y .stop; o = a .5; ps = a .6; running = a .7 } }
+        record {
+          tags = a .0;
+          lefts = a .1;
+          froms = a .2;
+          at-top = a .4;
+          turn = record
+              { base = y .base; stop = y .stop; o = a .5; ps = a .6; running = a .7 };
+        }
 
     pub going-room : st .top < 2048
     going-room = let x = going-step in let y = x .turn in turn-room (x .tags) (x .lefts) (x .froms) s leaves types st (y .base) (y .stop)
@@ -201,7 +242,7 @@ module _ (nd₀ : OpenNode) (s leaves types₀ : List ℕ) (st₀ : State) where
       abbrev Turned-at : Turned → Type 0
       Turned-at r₁ = let x = going-step in let y = x .turn in
           Turning r₁ (tagsAfter r₁ (x .tags) (st .top)) (leftsAfter r₁ (x .lefts) (st .top))
-              (fromsAfter r₁ (x .froms) (st .top)) s leaves types₁ st (y .base) (y .stop) (closeUp (y .o) (y .ps))
+          (fromsAfter r₁ (x .froms) (st .top)) s leaves types₁ st (y .base) (y .stop) (closeUp (y .o) (y .ps))
 
       turned-at : (r₁ : Turned) → r ≡ r₁ → Turned-at r₁
       turned-at r₁ er = let x = going-step in let y = x .turn in
@@ -227,9 +268,18 @@ module _ (nd₀ : OpenNode) (s leaves types₀ : List ℕ) (st₀ : State) where
           follows = λ t₀ l₀ f₀ base stop o₀ ps₀ w run. (
               let a = going .follows t₀ l₀ f₀ base stop o₀ ps₀ w run in
               let b = turns-by (U.Up st₁) er (a .0) (a .1) (a .2) base stop (a .5) (a .6) (a .4) (a .7) in
-              let m : st₁ .top + 1 ≡ st .top = moves-by (U.Up st₁) er in
-              (a .0, a .1, a .2, record { each = λ d h. a .3 .each d (omega (arith, m)) }, a .3 .each (st₁ .top)
-                    (omega (arith, m)), b .0, b .1, b .2, b .3 ∙ a .8));
+              let m : st₁ .top + 1 ≡ st .top = moves-by (U.Up st₁) er in (
+                a .0,
+                a .1,
+                a .2,
+                record { each = λ d h. a .3 .each d (omega (arith, m)) },
+                a .3 .each (st₁ .top)
+                    (omega (arith, m)),
+                b .0,
+                b .1,
+                b .2,
+                b .3 ∙ a .8,
+              ));
         }
 
       module _ (u c : OpenNode) (st₁ : State) (er : r ≡ U.Down u c st₁) where
@@ -253,9 +303,18 @@ module _ (nd₀ : OpenNode) (s leaves types₀ : List ℕ) (st₀ : State) where
               let lent = a .7 .lent in
               let room : i + 1 < 2048 = omega (arith, e, turn-room t₁ l₁ f₁ s leaves types₁ st₁ base stop (b .0) (b .1) (b .2) .0) in
               let on = below-on stack i room long t l f (lent .of-lefts) nd u c (m .0) (m .1) (a .4) (a .3) in
-              let top = top-on stack i room long t l f (lent .of-lefts) nd u c (m .0) (m .1) (a .4) (a .3) (lent .of-tags) (lent .of-froms) in
-              (t₁, l₁, f₁, subst (λ (j : ℕ). Below (set stack i u) j t₁ l₁ f₁) (sym e) on, subst (λ (j : ℕ). Top c j t₁ l₁ f₁)
-                    (sym e) top, b .0, b .1, b .2, b .3 ∙ a .8));
+              let top = top-on stack i room long t l f (lent .of-lefts) nd u c (m .0) (m .1) (a .4) (a .3) (lent .of-tags) (lent .of-froms) in (
+                t₁,
+                l₁,
+                f₁,
+                subst (λ (j : ℕ). Below (set stack i u) j t₁ l₁ f₁) (sym e) on,
+                subst (λ (j : ℕ). Top c j t₁ l₁ f₁)
+                    (sym e) top,
+                b .0,
+                b .1,
+                b .2,
+                b .3 ∙ a .8,
+              ));
         }
 
 -- ---- a root without operands
@@ -273,6 +332,6 @@ module _ (nd : OpenNode) (s leaves types : List ℕ) (st : State) (pre : TurnsPr
       → JudgePost (ruleAt (classOf tag)) types from (st .end) types₁ r → TurnsPost nd s leaves types st types₁ r
   leaf-turns types₁ bs r tag from eg ef jp =
       let cp : ClosePost tag st types from types₁ (U.Done r) = record
-          { answer = λ ts row. closing from types₁ r (judge (ruleAt (classOf tag)) ts) (jp .answer ts row) } in
+      { answer = λ ts row. closing from types₁ r (judge (ruleAt (classOf tag)) ts) (jp .answer ts row) } in
       going-done nd s leaves types st pre [] types nd st (going-start nd s leaves types st (pre .root) []) types₁ (U.Done r)
       (step-close nd s leaves types st (pre .step) z types₁ bs (U.Done r) tag from eg ef cp) r refl

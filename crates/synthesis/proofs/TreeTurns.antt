@@ -22,8 +22,23 @@ use Rattle.type_rules.specs.Patterns.{Operands}
 use Rattle.frame.specs.At.{IsAt}
 use Rattle.frame.proofs.Extents.{some-node}
 use Rattle.synthesis.specs.TypingPosts.{
-  LeafAt, OpenPre, NodeOpen, Opening, tagsWith, leftsWith, fromsWith, NodePost, Held, Running, Ending, Top, TurnsPre, TurnsPost,
-  TypePre, Typing, TypePost
+  LeafAt,
+  OpenPre,
+  NodeOpen,
+  Opening,
+  tagsWith,
+  leftsWith,
+  fromsWith,
+  NodePost,
+  Held,
+  Running,
+  Ending,
+  Top,
+  TurnsPre,
+  TurnsPost,
+  TypePre,
+  Typing,
+  TypePost,
 }
 use Rattle.patterns.specs.declared.Typed.{Typed}
 use Rattle.patterns.specs.declared.Typed.the-variants as T
@@ -123,9 +138,13 @@ module _ (s : List ℕ) (at place : ℕ) (leaves : List ℕ) where
             top = refl;
             low = omega (arith, nd .short);
             later = omega arith;
-            lent = record { of-tags = ap length (nd .tags) ∙ length-set none 0 g ∙ none-long; of-lefts = ap length
-                  (nd .lefts) ∙ length-set none 0 (count ls) ∙ none-long; of-froms = ap length
-                  (nd .froms) ∙ length-set none 0 0 ∙ none-long };
+            lent = record {
+              of-tags = ap length (nd .tags) ∙ length-set none 0 g ∙ none-long;
+              of-lefts = ap length
+                  (nd .lefts) ∙ length-set none 0 (count ls) ∙ none-long;
+              of-froms = ap length
+                  (nd .froms) ∙ length-set none 0 0 ∙ none-long;
+            };
             frame = frame;
             places = pl;
             buffer = omega (arith, nd .kept .long, bf);
@@ -142,9 +161,18 @@ module _ (s : List ℕ) (at place : ℕ) (leaves : List ℕ) where
       pub tree-turns : TypePre s at place leaves types → TurnsPre root s leaves types₁ start
       tree-turns x =
           let a = started (x .tree) (x .to) (x .Γ) (x .leafs) (x .places) (x .buffer)
-              (opening (O.To p m root) er (x .sort) (x .tree) (x .to) (x .Γ) (x .stands) (x .leafs)) in
-          record { root = refl; step = record { tags = t₁; lefts = l₁; froms = f₁; at-top = at-root; turn = record
-                  { base = a .0; stop = a .1; o = a .2; ps = a .3; running = a .4 } } }
+          (opening (O.To p m root) er (x .sort) (x .tree) (x .to) (x .Γ) (x .stands) (x .leafs)) in
+          record {
+            root = refl;
+            step = record {
+              tags = t₁;
+              lefts = l₁;
+              froms = f₁;
+              at-top = at-root;
+              turn = record
+                  { base = a .0; stop = a .1; o = a .2; ps = a .3; running = a .4 };
+            };
+          }
 
       pub tree-ends : (types₂ : List ℕ) (v : Typed) → length types₂ ≡ length types → TurnsPost root s leaves types₁ start types₂ v
           → TypePost s at place leaves types₂ v
@@ -152,5 +180,5 @@ module _ (s : List ℕ) (at place : ℕ) (leaves : List ℕ) where
         answer = λ e tr q Γ w lv pl bf. (
             let a = started tr q Γ lv pl (omega (arith, ln, bf)) (opening (O.To p m root) er e tr q Γ w lv) in
             ended types₂ v tr Γ (typedTree tr Γ) refl (subst (λ (x : Answer). Ending v x types₂) (a .5)
-                  (tp .ends t₁ l₁ f₁ (a .0) (a .1) (a .2) (a .3) at-root (a .4))));
+            (tp .ends t₁ l₁ f₁ (a .0) (a .1) (a .2) (a .3) at-root (a .4))));
       }

@@ -205,10 +205,10 @@ Ending T.Bad a types = a ≡ bad
 abbrev pub Turning : Turned → List ℕ → List ℕ → List ℕ → List ℕ → List ℕ → List ℕ → State → ℕ → ℕ → Answer → Type 0
 Turning (U.Down u c st) tags lefts froms s leaves types st₀ base stop a =
     (o : Open) × (ps : List Open) × Running tags lefts froms s leaves types st base stop o ps × (closeUp o ps ≡ a)
-        × (stepsLeft s st < stepsLeft s st₀)
+    × (stepsLeft s st < stepsLeft s st₀)
 Turning (U.Up st) tags lefts froms s leaves types st₀ base stop a =
     (o : Open) × (ps : List Open) × Running tags lefts froms s leaves types st base stop o ps × (closeUp o ps ≡ a)
-        × (stepsLeft s st < stepsLeft s st₀)
+    × (stepsLeft s st < stepsLeft s st₀)
 Turning (U.Done t) tags lefts froms s leaves types st₀ base stop a = Ending t a types
 
 pub record TurnPost (t₀ l₀ f₀ s leaves types₀ : List ℕ) (st : State) (t₁ l₁ f₁ types₁ : List ℕ) (r : Turned) : Type 0 where

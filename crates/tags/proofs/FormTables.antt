@@ -10,8 +10,22 @@ use lib.ListN.{length}
 use lib.Dec.{ltb, leb, eqb}
 use borrow.Author.Tests.{leb-true, lt-ltb, lt-leb, le-leb, ne-eqb}
 use Rattle.frame.specs.Tags.{
-  pick, Sort, predicate, expression, sameSort, repeat, Layout, these, payload, counted, binding, width, inRange, payloadOf,
-  typesOf, sortsOf
+  pick,
+  Sort,
+  predicate,
+  expression,
+  sameSort,
+  repeat,
+  Layout,
+  these,
+  payload,
+  counted,
+  binding,
+  width,
+  inRange,
+  payloadOf,
+  typesOf,
+  sortsOf,
 }
 use Rattle.tags.specs.TagCodes.{formAtCode, isExpression, sortFor, firstSort, laterSort, kindsFor, layoutKind, lowOf, highOf, fixedOf}
 use Rattle.frame.proofs.Inversion.{true-not}

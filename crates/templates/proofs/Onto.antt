@@ -45,7 +45,7 @@ head-onto (head g n ts) k zs =
     number-onto 2 g (numberOnto w x (typesOnto ts zs))
     ∙ ap (λ (l : List ℕ). encNumber 2 g ++ l)
     (number-onto w x (typesOnto ts zs) ∙ ap (λ (l : List ℕ). encNumber w x ++ l) (types-onto ts zs) ∙ sym
-          (append-assoc (encNumber w x) (encTys ts) zs))
+    (append-assoc (encNumber w x) (encTys ts) zs))
     ∙ sym (append-assoc (encNumber 2 g) (encNumber w x ++ encTys ts) zs)
 
 unfoldable mutual

@@ -8,11 +8,47 @@ use lib.Dec.{eqb}
 use Rattle.frame.specs.Tags.{pick}
 use Rattle.frame.specs.Encoding.{encNumber}
 use Rattle.frame.specs.Operators.{
-  #SetExt, #Equal, #Lt, #Le, #Gt, #Ge, #SubsetEq, #DomRes, #LImp, #LEqv, #BInter, #LAnd, #LOr, #True, #False, #EmptySet, #BTrue,
-  #BFalse, #Finite, #Not, #KDom, #KRan, #CSet, #Forall, #Exists
+  #SetExt,
+  #Equal,
+  #Lt,
+  #Le,
+  #Gt,
+  #Ge,
+  #SubsetEq,
+  #DomRes,
+  #LImp,
+  #LEqv,
+  #BInter,
+  #LAnd,
+  #LOr,
+  #True,
+  #False,
+  #EmptySet,
+  #BTrue,
+  #BFalse,
+  #Finite,
+  #Not,
+  #KDom,
+  #KRan,
+  #CSet,
+  #Forall,
+  #Exists,
 }
 use Rattle.templates.specs.Template.{
-  Mode, whole, ofDom, ofRan, ofElement, ofElements, ofSource, Part, tag, byte, operand, type, expression, binders
+  Mode,
+  whole,
+  ofDom,
+  ofRan,
+  ofElement,
+  ofElements,
+  ofSource,
+  Part,
+  tag,
+  byte,
+  operand,
+  type,
+  expression,
+  binders,
 }
 
 -- operand i = ∅, and operand i = the type expression of its elements; then more parts

@@ -10,12 +10,60 @@ use lib.Dec.{leb}
 use borrow.Author.Tests.{leb-true}
 use Rattle.frame.specs.Types.{Ty, pow, prod}
 use Rattle.frame.specs.Tags.{
-  pick, Class, literalPred, equality, order, membership, inclusion, binaryPred, associativePred, negation, quantifiedPred, finite,
-  partition, identifier, bound, literal, setExtension, maplet, relationSet, setMinus, cartesian, directProduct, parallelProduct,
-  domainRestriction, rangeRestriction, upTo, arithmetic, functionImage, relationalImage, setOperation, backwardComposition,
-  forwardComposition, override, sum, integerSet, boolSet, truthValue, integerRelation, emptySet, projection1, projection2,
-  identity, boolExpr, cardinal, powerset, generalised, domain, range, extremum, converse, unaryMinus, quantifiedSet,
-  comprehension, unlisted
+  pick,
+  Class,
+  literalPred,
+  equality,
+  order,
+  membership,
+  inclusion,
+  binaryPred,
+  associativePred,
+  negation,
+  quantifiedPred,
+  finite,
+  partition,
+  identifier,
+  bound,
+  literal,
+  setExtension,
+  maplet,
+  relationSet,
+  setMinus,
+  cartesian,
+  directProduct,
+  parallelProduct,
+  domainRestriction,
+  rangeRestriction,
+  upTo,
+  arithmetic,
+  functionImage,
+  relationalImage,
+  setOperation,
+  backwardComposition,
+  forwardComposition,
+  override,
+  sum,
+  integerSet,
+  boolSet,
+  truthValue,
+  integerRelation,
+  emptySet,
+  projection1,
+  projection2,
+  identity,
+  boolExpr,
+  cardinal,
+  powerset,
+  generalised,
+  domain,
+  range,
+  extremum,
+  converse,
+  unaryMinus,
+  quantifiedSet,
+  comprehension,
+  unlisted,
 }
 use Rattle.frame.specs.Encoding.{encTy}
 use Rattle.frame.specs.Places.{Ctx}
@@ -90,7 +138,7 @@ Holds c n us Γ ts =
 pub plain : (c : Class) (n : ℕ) (us : List Ty) (Γ : Ctx) (vs ts : List Ty)
     → judge (ruleAt c) vs ≡ pick (sameTys ts (wants c ts)) (limited (encTy (result c n us Γ ts))) wrong
     → judge (ruleAt c) vs ≡ pick (sameTys ts (wants c ts))
-        (pick (sameTy (carriedTy us) (carriedTy us)) (limited (encTy (result c n us Γ ts))) wrong) wrong
+    (pick (sameTy (carriedTy us) (carriedTy us)) (limited (encTy (result c n us Γ ts))) wrong) wrong
 plain c n us Γ vs ts e = rw (same-ty-refl (carriedTy us)) e
 
 pub single : (t w : Ty) (j v : Judged) → j ≡ pick (sameTy t w) v wrong → j ≡ pick (sameTys (t ∷ []) (w ∷ [])) v wrong

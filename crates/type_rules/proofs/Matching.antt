@@ -15,8 +15,22 @@ use Rattle.frame.proofs.SameTrees.{same-ty}
 use Rattle.frame.proofs.Inversion.{then-of}
 use Rattle.typing.specs.Typing.{ty}
 use Rattle.type_rules.specs.Patterns.{
-  symbolOf, partsOf, Matched, fits, differs, atVariable, matches, Rule, typed, wrong, completed, thenMatched, pairsFit, lastOnes,
-  ends, judge
+  symbolOf,
+  partsOf,
+  Matched,
+  fits,
+  differs,
+  atVariable,
+  matches,
+  Rule,
+  typed,
+  wrong,
+  completed,
+  thenMatched,
+  pairsFit,
+  lastOnes,
+  ends,
+  judge,
 }
 
 pub differs-not {ℓ} : {X : Type ℓ} {us ρ : List Ty} → differs ≡ fits us ρ → X
@@ -91,31 +105,49 @@ module _ (b : ℕ) (t : Ty) (us ρ : List Ty) (go : List Ty → List Ty → Matc
   fixed-step : ltb b 5 ≡ true → pick (eqb b (symbolOf t)) (go (partsOf t ++ us) ρ) differs ≡ fits vs σ → Step b t us ρ go vs σ
   fixed-step h e =
       let p = then-of (eqb b (symbolOf t)) (go (partsOf t ++ us) ρ) differs (fits vs σ) differs-not e in
-      record { next = partsOf t ++ us; env = ρ; on = p .1; more = extends-refl ρ; back = λ τ x. rw h
-            (closed-parts t us b (ltb-true b 5 h) (eqb-true _ _ (p .0))) }
+      record {
+        next = partsOf t ++ us;
+        env = ρ;
+        on = p .1;
+        more = extends-refl ρ;
+        back = λ τ x. rw h
+            (closed-parts t us b (ltb-true b 5 h) (eqb-true _ _ (p .0)));
+      }
 
   bound-step : ltb b 5 ≡ false → ltb (b - 5) (length ρ) ≡ true → pick (sameTy t (ty (b - 5) ρ)) (go us ρ) differs ≡ fits vs σ → Step b t us ρ go vs σ
   bound-step h l e =
       let p = then-of (sameTy t (ty (b - 5) ρ)) (go us ρ) differs (fits vs σ) differs-not e in
-      record { next = us; env = ρ; on = p .1; more = extends-refl ρ; back = λ τ x. rw h
-            (ap (λ (u : Ty). u ∷ us) (same-ty _ _ (p .0) ∙ sym (ty-kept (b - 5) ρ τ (ltb-true _ _ l) x))) }
+      record {
+        next = us;
+        env = ρ;
+        on = p .1;
+        more = extends-refl ρ;
+        back = λ τ x. rw h
+            (ap (λ (u : Ty). u ∷ us) (same-ty _ _ (p .0) ∙ sym (ty-kept (b - 5) ρ τ (ltb-true _ _ l) x)));
+      }
 
   new-step : ltb b 5 ≡ false → pick (eqb (b - 5) (length ρ)) (go us (ρ ++ (t ∷ []))) differs ≡ fits vs σ → Step b t us ρ go vs σ
   new-step h e =
       let p = then-of (eqb (b - 5) (length ρ)) (go us (ρ ++ (t ∷ []))) differs (fits vs σ) differs-not e in
       let i : b - 5 ≡ length ρ = eqb-true (b - 5) (length ρ) (p .0) in
-      record { next = us; env = ρ ++ (t ∷ []); on = p .1; more = (t ∷ [], refl); back = λ τ x. rw (h, i)
-            (ap (λ (u : Ty). u ∷ us) (sym (ap (ty (length ρ)) (x .1) ∙ ty-end ρ t (x .0)))) }
+      record {
+        next = us;
+        env = ρ ++ (t ∷ []);
+        on = p .1;
+        more = (t ∷ [], refl);
+        back = λ τ x. rw (h, i)
+            (ap (λ (u : Ty). u ∷ us) (sym (ap (ty (length ρ)) (x .1) ∙ ty-end ρ t (x .0))));
+      }
 
   variable-step : ltb b 5 ≡ false → (l : Bool) → ltb (b - 5) (length ρ) ≡ l
       → pick l (pick (sameTy t (ty (b - 5) ρ)) (go us ρ) differs)
-          (pick (eqb (b - 5) (length ρ)) (go us (ρ ++ (t ∷ []))) differs) ≡ fits vs σ → Step b t us ρ go vs σ
+      (pick (eqb (b - 5) (length ρ)) (go us (ρ ++ (t ∷ []))) differs) ≡ fits vs σ → Step b t us ρ go vs σ
   variable-step h true l e = bound-step h l e
   variable-step h false l e = new-step h e
 
   symbol-step : (f : Bool) → ltb b 5 ≡ f
       → pick f (pick (eqb b (symbolOf t)) (go (partsOf t ++ us) ρ) differs)
-          (pick (ltb b 9) (atVariable (b - 5) t us ρ go) differs) ≡ fits vs σ → Step b t us ρ go vs σ
+      (pick (ltb b 9) (atVariable (b - 5) t us ρ go) differs) ≡ fits vs σ → Step b t us ρ go vs σ
   symbol-step true h e = fixed-step h e
   symbol-step false h e =
       let p = then-of (ltb b 9) (atVariable (b - 5) t us ρ go) differs (fits vs σ) differs-not e in
@@ -156,7 +188,7 @@ ends-last r ts ρ us a differs em xs e p = wrong-not e
 
 ends-first : (r : Rule) (ts : List Ty) (m : Matched) → matches (r .first) ts [] ≡ m → (xs : List ℕ)
     → thenMatched m (λ ρ. thenMatched (matches (r .last) (lastOnes ts) ρ) (λ σ. completed (r .result) σ)) ≡ typed xs
-        → pairsFit (r .pair) ts ≡ true → Ends r ts xs
+    → pairsFit (r .pair) ts ≡ true → Ends r ts xs
 ends-first r ts (fits us ρ) em xs e p = ends-last r ts ρ us (match-means (r .first) ts [] us ρ em) (matches (r .last) (lastOnes ts) ρ) refl xs e p
 ends-first r ts differs em xs e p = wrong-not e
 

@@ -26,7 +26,7 @@ three false b c x = refl
 
 pub node-judged : (g n : ℕ) (us : List Ty) (Γ : Ctx) (ts : List Ty) (x : ℕ) → Operands (classOf g) x (length ts)
     → judge (ruleAt (classOf g)) (ownTypes (classOf g) n us Γ ++ ts) ≡ pick (nodeTyped g n us Γ ts)
-        (typed (encTy (result (classOf g) n us Γ ts))) wrong
+    (typed (encTy (result (classOf g) n us Γ ts))) wrong
 unfolding nodeTyped
 node-judged g n us Γ ts x h =
     let xs = encTy (result (classOf g) n us Γ ts) in

@@ -13,8 +13,25 @@ use Rattle.frame.proofs.SameTrees.{same-ty, same-tys, same-ty-refl}
 use Rattle.frame.proofs.Inversion.{true-not}
 use Rattle.typing.specs.Typing.{source, target, relation, first, ty, lastTy, alike, onward, backward}
 use Rattle.type_rules.specs.Patterns.{
-  Matched, fits, differs, matches, rule, alikePair, onwardPair, backwardPair, Judged, typed, wrong, limited, completed, isFit,
-  thenMatched, pairsFit, lastOnes, ends, judge
+  Matched,
+  fits,
+  differs,
+  matches,
+  rule,
+  alikePair,
+  onwardPair,
+  backwardPair,
+  Judged,
+  typed,
+  wrong,
+  limited,
+  completed,
+  isFit,
+  thenMatched,
+  pairsFit,
+  lastOnes,
+  ends,
+  judge,
 }
 use Rattle.typing.proofs.Same.{same-tys-of, same-ty-of}
 use Rattle.type_rules.proofs.Matching.{meant, match-means, judge-means}
@@ -173,7 +190,7 @@ pub chain-ends : (p r : List ℕ) (t : Ty) (us : List Ty) (a b c d : Ty) → t �
 unfolding matches
 chain-ends p r t us a b c d et el =
     subst₂ (λ (x : Ty) (l : List Ty). thenMatched (matches (3 ∷ 4 ∷ 5 ∷ 6 ∷ []) (x ∷ us) [])
-          (λ ρ. thenMatched (matches (3 ∷ 4 ∷ 7 ∷ 8 ∷ []) l ρ) (λ σ. completed r σ)) ≡ completed r (a ∷ b ∷ c ∷ d ∷ []))
+    (λ ρ. thenMatched (matches (3 ∷ 4 ∷ 7 ∷ 8 ∷ []) l ρ) (λ σ. completed r σ)) ≡ completed r (a ∷ b ∷ c ∷ d ∷ []))
     (sym et) (sym el) refl
 
 module _ (p r : List ℕ) (res : List Ty → Ty) (on : Ty → List Ty → List Ty) where

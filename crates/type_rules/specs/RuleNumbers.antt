@@ -7,12 +7,60 @@ use Prim.Native.Nat.{ℕ, _/_, _%_}
 use lib.ListN.{getD}
 use lib.Dec.{eqb}
 use Rattle.frame.specs.Tags.{
-  pick, Class, literalPred, equality, order, membership, inclusion, binaryPred, associativePred, negation, quantifiedPred, finite,
-  partition, identifier, bound, literal, setExtension, maplet, relationSet, setMinus, cartesian, directProduct, parallelProduct,
-  domainRestriction, rangeRestriction, upTo, arithmetic, functionImage, relationalImage, setOperation, backwardComposition,
-  forwardComposition, override, sum, integerSet, boolSet, truthValue, integerRelation, emptySet, projection1, projection2,
-  identity, boolExpr, cardinal, powerset, generalised, domain, range, extremum, converse, unaryMinus, quantifiedSet,
-  comprehension, unlisted
+  pick,
+  Class,
+  literalPred,
+  equality,
+  order,
+  membership,
+  inclusion,
+  binaryPred,
+  associativePred,
+  negation,
+  quantifiedPred,
+  finite,
+  partition,
+  identifier,
+  bound,
+  literal,
+  setExtension,
+  maplet,
+  relationSet,
+  setMinus,
+  cartesian,
+  directProduct,
+  parallelProduct,
+  domainRestriction,
+  rangeRestriction,
+  upTo,
+  arithmetic,
+  functionImage,
+  relationalImage,
+  setOperation,
+  backwardComposition,
+  forwardComposition,
+  override,
+  sum,
+  integerSet,
+  boolSet,
+  truthValue,
+  integerRelation,
+  emptySet,
+  projection1,
+  projection2,
+  identity,
+  boolExpr,
+  cardinal,
+  powerset,
+  generalised,
+  domain,
+  range,
+  extremum,
+  converse,
+  unaryMinus,
+  quantifiedSet,
+  comprehension,
+  unlisted,
 }
 use Rattle.type_rules.specs.Patterns.{Rule}
 
@@ -75,22 +123,22 @@ ruleNumber unlisted = 0
 abbrev pub ruleWords : List ℕ
 ruleWords =
     164416590385250368 ∷ 3145371151274569 ∷ 366006826859316499 ∷ 475804405952238868 ∷ 219552575034345243 ∷ 234343554502227904 ∷
-        685141401017663501 ∷ 15033712870 ∷ 7633633280 ∷ 731554426795327488 ∷ 805018434125077096 ∷ 4002274665565101 ∷ 16 ∷ []
+    685141401017663501 ∷ 15033712870 ∷ 7633633280 ∷ 731554426795327488 ∷ 805018434125077096 ∷ 4002274665565101 ∷ 16 ∷ []
 
 -- the numbers of a rule's four patterns, two rules to a word
 abbrev pub rowWords : List ℕ
 rowWords =
     216176080665444352 ∷ 1513232564658112256 ∷ 936763016513328640 ∷ 72057594088260352 ∷ 72622743031579392 ∷ 74035615473533696 ∷
-        72058732221104384 ∷ 72065290636099840 ∷ 144115188092634889 ∷ 793762732976374537 ∷ 506381180019934976 ∷ 1661562180921198336 ∷
-        1012754663190236672 ∷ 432910713439653376 ∷ 289090194278318592 ∷ 504410893636275712 ∷ 1158285030004559386 ∷ 144117425988701705 ∷
-        360287970290302976 ∷ 144122884858576896 ∷ 504414153549547264 ∷ 576476145583656448 ∷ 1224994491841119744 ∷
-        506374582647652864 ∷ 117637376 ∷ []
+    72058732221104384 ∷ 72065290636099840 ∷ 144115188092634889 ∷ 793762732976374537 ∷ 506381180019934976 ∷ 1661562180921198336 ∷
+    1012754663190236672 ∷ 432910713439653376 ∷ 289090194278318592 ∷ 504410893636275712 ∷ 1158285030004559386 ∷ 144117425988701705 ∷
+    360287970290302976 ∷ 144122884858576896 ∷ 504414153549547264 ∷ 576476145583656448 ∷ 1224994491841119744 ∷
+    506374582647652864 ∷ 117637376 ∷ []
 
 -- the patterns by number, and the last of them
 abbrev pub patternWords : List ℕ
 patternWords =
     2 ∷ 32 ∷ 33 ∷ 37 ∷ 38 ∷ 515 ∷ 531 ∷ 595 ∷ 611 ∷ 597 ∷ 9523 ∷ 9812 ∷ 135491 ∷ 152899 ∷ 156995 ∷ 161091 ∷ 165187 ∷ 153155 ∷ 157507 ∷
-        165699 ∷ 2511923 ∷ 39212099 ∷ 40260675 ∷ 41305411 ∷ 10842756163 ∷ 10574062915 ∷ []
+    165699 ∷ 2511923 ∷ 39212099 ∷ 40260675 ∷ 41305411 ∷ 10842756163 ∷ 10574062915 ∷ []
 
 abbrev pub lastPattern : ℕ
 lastPattern = 10053969219

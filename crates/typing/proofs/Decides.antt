@@ -26,7 +26,15 @@ use Rattle.frame.proofs.Booleans.{both-true, both-of}
 use Rattle.frame.proofs.SameTrees.{same-ty, same-tys}
 use Rattle.typing.proofs.Same.{same-ty-of, same-tys-of}
 use Rattle.typing.proofs.Names.{
-  Signed, SignedAll, signed-kids, signed-first, signed-rest, node-named, node-types, names-signed, accepted-names
+  Signed,
+  SignedAll,
+  signed-kids,
+  signed-first,
+  signed-rest,
+  node-named,
+  node-types,
+  names-signed,
+  accepted-names,
 }
 
 -- ---- number 10 at one node
@@ -44,8 +52,12 @@ module _ (g n : ℕ) (us : List Ty) (Γ : Ctx) (ts : List Ty) where
       let l : Bool = leb (length (encTy (result (classOf g) n us Γ ts))) typeLimit in
       let k = both-true w (s && l) h in
       let j = both-true s l (k .1) in
-      record { fits = same-tys ts (wants (classOf g) ts) (k .0); shaped = same-ty (carriedTy us) (shape g (carriedTy us))
-            (j .0); short = leb-true (length (encTy (result (classOf g) n us Γ ts))) typeLimit (j .1) }
+      record {
+        fits = same-tys ts (wants (classOf g) ts) (k .0);
+        shaped = same-ty (carriedTy us) (shape g (carriedTy us))
+            (j .0);
+        short = leb-true (length (encTy (result (classOf g) n us Γ ts))) typeLimit (j .1);
+      }
 
   pub typed-node : NodeTyped g n us Γ ts → nodeTyped g n us Γ ts ≡ true
   unfolding nodeTyped
@@ -55,7 +67,7 @@ module _ (g n : ℕ) (us : List Ty) (Γ : Ctx) (ts : List Ty) where
       let l : Bool = leb (length (encTy (result (classOf g) n us Γ ts))) typeLimit in
       both-of (same-tys-of ts (wants (classOf g) ts) (h .fits))
       (both-of (same-ty-of (carriedTy us) (shape g (carriedTy us)) (h .shaped))
-            (le-leb (length (encTy (result (classOf g) n us Γ ts))) typeLimit (h .short)))
+      (le-leb (length (encTy (result (classOf g) n us Γ ts))) typeLimit (h .short)))
 
 module _ (σ : ℕ → Ty) where
   -- ---- the tests pass, so the tree is accepted
@@ -64,8 +76,19 @@ module _ (σ : ℕ → Ty) where
       → AcceptedAll σ ks (under g us Γ) (sortsOf (formOf g .layout) (numberIn g n us (count ks))) → Accepted σ (node (head g n us) ks) Γ e
   unfolding Accepted
   accept-node g n us ks Γ e w i t s a =
-      record { top = record { formed = w; indexed = i; named = node-named σ g n us ks s; types = node-types σ g n us ks
-              (w .types) s; shaped = t .shaped }; fits = t .fits; short = t .short; kids = a }
+      record {
+        top = record {
+          formed = w;
+          indexed = i;
+          named = node-named σ g n us ks s;
+          types = node-types σ g n us ks
+              (w .types) s;
+          shaped = t .shaped;
+        };
+        fits = t .fits;
+        short = t .short;
+        kids = a;
+      }
 
   mutual
     unfolding closedTree typedTree Accepted
@@ -76,7 +99,7 @@ module _ (σ : ℕ → Ty) where
         let q = both-true (nodeTyped g n us Γ (typesIn ks (under g us Γ))) (typedForest ks (under g us Γ)) p in
         accept-node g n us ks Γ e (w .0) (b .0) (node-typed g n us Γ (typesIn ks (under g us Γ)) (q .0)) s
         (tests-accepted-all ks (under g us Γ) (sortsOf (formOf g .layout) (numberIn g n us (count ks))) (w .1) (b .1) (q .1)
-              (signed-kids σ g n us ks s))
+        (signed-kids σ g n us ks s))
 
     pub tests-accepted-all : (ks : Forest) (Γ : Ctx) (es : List Sort) → Wfs ks es → closedForest ks Γ ≡ true → typedForest ks Γ ≡ true
         → SignedAll σ ks → AcceptedAll σ ks Γ es
@@ -93,8 +116,11 @@ module _ (σ : ℕ → Ty) where
     unfolding Accepted
 
     pub accepted-wf : (t : Tree) (Γ : Ctx) (e : Sort) → Accepted σ t Γ e → Wf t e
-    accepted-wf (node (head g n us) ks) Γ e a = (a .top .formed, accepted-wfs ks (under g us Γ)
-          (sortsOf (formOf g .layout) (numberIn g n us (count ks))) (a .kids))
+    accepted-wf (node (head g n us) ks) Γ e a = (
+      a .top .formed,
+      accepted-wfs ks (under g us Γ)
+          (sortsOf (formOf g .layout) (numberIn g n us (count ks))) (a .kids),
+    )
 
     pub accepted-wfs : (ks : Forest) (Γ : Ctx) (es : List Sort) → AcceptedAll σ ks Γ es → Wfs ks es
     accepted-wfs nil Γ [] a = tt

@@ -7,12 +7,68 @@ use lib.ListN.{length}
 use Rattle.frame.specs.Types.{Ty, bool, int, given, pow, prod}
 use Rattle.frame.specs.Trees.{head, Tree, node, Forest, nil, cons}
 use Rattle.frame.specs.Tags.{
-  Sort, Layout, these, payload, counted, binding, bindersOf, classOf, formOf, Class, literalPred, equality, order, membership,
-  inclusion, binaryPred, associativePred, negation, quantifiedPred, finite, partition, identifier, bound, literal, setExtension,
-  maplet, relationSet, setMinus, cartesian, directProduct, parallelProduct, domainRestriction, rangeRestriction, upTo, arithmetic,
-  functionImage, relationalImage, setOperation, backwardComposition, forwardComposition, override, sum, integerSet, boolSet,
-  truthValue, integerRelation, emptySet, projection1, projection2, identity, boolExpr, cardinal, powerset, generalised, domain,
-  range, extremum, converse, unaryMinus, quantifiedSet, comprehension, unlisted
+  Sort,
+  Layout,
+  these,
+  payload,
+  counted,
+  binding,
+  bindersOf,
+  classOf,
+  formOf,
+  Class,
+  literalPred,
+  equality,
+  order,
+  membership,
+  inclusion,
+  binaryPred,
+  associativePred,
+  negation,
+  quantifiedPred,
+  finite,
+  partition,
+  identifier,
+  bound,
+  literal,
+  setExtension,
+  maplet,
+  relationSet,
+  setMinus,
+  cartesian,
+  directProduct,
+  parallelProduct,
+  domainRestriction,
+  rangeRestriction,
+  upTo,
+  arithmetic,
+  functionImage,
+  relationalImage,
+  setOperation,
+  backwardComposition,
+  forwardComposition,
+  override,
+  sum,
+  integerSet,
+  boolSet,
+  truthValue,
+  integerRelation,
+  emptySet,
+  projection1,
+  projection2,
+  identity,
+  boolExpr,
+  cardinal,
+  powerset,
+  generalised,
+  domain,
+  range,
+  extremum,
+  converse,
+  unaryMinus,
+  quantifiedSet,
+  comprehension,
+  unlisted,
 }
 use Rattle.frame.specs.Encoding.{encTy}
 use Rattle.frame.specs.Places.{Ctx, push, under}
@@ -104,10 +160,14 @@ module _ (σ : ℕ → Ty) where
   result-ok relationSet n us Γ ts hus hΓ hts = (element-ok (ty 0 ts) (ty-ok 0 ts hts), element-ok (ty 1 ts) (ty-ok 1 ts hts))
   result-ok setMinus n us Γ ts hus hΓ hts = ty-ok 0 ts hts
   result-ok cartesian n us Γ ts hus hΓ hts = (element-ok (ty 0 ts) (ty-ok 0 ts hts), element-ok (ty 1 ts) (ty-ok 1 ts hts))
-  result-ok directProduct n us Γ ts hus hΓ hts = (source-ok (ty 0 ts) (ty-ok 0 ts hts),
-        (target-ok (ty 0 ts) (ty-ok 0 ts hts), target-ok (ty 1 ts) (ty-ok 1 ts hts)))
-  result-ok parallelProduct n us Γ ts hus hΓ hts = ((source-ok (ty 0 ts) (ty-ok 0 ts hts), source-ok (ty 1 ts) (ty-ok 1 ts hts)),
-        (target-ok (ty 0 ts) (ty-ok 0 ts hts), target-ok (ty 1 ts) (ty-ok 1 ts hts)))
+  result-ok directProduct n us Γ ts hus hΓ hts = (
+    source-ok (ty 0 ts) (ty-ok 0 ts hts),
+    (target-ok (ty 0 ts) (ty-ok 0 ts hts), target-ok (ty 1 ts) (ty-ok 1 ts hts)),
+  )
+  result-ok parallelProduct n us Γ ts hus hΓ hts = (
+    (source-ok (ty 0 ts) (ty-ok 0 ts hts), source-ok (ty 1 ts) (ty-ok 1 ts hts)),
+    (target-ok (ty 0 ts) (ty-ok 0 ts hts), target-ok (ty 1 ts) (ty-ok 1 ts hts)),
+  )
   result-ok domainRestriction n us Γ ts hus hΓ hts = ty-ok 1 ts hts
   result-ok rangeRestriction n us Γ ts hus hΓ hts = ty-ok 0 ts hts
   result-ok upTo n us Γ ts hus hΓ hts = tt

@@ -19,7 +19,20 @@ use Rattle.frame.specs.WellFormed.{TyWf, TysWf, Wf, Wfs, numberIn}
 use Rattle.typing.specs.Typing.{carriedTy, typeOf, typesIn}
 use Rattle.typing.specs.Members.{In, All}
 use Rattle.typing.specs.Identifiers.{
-  identTag, Named, named, identOf, idents, identsIn, givensTy, givensTys, givens, givensIn, agrees, agreesWithGivens, consistent, namesAgree
+  identTag,
+  Named,
+  named,
+  identOf,
+  idents,
+  identsIn,
+  givensTy,
+  givensTys,
+  givens,
+  givensIn,
+  agrees,
+  agreesWithGivens,
+  consistent,
+  namesAgree,
 }
 use Rattle.typing.specs.Signature.{signed, signature}
 use Rattle.typing.specs.Accepted.{TyOk, TysOk, HeadOk, Accepted, AcceptedAll}
@@ -99,14 +112,17 @@ module _ (σ : ℕ → Ty) where
         let o = node-types g n us ks (w .0 .types) s in
         result-ok σ (classOf g) n us Γ (typesIn ks (under g us Γ)) o k
         (derived-signed-all ks (under g us Γ) (sortsOf (formOf g .layout) (numberIn g n us (count ks))) (w .1)
-              (signed-kids g n us ks s) (push-ok σ g us Γ o k))
+        (signed-kids g n us ks s) (push-ok σ g us Γ o k))
 
     pub derived-signed-all : (ks : Forest) (Γ : Ctx) (es : List Sort) → Wfs ks es → SignedAll ks → TysOk σ Γ → TysOk σ (typesIn ks Γ)
     derived-signed-all nil Γ [] w s k = tt
     derived-signed-all nil Γ (e ∷ es) w s k = absurd w
     derived-signed-all (cons t ks) Γ [] w s k = absurd w
-    derived-signed-all (cons t ks) Γ (e ∷ es) w s k = (derived-signed t Γ e (w .0) (signed-first t ks s) k, derived-signed-all ks Γ es
-          (w .1) (signed-rest t ks s) k)
+    derived-signed-all (cons t ks) Γ (e ∷ es) w s k = (
+      derived-signed t Γ e (w .0) (signed-first t ks s) k,
+      derived-signed-all ks Γ es
+          (w .1) (signed-rest t ks s) k,
+    )
 
   -- ---- from a tree that is accepted
   signed-ty : (t : Ty) → TyOk σ t → All GivenOk (givensTy t)
@@ -125,9 +141,11 @@ module _ (σ : ℕ → Ty) where
   signed-node : (Γ : Ctx) (e : Sort) (g n : ℕ) (us : List Ty) (k : ℕ) (ks : Forest) → HeadOk σ Γ e g n us k → SignedAll ks
       → Signed (node (head g n us) ks)
   unfolding idents givens
-  signed-node Γ e g n us k ks h s =
-      (all-join NameOk (identOf g n us) (identsIn ks) (of-name (eqb g identTag) n (carriedTy us) (h .named)) (s .0), all-join GivenOk
-            (givensTys us) (givensIn ks) (signed-tys us (h .types)) (s .1))
+  signed-node Γ e g n us k ks h s = (
+    all-join NameOk (identOf g n us) (identsIn ks) (of-name (eqb g identTag) n (carriedTy us) (h .named)) (s .0),
+    all-join GivenOk
+        (givensTys us) (givensIn ks) (signed-tys us (h .types)) (s .1),
+  )
 
   signed-cons : (t : Tree) (ks : Forest) → Signed t → SignedAll ks → SignedAll (cons t ks)
   unfolding idents givens
@@ -163,7 +181,7 @@ module _ (σ : ℕ → Ty) where
   agreesWithGivens-of n t (m ∷ ms) e h =
       both-of
       (then-or (eqb n m) (sameTy t (pow (given m))) (λ q. same-ty-of t (pow (given m)) (e ∙ (ap σ (eqb-true n m q) ∙ h .0))))
-          (agreesWithGivens-of n t ms e (h .1))
+      (agreesWithGivens-of n t ms e (h .1))
 
   consistent-of : (l all : List Named) (ms : List ℕ) → All NameOk l → All NameOk all → All GivenOk ms → consistent l all ms ≡ true
   unfolding consistent
@@ -202,7 +220,7 @@ unfolding agreesWithGivens
 spare-given m n t [] h q i = absurd i
 spare-given m n t (o ∷ ms) h q (inl e) =
     same-ty t (pow (given o)) (or-then (eqb m o) (sameTy t (pow (given o)))
-          (both-true (not (eqb m o) || sameTy t (pow (given o))) (agreesWithGivens (named m t) ms) h .0) (eq-eqb m o (sym q ∙ e)))
+    (both-true (not (eqb m o) || sameTy t (pow (given o))) (agreesWithGivens (named m t) ms) h .0) (eq-eqb m o (sym q ∙ e)))
     ∙ ap (λ (x : ℕ). pow (given x)) (sym e)
 spare-given m n t (o ∷ ms) h q (inr i) =
     spare-given m n t ms (both-true (not (eqb m o) || sameTy t (pow (given o))) (agreesWithGivens (named m t) ms) h .1) q i
@@ -227,9 +245,11 @@ name-signed l ms h (named n t) i = agree-signed l n t (consistent-in l l ms (nam
 
 pub names-signed : (t : Tree) → namesAgree t ≡ true → Signed (signature t) t
 unfolding namesAgree signature
-names-signed t h =
-    (all-of (NameOk (signature t)) (idents t) (name-signed (idents t) (givens t) h), all-of (GivenOk (signature t)) (givens t)
-          (λ n i. given-signed (idents t) (idents t) (givens t) n h i))
+names-signed t h = (
+  all-of (NameOk (signature t)) (idents t) (name-signed (idents t) (givens t) h),
+  all-of (GivenOk (signature t)) (givens t)
+      (λ n i. given-signed (idents t) (idents t) (givens t) n h i),
+)
 
 -- some σ signs a tree exactly if its names agree
 pub accepted-names : (σ : ℕ → Ty) (t : Tree) (Γ : Ctx) (e : Sort) → Accepted σ t Γ e → namesAgree t ≡ true

@@ -67,37 +67,69 @@ module _ (σ : ℕ → Ty) (Γ : Ctx) where
 
   of-bool : Expresses (toExpression bool) bool
   unfolding toExpression typeOf Accepted classOf lookup formAt encTy
-  of-bool =
-      (refl, record { top = record { formed = form-404; indexed = refl; named = tt; types = tt; shaped = refl }; fits = refl;
-              short = omega arith; kids = tt })
+  of-bool = (
+    refl,
+    record {
+      top = record { formed = form-404; indexed = refl; named = tt; types = tt; shaped = refl };
+      fits = refl;
+      short = omega arith;
+      kids = tt;
+    },
+  )
 
   of-int : Expresses (toExpression int) int
   unfolding toExpression typeOf Accepted classOf lookup formAt encTy
-  of-int =
-      (refl, record { top = record { formed = form-401; indexed = refl; named = tt; types = tt; shaped = refl }; fits = refl;
-              short = omega arith; kids = tt })
+  of-int = (
+    refl,
+    record {
+      top = record { formed = form-401; indexed = refl; named = tt; types = tt; shaped = refl };
+      fits = refl;
+      short = omega arith;
+      kids = tt;
+    },
+  )
 
   of-given : (n : ℕ) → TyOk σ (given n) → Expresses (toExpression (given n)) (given n)
   unfolding toExpression typeOf Accepted classOf lookup formAt encTy encNumber
-  of-given n h =
-      (refl, record { top = record { formed = form-1 n (h .0); indexed = refl; named = sym (h .1); types = (h, tt); shaped = refl };
-              fits = refl; short = omega arith; kids = tt })
+  of-given n h = (
+    refl,
+    record {
+      top = record { formed = form-1 n (h .0); indexed = refl; named = sym (h .1); types = (h, tt); shaped = refl };
+      fits = refl;
+      short = omega arith;
+      kids = tt;
+    },
+  )
 
   of-pow : (a : Tree) (t : Ty) → length (encTy (pow (pow t))) ≤ 64 → Expresses a t → Expresses (node (head 752 0 []) (cons a nil)) (pow t)
   unfolding typeOf Accepted classOf lookup formAt
   of-pow a t h w =
-      let e : typeOf a Γ ≡ pow t = w .0 in
-      (ap pow e, record { top = record { formed = form-752; indexed = refl; named = tt; types = tt; shaped = refl }; fits = rw e; short = rw
-              e h; kids = (w .1, tt) })
+      let e : typeOf a Γ ≡ pow t = w .0 in (
+        ap pow e,
+        record {
+          top = record { formed = form-752; indexed = refl; named = tt; types = tt; shaped = refl };
+          fits = rw e;
+          short = rw
+              e h;
+          kids = (w .1, tt);
+        },
+      )
 
   of-prod : (a b : Tree) (t u : Ty) → length (encTy (pow (prod t u))) ≤ 64 → Expresses a t → Expresses b u
       → Expresses (node (head 214 0 []) (cons a (cons b nil))) (prod t u)
   unfolding typeOf Accepted classOf lookup formAt
   of-prod a b t u h w v =
       let e : typeOf a Γ ≡ pow t = w .0 in
-      let f : typeOf b Γ ≡ pow u = v .0 in
-      (rw (e, f), record { top = record { formed = form-214; indexed = refl; named = tt; types = tt; shaped = refl }; fits = rw
-              (e, f); short = rw (e, f) h; kids = (w .1, (v .1, tt)) })
+      let f : typeOf b Γ ≡ pow u = v .0 in (
+        rw (e, f),
+        record {
+          top = record { formed = form-214; indexed = refl; named = tt; types = tt; shaped = refl };
+          fits = rw
+              (e, f);
+          short = rw (e, f) h;
+          kids = (w .1, (v .1, tt));
+        },
+      )
 
 pub type-expression : (σ : ℕ → Ty) (t : Ty) (Γ : Ctx) → TyOk σ t → length (encTy (pow t)) ≤ 64
     → (typeOf (toExpression t) Γ ≡ pow t) × Accepted σ (toExpression t) Γ expression
@@ -108,4 +140,4 @@ type-expression σ (given n) Γ h l = of-given σ Γ n h
 type-expression σ (pow t) Γ h l = of-pow σ Γ (toExpression t) t l (type-expression σ t Γ h (short-pow t l))
 type-expression σ (prod t u) Γ h l =
     of-prod σ Γ (toExpression t) (toExpression u) t u l (type-expression σ t Γ (h .0) (short-left t u l))
-        (type-expression σ u Γ (h .1) (short-right t u l))
+    (type-expression σ u Γ (h .1) (short-right t u l))

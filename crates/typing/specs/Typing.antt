@@ -11,12 +11,61 @@ use lib.Dec.{leb, eqb}
 use Rattle.frame.specs.Types.{Ty, bool, int, given, pow, prod}
 use Rattle.frame.specs.Trees.{head, Tree, node, Forest, nil, cons}
 use Rattle.frame.specs.Tags.{
-  Class, literalPred, equality, order, membership, inclusion, binaryPred, associativePred, negation, quantifiedPred, finite,
-  partition, identifier, bound, literal, setExtension, maplet, relationSet, setMinus, cartesian, directProduct, parallelProduct,
-  domainRestriction, rangeRestriction, upTo, arithmetic, functionImage, relationalImage, setOperation, backwardComposition,
-  forwardComposition, override, sum, integerSet, boolSet, truthValue, integerRelation, emptySet, projection1, projection2,
-  identity, boolExpr, cardinal, powerset, generalised, domain, range, extremum, converse, unaryMinus, quantifiedSet,
-  comprehension, unlisted, classOf, pick
+  Class,
+  literalPred,
+  equality,
+  order,
+  membership,
+  inclusion,
+  binaryPred,
+  associativePred,
+  negation,
+  quantifiedPred,
+  finite,
+  partition,
+  identifier,
+  bound,
+  literal,
+  setExtension,
+  maplet,
+  relationSet,
+  setMinus,
+  cartesian,
+  directProduct,
+  parallelProduct,
+  domainRestriction,
+  rangeRestriction,
+  upTo,
+  arithmetic,
+  functionImage,
+  relationalImage,
+  setOperation,
+  backwardComposition,
+  forwardComposition,
+  override,
+  sum,
+  integerSet,
+  boolSet,
+  truthValue,
+  integerRelation,
+  emptySet,
+  projection1,
+  projection2,
+  identity,
+  boolExpr,
+  cardinal,
+  powerset,
+  generalised,
+  domain,
+  range,
+  extremum,
+  converse,
+  unaryMinus,
+  quantifiedSet,
+  comprehension,
+  unlisted,
+  classOf,
+  pick,
 }
 use Rattle.frame.specs.Operators.{#EmptySet, #KPrj1Gen, #KPrj2Gen, #KIdGen}
 use Rattle.frame.specs.Encoding.{encTy}
@@ -233,7 +282,7 @@ unfoldable mutual
 unfoldable pub nodeTyped : ℕ → ℕ → List Ty → Ctx → List Ty → Bool
 nodeTyped g n us Γ ts =
     sameTys ts (wants (classOf g) ts) && (sameTy (carriedTy us) (shape g (carriedTy us)) && leb
-          (length (encTy (result (classOf g) n us Γ ts))) typeLimit)
+    (length (encTy (result (classOf g) n us Γ ts))) typeLimit)
 
 unfoldable mutual
   pub typedTree : Tree → Ctx → Bool

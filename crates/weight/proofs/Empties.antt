@@ -13,20 +13,63 @@ use Rattle.frame.specs.Operators.{#SRel, #STRel, #CProd, #DomRes, #RanRes, #DPr
 use Rattle.frame.specs.Places.{Ctx}
 use Rattle.typing.specs.Accepted.{Accepted}
 use Rattle.rules.specs.Equations.{
-  over, Subtracted, ext, _∈ᵖ_, ¬ᵖ, _⊆_, inters, ⋀, dom, ran, _≐∅, «SIMP_SETENUM_EQUAL_EMPTY», «SIMP_BINTER_SING_EQUAL_EMPTY»,
-  «SIMP_BINTER_SETMINUS_EQUAL_EMPTY», «SIMP_BUNION_EQUAL_EMPTY», «SIMP_SETMINUS_EQUAL_EMPTY», «SIMP_CPROD_EQUAL_EMPTY»,
-  «SIMP_UPTO_EQUAL_EMPTY», «SIMP_SREL_EQUAL_EMPTY», «SIMP_STREL_EQUAL_EMPTY», «SIMP_DOMRES_EQUAL_EMPTY»,
-  «SIMP_DOMSUB_EQUAL_EMPTY», «SIMP_RANRES_EQUAL_EMPTY», «SIMP_RANSUB_EQUAL_EMPTY», «SIMP_RELIMAGE_EQUAL_EMPTY»,
-  «SIMP_DPROD_EQUAL_EMPTY», «SIMP_PPROD_EQUAL_EMPTY», «SIMP_POW_EQUAL_EMPTY», «SIMP_POW1_EQUAL_EMPTY», «SIMP_KUNION_EQUAL_EMPTY»,
-  «SIMP_DOM_EQUAL_EMPTY», «SIMP_RAN_EQUAL_EMPTY», «SIMP_CONVERSE_EQUAL_EMPTY», «SIMP_FCOMP_EQUAL_EMPTY», «SIMP_BCOMP_EQUAL_EMPTY»,
-  «SIMP_OVERL_EQUAL_EMPTY», «SIMP_QUNION_EQUAL_EMPTY», «SIMP_NATURAL_EQUAL_EMPTY», «SIMP_NATURAL1_EQUAL_EMPTY»,
-  «SIMP_ID_EQUAL_EMPTY», «SIMP_PRJ1_EQUAL_EMPTY», «SIMP_PRJ2_EQUAL_EMPTY»
+  over,
+  Subtracted,
+  ext,
+  _∈ᵖ_,
+  ¬ᵖ,
+  _⊆_,
+  inters,
+  ⋀,
+  dom,
+  ran,
+  _≐∅,
+  «SIMP_SETENUM_EQUAL_EMPTY»,
+  «SIMP_BINTER_SING_EQUAL_EMPTY»,
+  «SIMP_BINTER_SETMINUS_EQUAL_EMPTY»,
+  «SIMP_BUNION_EQUAL_EMPTY»,
+  «SIMP_SETMINUS_EQUAL_EMPTY»,
+  «SIMP_CPROD_EQUAL_EMPTY»,
+  «SIMP_UPTO_EQUAL_EMPTY»,
+  «SIMP_SREL_EQUAL_EMPTY»,
+  «SIMP_STREL_EQUAL_EMPTY»,
+  «SIMP_DOMRES_EQUAL_EMPTY»,
+  «SIMP_DOMSUB_EQUAL_EMPTY»,
+  «SIMP_RANRES_EQUAL_EMPTY»,
+  «SIMP_RANSUB_EQUAL_EMPTY»,
+  «SIMP_RELIMAGE_EQUAL_EMPTY»,
+  «SIMP_DPROD_EQUAL_EMPTY»,
+  «SIMP_PPROD_EQUAL_EMPTY»,
+  «SIMP_POW_EQUAL_EMPTY»,
+  «SIMP_POW1_EQUAL_EMPTY»,
+  «SIMP_KUNION_EQUAL_EMPTY»,
+  «SIMP_DOM_EQUAL_EMPTY»,
+  «SIMP_RAN_EQUAL_EMPTY»,
+  «SIMP_CONVERSE_EQUAL_EMPTY»,
+  «SIMP_FCOMP_EQUAL_EMPTY»,
+  «SIMP_BCOMP_EQUAL_EMPTY»,
+  «SIMP_OVERL_EQUAL_EMPTY»,
+  «SIMP_QUNION_EQUAL_EMPTY»,
+  «SIMP_NATURAL_EQUAL_EMPTY»,
+  «SIMP_NATURAL1_EQUAL_EMPTY»,
+  «SIMP_ID_EQUAL_EMPTY»,
+  «SIMP_PRJ1_EQUAL_EMPTY»,
+  «SIMP_PRJ2_EQUAL_EMPTY»,
 }
 use Rattle.rules.specs.Equations.{Empties}
 use Rattle.weight.specs.Weight.{scaleIn, scaleOf, weigh, weight, sumOf, productOf}
 use Rattle.weight.proofs.Positive.{both-positive, weight-positive, product-positive}
 use Rattle.weight.proofs.Forests.{
-  Twos, least-kids, pair-two, least-twos, sum-map, twos-sum, product-at, over-light, subtracted-light, sum-product
+  Twos,
+  least-kids,
+  pair-two,
+  least-twos,
+  sum-map,
+  twos-sum,
+  product-at,
+  over-light,
+  subtracted-light,
+  sum-product,
 }
 
 -- ---- numbers
@@ -103,8 +146,11 @@ module _ (σ : ℕ → Ty) (Γ : Ctx) where
       let h = pair-two σ #RanRes r s Γ a refl in omega (arith, mul-le-mul-right (weight s) (h .0))
   empties-fall («SIMP_RANSUB_EQUAL_EMPTY» r s) a = omega (arith, both-more r s, weight-positive r)
   empties-fall («SIMP_RELIMAGE_EQUAL_EMPTY» r s) a = omega (arith, both-positive r s)
-  empties-fall («SIMP_DPROD_EQUAL_EMPTY» p q) a = omega (arith, meet-falls p q (dom p) (dom q) (pair-two σ #DProd p q Γ a refl)
-        (dom-weight p) (dom-weight q))
+  empties-fall («SIMP_DPROD_EQUAL_EMPTY» p q) a = omega (
+    arith,
+    meet-falls p q (dom p) (dom q) (pair-two σ #DProd p q Γ a refl)
+        (dom-weight p) (dom-weight q),
+  )
   empties-fall («SIMP_PPROD_EQUAL_EMPTY» p q) a = omega (arith, both-fall (pair-two σ #PProd p q Γ a refl))
   empties-fall («SIMP_POW_EQUAL_EMPTY» s) a = omega (arith, weight-positive s)
   empties-fall («SIMP_POW1_EQUAL_EMPTY» s) a = omega (arith, weight-positive s)
@@ -112,10 +158,16 @@ module _ (σ : ℕ → Ty) (Γ : Ctx) where
   empties-fall («SIMP_DOM_EQUAL_EMPTY» r) a = omega (arith, weight-positive r)
   empties-fall («SIMP_RAN_EQUAL_EMPTY» r) a = omega (arith, weight-positive r)
   empties-fall («SIMP_CONVERSE_EQUAL_EMPTY» r) a = omega (arith, weight-positive r)
-  empties-fall («SIMP_FCOMP_EQUAL_EMPTY» p q) a = omega (arith, meet-falls p q (ran p) (dom q) (pair-two σ #FComp p q Γ a refl)
-        (ran-weight p) (dom-weight q))
-  empties-fall («SIMP_BCOMP_EQUAL_EMPTY» p q) a = omega (arith, meet-falls p q (dom p) (ran q) (pair-two σ #BComp p q Γ a refl)
-        (dom-weight p) (ran-weight q))
+  empties-fall («SIMP_FCOMP_EQUAL_EMPTY» p q) a = omega (
+    arith,
+    meet-falls p q (ran p) (dom q) (pair-two σ #FComp p q Γ a refl)
+        (ran-weight p) (dom-weight q),
+  )
+  empties-fall («SIMP_BCOMP_EQUAL_EMPTY» p q) a = omega (
+    arith,
+    meet-falls p q (dom p) (ran q) (pair-two σ #BComp p q Γ a refl)
+        (dom-weight p) (ran-weight q),
+  )
   empties-fall («SIMP_OVERL_EQUAL_EMPTY» ks) a = omega (arith, all-empty Γ ks (least-twos ks (least-kids σ #Ovr 0 [] ks Γ expression a)))
   empties-fall («SIMP_QUNION_EQUAL_EMPTY» xs p e) a =
       let h = least-kids σ #QUnion 0 xs (pair p e) Γ expression a in omega (arith, bound-falls (length xs) (weight-positive p) (h .1 .0))

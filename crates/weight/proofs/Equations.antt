@@ -17,20 +17,78 @@ use Rattle.frame.specs.Places.{Ctx}
 use Rattle.typing.specs.Typing.{typeOf, element}
 use Rattle.typing.specs.Accepted.{Accepted}
 use Rattle.rules.specs.Equations.{
-  Among, Junction, conjunction, disjunction, Dropped, done, literal, repeated, Opposite, negated, restored, ⋀, ⋁, ∀ᵖ, ∃ᵖ, fin,
-  _⇒_, «SIMP_SPECIAL_FINITE», «SIMP_FINITE_NATURAL», «SIMP_FINITE_NATURAL1», «SIMP_FINITE_INTEGER», «SIMP_FINITE_BOOL»,
-  «SIMP_FINITE_ID», «SIMP_FINITE_SETENUM», «SIMP_FINITE_BUNION», «SIMP_FINITE_POW», «DERIV_FINITE_CPROD», «SIMP_FINITE_CONVERSE»,
-  «SIMP_FINITE_UPTO», «SIMP_FINITE_LAMBDA», «SIMP_FINITE_ID_DOMRES», «SIMP_FINITE_PRJ1_DOMRES», «SIMP_FINITE_PRJ2_DOMRES»,
-  «SIMP_FINITE_PRJ1», «SIMP_FINITE_PRJ2», «SIMP_EMPTY_PARTITION», «SIMP_SINGLE_PARTITION», «SIMP_NOT_LE», «SIMP_NOT_GE»,
-  «SIMP_NOT_GT», «SIMP_NOT_LT», «SIMP_SPECIAL_NOT_EQUAL_FALSE_R», «SIMP_SPECIAL_NOT_EQUAL_TRUE_R»,
-  «SIMP_SPECIAL_NOT_EQUAL_FALSE_L», «SIMP_SPECIAL_NOT_EQUAL_TRUE_L», «SIMP_SPECIAL_AND_BFALSE/OR_BTRUE»,
-  «SIMP_MULTI_AND_NOT/OR_NOT», «SIMP_SPECIAL_AND_BTRUE/OR_BFALSE/MULTI_AND/OR/none»,
-  «SIMP_SPECIAL_AND_BTRUE/OR_BFALSE/MULTI_AND/OR/one», «SIMP_SPECIAL_AND_BTRUE/OR_BFALSE/MULTI_AND/OR»,
-  «SIMP_SPECIAL_IMP_BTRUE_L», «SIMP_SPECIAL_IMP_BFALSE_L», «SIMP_SPECIAL_IMP_BTRUE_R», «SIMP_SPECIAL_IMP_BFALSE_R»,
-  «SIMP_MULTI_IMP», «SIMP_MULTI_IMP_AND», «SIMP_MULTI_IMP_AND_NOT_R/L», «SIMP_MULTI_IMP_NOT_L», «SIMP_MULTI_IMP_NOT_R»,
-  «SIMP_SPECIAL_EQV_BTRUE/right», «SIMP_SPECIAL_EQV_BTRUE/left», «SIMP_MULTI_EQV», «SIMP_SPECIAL_EQV_BFALSE/right»,
-  «SIMP_SPECIAL_EQV_BFALSE/left», «SIMP_MULTI_EQV_NOT/right», «SIMP_MULTI_EQV_NOT/left», «SIMP_SPECIAL_NOT_BTRUE»,
-  «SIMP_SPECIAL_NOT_BFALSE», «SIMP_NOT_NOT», «SIMP_FORALL_AND», «SIMP_EXISTS_OR», «SIMP_EXISTS_IMP»
+  Among,
+  Junction,
+  conjunction,
+  disjunction,
+  Dropped,
+  done,
+  literal,
+  repeated,
+  Opposite,
+  negated,
+  restored,
+  ⋀,
+  ⋁,
+  ∀ᵖ,
+  ∃ᵖ,
+  fin,
+  _⇒_,
+  «SIMP_SPECIAL_FINITE»,
+  «SIMP_FINITE_NATURAL»,
+  «SIMP_FINITE_NATURAL1»,
+  «SIMP_FINITE_INTEGER»,
+  «SIMP_FINITE_BOOL»,
+  «SIMP_FINITE_ID»,
+  «SIMP_FINITE_SETENUM»,
+  «SIMP_FINITE_BUNION»,
+  «SIMP_FINITE_POW»,
+  «DERIV_FINITE_CPROD»,
+  «SIMP_FINITE_CONVERSE»,
+  «SIMP_FINITE_UPTO»,
+  «SIMP_FINITE_LAMBDA»,
+  «SIMP_FINITE_ID_DOMRES»,
+  «SIMP_FINITE_PRJ1_DOMRES»,
+  «SIMP_FINITE_PRJ2_DOMRES»,
+  «SIMP_FINITE_PRJ1»,
+  «SIMP_FINITE_PRJ2»,
+  «SIMP_EMPTY_PARTITION»,
+  «SIMP_SINGLE_PARTITION»,
+  «SIMP_NOT_LE»,
+  «SIMP_NOT_GE»,
+  «SIMP_NOT_GT»,
+  «SIMP_NOT_LT»,
+  «SIMP_SPECIAL_NOT_EQUAL_FALSE_R»,
+  «SIMP_SPECIAL_NOT_EQUAL_TRUE_R»,
+  «SIMP_SPECIAL_NOT_EQUAL_FALSE_L»,
+  «SIMP_SPECIAL_NOT_EQUAL_TRUE_L»,
+  «SIMP_SPECIAL_AND_BFALSE/OR_BTRUE»,
+  «SIMP_MULTI_AND_NOT/OR_NOT»,
+  «SIMP_SPECIAL_AND_BTRUE/OR_BFALSE/MULTI_AND/OR/none»,
+  «SIMP_SPECIAL_AND_BTRUE/OR_BFALSE/MULTI_AND/OR/one»,
+  «SIMP_SPECIAL_AND_BTRUE/OR_BFALSE/MULTI_AND/OR»,
+  «SIMP_SPECIAL_IMP_BTRUE_L»,
+  «SIMP_SPECIAL_IMP_BFALSE_L»,
+  «SIMP_SPECIAL_IMP_BTRUE_R»,
+  «SIMP_SPECIAL_IMP_BFALSE_R»,
+  «SIMP_MULTI_IMP»,
+  «SIMP_MULTI_IMP_AND»,
+  «SIMP_MULTI_IMP_AND_NOT_R/L»,
+  «SIMP_MULTI_IMP_NOT_L»,
+  «SIMP_MULTI_IMP_NOT_R»,
+  «SIMP_SPECIAL_EQV_BTRUE/right»,
+  «SIMP_SPECIAL_EQV_BTRUE/left»,
+  «SIMP_MULTI_EQV»,
+  «SIMP_SPECIAL_EQV_BFALSE/right»,
+  «SIMP_SPECIAL_EQV_BFALSE/left»,
+  «SIMP_MULTI_EQV_NOT/right»,
+  «SIMP_MULTI_EQV_NOT/left»,
+  «SIMP_SPECIAL_NOT_BTRUE»,
+  «SIMP_SPECIAL_NOT_BFALSE»,
+  «SIMP_NOT_NOT»,
+  «SIMP_FORALL_AND»,
+  «SIMP_EXISTS_OR»,
+  «SIMP_EXISTS_IMP»,
 }
 use Rattle.rules.specs.Equations.{Emptiness, is-∅, in-∅, ∅-is, Fullness, is-Ty, Ty-is, Equation, equal-type, equal-empty}
 use Rattle.rules.proofs.LogicAccepted.{emptiness-accepted, fullness-accepted}
@@ -61,7 +119,7 @@ dropped-light (repeated ks ls left right q e h d) = omega (arith, dropped-light 
 pub dropped-falls : {n : ℕ} {ks ls : Forest} → Dropped n ks ls → (ls ≡ ks) ⊎ (sumOf ls < sumOf ks)
 dropped-falls (done ks) = inl refl
 dropped-falls {n} (literal ks ls left right e d) = inr (omega
-      (arith, dropped-light d, ap sumOf e, sum-at left (leaf n) right, weight-positive (leaf n)))
+    (arith, dropped-light d, ap sumOf e, sum-at left (leaf n) right, weight-positive (leaf n)))
 dropped-falls (repeated ks ls left right q e h d) = inr (omega (arith, dropped-light d, ap sumOf e, sum-at left q right, weight-positive q))
 
 junction-weight : {g n d : ℕ} (ks : Forest) → Junction g n d → weight (many g ks) ≡ sumOf ks + 1
@@ -128,8 +186,12 @@ module _ (σ : ℕ → Ty) (Γ : Ctx) where
   finite-cup : (ks : Forest) → Accepted σ (fin (many #BUnion ks)) Γ predicate → weight (⋀ (mapF fin ks)) < weight (fin (many #BUnion ks))
   unfolding weight scaleOf scaleIn weigh classOf lookup formAt
   finite-cup ks a =
-      omega (arith, sum-map fin 4 (λ t. omega arith) ks, twos-sum ks
-            (least-twos ks (least-kids σ #BUnion 0 [] ks Γ expression (finite-accepted (many #BUnion ks) a))))
+      omega (
+        arith,
+        sum-map fin 4 (λ t. omega arith) ks,
+        twos-sum ks
+            (least-twos ks (least-kids σ #BUnion 0 [] ks Γ expression (finite-accepted (many #BUnion ks) a))),
+      )
 
   finite-times : (s t : Tree) → Accepted σ (fin (two #CProd s t)) Γ predicate → 6 * weight s + 6 * weight t + 2 < 4 * (weight s * weight t + 3)
   unfolding classOf lookup formAt
@@ -182,8 +244,14 @@ module _ (σ : ℕ → Ty) (Γ : Ctx) where
   falls (equal-type m h) acc = omega (arith, fullness-weight m, fills-fall σ Γ h (fullness-accepted σ Γ m acc))
   falls (equal-empty m h) acc = omega (arith, emptiness-weight m, empties-fall σ Γ h (emptiness-accepted σ Γ m acc))
   falls («SIMP_SPECIAL_AND_BFALSE/OR_BTRUE» g n d ps j i) acc = omega (arith, junction-weight ps j, absorbing-weight j, among-light (leaf d) ps i)
-  falls («SIMP_MULTI_AND_NOT/OR_NOT» g n d ps q j i i′) acc = omega (arith, junction-weight ps j, absorbing-weight j, among-light
-        q ps i, weight-positive q)
+  falls («SIMP_MULTI_AND_NOT/OR_NOT» g n d ps q j i i′) acc = omega (
+    arith,
+    junction-weight ps j,
+    absorbing-weight j,
+    among-light
+        q ps i,
+    weight-positive q,
+  )
   falls («SIMP_SPECIAL_AND_BTRUE/OR_BFALSE/MULTI_AND/OR/none» g n d ps j d′)
       acc = omega (arith, junction-weight ps j, neutral-weight j, sum-count ps, junction-many ps j acc)
   falls («SIMP_SPECIAL_AND_BTRUE/OR_BFALSE/MULTI_AND/OR/one» g n d ps p j d′) acc = omega (arith, junction-weight ps j, dropped-light d′)

@@ -14,9 +14,22 @@ use Rattle.frame.specs.Places.{Ctx, push}
 use Rattle.typing.specs.Typing.{typeOf, typesIn, element, source, target, ty, alike, relation}
 use Rattle.typing.specs.Accepted.{Accepted}
 use Rattle.rules.specs.Equations.{
-  ⋀, _≐Ty, _≐∅, «SIMP_BINTER_EQUAL_TYPE», «SIMP_SETMINUS_EQUAL_TYPE», «SIMP_CPROD_EQUAL_TYPE», «SIMP_UPTO_EQUAL_INTEGER»,
-  «SIMP_DOMRES_EQUAL_TYPE», «SIMP_DOMSUB_EQUAL_TYPE», «SIMP_RANRES_EQUAL_TYPE», «SIMP_RANSUB_EQUAL_TYPE», «SIMP_DPROD_EQUAL_TYPE»,
-  «SIMP_PPROD_EQUAL_TYPE», «SIMP_KINTER_EQUAL_TYPE», «SIMP_CONVERSE_EQUAL_TYPE», «SIMP_QINTER_EQUAL_TYPE»
+  ⋀,
+  _≐Ty,
+  _≐∅,
+  «SIMP_BINTER_EQUAL_TYPE»,
+  «SIMP_SETMINUS_EQUAL_TYPE»,
+  «SIMP_CPROD_EQUAL_TYPE»,
+  «SIMP_UPTO_EQUAL_INTEGER»,
+  «SIMP_DOMRES_EQUAL_TYPE»,
+  «SIMP_DOMSUB_EQUAL_TYPE»,
+  «SIMP_RANRES_EQUAL_TYPE»,
+  «SIMP_RANSUB_EQUAL_TYPE»,
+  «SIMP_DPROD_EQUAL_TYPE»,
+  «SIMP_PPROD_EQUAL_TYPE»,
+  «SIMP_KINTER_EQUAL_TYPE»,
+  «SIMP_CONVERSE_EQUAL_TYPE»,
+  «SIMP_QINTER_EQUAL_TYPE»,
 }
 use Rattle.rules.specs.Equations.{Fills}
 use Rattle.weight.specs.Weight.{typeWeight, scaleIn, scaleOf, weigh, weight, sumOf, productOf}
@@ -108,8 +121,11 @@ module _ (σ : ℕ → Ty) (Γ : Ctx) where
   -- s ◁ r, r ▷ s
   restriction : (s r : Tree) → 2 ≤ weight s → 2 ≤ weight r → span Γ s ≤ span Γ r
       → (weight (⋀ (pair (_≐Ty Γ s) (_≐Ty Γ r))) < weight s * weight r * span Γ r + span Γ r) × (span Γ r ≤ weight s * weight r * span Γ r)
-  restriction s r hs hr l = (both-full Γ s r (element (typeOf r Γ)) hs hr l
-        (omega arith), omega (arith, mul-le-mul-right (span Γ r) (both-positive s r)))
+  restriction s r hs hr l = (
+    both-full Γ s r (element (typeOf r Γ)) hs hr l
+        (omega arith),
+    omega (arith, mul-le-mul-right (span Γ r) (both-positive s r)),
+  )
 
   -- p ⊗ q, p ∥ q
   module _ (p q : Tree) (hp : 2 ≤ weight p) (hq : 2 ≤ weight q) where
@@ -123,7 +139,7 @@ module _ (σ : ℕ → Ty) (Γ : Ctx) where
 
     parallel : (u v w x : Ty) → typeOf p Γ ≡ relation u v → typeOf q Γ ≡ relation w x
         → weight (⋀ (pair (_≐Ty Γ p) (_≐Ty Γ q))) < weight p * weight q * typeWeight (prod (prod u w) (prod v x)) + typeWeight
-            (prod (prod u w) (prod v x))
+        (prod (prod u w) (prod v x))
     unfolding typeWeight
     parallel u v w x ep eq =
         both-full Γ p q (prod (prod u w) (prod v x)) hp hq
@@ -138,8 +154,11 @@ module _ (σ : ℕ → Ty) (Γ : Ctx) where
   pub fills-fall : {k : ℕ} {e r : Tree} → Fills Γ k e r → Accepted σ e Γ expression → weight r < weight e * span Γ e
   unfolding weight scaleOf scaleIn weigh classOf lookup formAt typeOf typeWeight
   fills-fall («SIMP_BINTER_EQUAL_TYPE» ks) a =
-      omega (arith, all-full Γ ks (element (ty 0 (typesIn ks Γ))) (least-twos ks (least-kids σ #BInter 0 [] ks Γ expression a))
-            (fits-kids σ #BInter 0 [] ks Γ expression a))
+      omega (
+        arith,
+        all-full Γ ks (element (ty 0 (typesIn ks Γ))) (least-twos ks (least-kids σ #BInter 0 [] ks Γ expression a))
+            (fits-kids σ #BInter 0 [] ks Γ expression a),
+      )
   fills-fall («SIMP_SETMINUS_EQUAL_TYPE» s b) a =
       let h = pair-two σ #SetMinus s b Γ a refl in omega (arith, full-empty Γ s b (element (typeOf s Γ)) (h .0) (h .1) (omega arith))
   fills-fall («SIMP_CPROD_EQUAL_TYPE» s t) a =
@@ -165,8 +184,11 @@ module _ (σ : ℕ → Ty) (Γ : Ctx) where
   fills-fall («SIMP_PPROD_EQUAL_TYPE» p q) a =
       let h = pair-two σ #PProd p q Γ a refl in
       let f = fits-kids σ #PProd 0 [] (pair p q) Γ expression a in
-      omega (arith, parallel p q (h .0) (h .1) (source (typeOf p Γ)) (target (typeOf p Γ)) (source (typeOf q Γ)) (target (typeOf q Γ))
-            (first-of f) (second-of f))
+      omega (
+        arith,
+        parallel p q (h .0) (h .1) (source (typeOf p Γ)) (target (typeOf p Γ)) (source (typeOf q Γ)) (target (typeOf q Γ))
+            (first-of f) (second-of f),
+      )
   fills-fall («SIMP_KINTER_EQUAL_TYPE» s) a =
       let t = element (element (typeOf s Γ)) in
       omega (arith, ap (λ x. weight s * x) (type-weight t), mul-le-mul-left (weight s) (type-two t), weight-positive s)

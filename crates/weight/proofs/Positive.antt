@@ -19,7 +19,21 @@ use Rattle.typing.specs.Typing.{carriedTy, source}
 use Rattle.typing.specs.Accepted.{Accepted}
 use Rattle.typing.specs.TypeExpression.{toExpression}
 use Rattle.weight.specs.Weight.{
-  typeWeight, Scale, product, total, binding, relating, ScaleRow, row, scales, scaleIn, scaleOf, weigh, weight, sumOf, productOf
+  typeWeight,
+  Scale,
+  product,
+  total,
+  binding,
+  relating,
+  ScaleRow,
+  row,
+  scales,
+  scaleIn,
+  scaleOf,
+  weigh,
+  weight,
+  sumOf,
+  productOf,
 }
 
 -- ---- products

@@ -28,7 +28,7 @@ returns c =
     let c₂ = c₁ .before in
     let c₃ = c₂ .before .before in
     line-refused _ _ _ _ _ _ _ (c₃ .line-end .ensures) _ (omega (arith, c₁ .known-told .given)) (c₂ .a .given .1)
-        (c .before .before .put-refused .ensures)
+    (c .before .before .put-refused .ensures)
 
 same-length-2 : tie.Need-same-length-2
 same-length-2 c = search needs

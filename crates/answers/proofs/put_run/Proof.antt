@@ -29,7 +29,7 @@ returns c =
     let c₁ = c .before .before .before .before .before .before in
     let c₂ = c₁ .before .before .before in
     run-post _ _ _ _ _ _ _ (run-answers _ (λ i. c₂ .shared-slice-known .given i .fits) (replicate 4096 0) refl _ _ (c₁ .run .ensures))
-        (c .before .before .put-answer .ensures)
+    (c .before .before .put-answer .ensures)
 
 pub put-run-spec : {M : Type 1} → statement M
 put-run-spec =

@@ -45,8 +45,16 @@ calls-bind-kids t = (bind-node-below t, bind-node.Post, bind-kids-below t, bind-
 
 -- what the calls ask and answer
 abbrev calls-bind-node : ℕ → bind-node-lts.Claims
-calls-bind-node t = (known-head-reads.Asked, known-head-reads.Learnt, bind-leaf-reads.Asked, bind-leaf-reads.Learnt, enter-reads.Asked,
-      enter-reads.Learnt, bind-kids-below t, bind-kids.Post)
+calls-bind-node t = (
+  known-head-reads.Asked,
+  known-head-reads.Learnt,
+  bind-leaf-reads.Asked,
+  bind-leaf-reads.Learnt,
+  enter-reads.Asked,
+  enter-reads.Learnt,
+  bind-kids-below t,
+  bind-kids.Post,
+)
 
 bind-kids-returns : (t : ℕ) → bind-kids-lts.Need-returns (calls-bind-kids t) (bind-kids-at t) bind-kids.Post
 bind-kids-returns t c = kids-over _ _ _ _ _ _ _ _ _ (c .before .before .pre .1 .0) (c .if1 .taken)
@@ -73,7 +81,7 @@ bind-kids-bind-kids-requires t c κs =
     let c₄ = c₃ .before in
     let c₅ = c₄ .before in
     let f = rest-next _ _ _ _ _ _ _ _ _ (c₅ .pre .1 .0) (c₃ .if1 .left) _ _ _ (c₂ .bind-node .ensures) _ _ (c₁ .a .given .1)
-        (λ i. c₄ .shared-slice-known .given i .fits) (c₅ .pre .1 .1) in (omega arith, (f .1, f .2))
+    (λ i. c₄ .shared-slice-known .given i .fits) (c₅ .pre .1 .1) in (omega arith, (f .1, f .2))
 
 bind-kids-returns-2 : (t : ℕ) → bind-kids-lts.Need-returns-2 (calls-bind-kids t) (bind-kids-at t) bind-kids.Post
 bind-kids-returns-2 t c =
@@ -88,7 +96,7 @@ bind-kids-returns-3 t c =
     let c₃ = c₂ .before .before .before in
     let c₄ = c₃ .before .before in
     kids-yes _ _ _ _ _ _ _ _ _ (c₄ .pre .1 .0) (c₃ .if1 .left) _ _ _ (c₂ .bind-node .ensures) _ _
-        (c₁ .a .given .1) _ _ _ (c .bind-kids .ensures)
+    (c₁ .a .given .1) _ _ _ (c .bind-kids .ensures)
 
 bind-node-known-head-requires : (t : ℕ) → bind-node-lts.Need-known-head-requires (calls-bind-node t) (bind-node-at t) bind-node.Post
 bind-node-known-head-requires t c κs = let h = c .before .pre .1 .1 in (_, h .0, h .2, h .3)
@@ -104,10 +112,12 @@ bind-node-bind-leaf-requires t c κs =
     let c₁ = c .before .before .before .before in
     let c₂ = c₁ .before .before in
     let c₃ = c₂ .before in
-    let c₄ = c₃ .before in
-    (omega (arith, c₄ .pre .1 .0 .opened, c₄ .pre .1 .0 .within, c₄ .pre .1 .0 .fits), place-room _ _ _ _ _ _ _ _
+    let c₄ = c₃ .before in (
+      omega (arith, c₄ .pre .1 .0 .opened, c₄ .pre .1 .0 .within, c₄ .pre .1 .0 .fits),
+      place-room _ _ _ _ _ _ _ _
           (c₂ .known-head .ensures .by _ _ _ (c₄ .pre .1 .1 .3)) (λ i. c₃ .shared-slice-known .given i .fits) _ _ _ _ _ _ _
-          (c₁ .h2 .given .1) (c₄ .pre .1 .0) (c₄ .pre .1 .1))
+          (c₁ .h2 .given .1) (c₄ .pre .1 .0) (c₄ .pre .1 .1),
+    )
 
 bind-node-returns : (t : ℕ) → bind-node-lts.Need-returns (calls-bind-node t) (bind-node-at t) bind-node.Post
 bind-node-returns t c =
@@ -117,10 +127,10 @@ bind-node-returns t c =
     let c₄ = c₃ .before in
     let c₅ = c₄ .before in
     node-leaf _ _ _ _ _ _ _ _ (c₃ .known-head .ensures .by _ _ _ (c₅ .pre .1 .1 .3))
-        (λ i. c₄ .shared-slice-known .given i .fits) _ _ _ _ _ _ _ (c₂ .h2 .given .1) (c₅ .pre .1 .0) (c₁ .if1 .taken)
-        (place-room _ _ _ _ _ _ _ _ (c₃ .known-head .ensures .by _ _ _ (c₅ .pre .1 .1 .3))
-          (λ i. c₄ .shared-slice-known .given i .fits) _ _ _ _ _ _ _ (c₂ .h2 .given .1) (c₅ .pre .1 .0) (c₅ .pre .1 .1)) _
-        _ (c .bind-leaf .ensures)
+    (λ i. c₄ .shared-slice-known .given i .fits) _ _ _ _ _ _ _ (c₂ .h2 .given .1) (c₅ .pre .1 .0) (c₁ .if1 .taken)
+    (place-room _ _ _ _ _ _ _ _ (c₃ .known-head .ensures .by _ _ _ (c₅ .pre .1 .1 .3))
+    (λ i. c₄ .shared-slice-known .given i .fits) _ _ _ _ _ _ _ (c₂ .h2 .given .1) (c₅ .pre .1 .0) (c₅ .pre .1 .1)) _
+    _ (c .bind-leaf .ensures)
 
 bind-node-enter-requires : (t : ℕ) → bind-node-lts.Need-enter-requires (calls-bind-node t) (bind-node-at t) bind-node.Post
 bind-node-enter-requires t c κs =
@@ -129,10 +139,14 @@ bind-node-enter-requires t c κs =
     let c₃ = c₂ .before in
     let c₄ = c₃ .before in
     let w = children-room _ _ _ _ _ _ _ _ (c₂ .known-head .ensures .by _ _ _ (c₄ .pre .1 .1 .3))
-        (λ i. c₃ .shared-slice-known .given i .fits) _ _ _ _ _ _ _ (c₁ .h2 .given .1) (c₄ .pre .1 .0) (c₄ .pre .1 .1) in
-        (c₄ .pre .1 .0 .fits, omega arith, c₄ .pre .1 .0 .binders-size, enter-types _ _ _ _ _ _ _ _
+    (λ i. c₃ .shared-slice-known .given i .fits) _ _ _ _ _ _ _ (c₁ .h2 .given .1) (c₄ .pre .1 .0) (c₄ .pre .1 .1) in (
+      c₄ .pre .1 .0 .fits,
+      omega arith,
+      c₄ .pre .1 .0 .binders-size,
+      enter-types _ _ _ _ _ _ _ _
           (c₂ .known-head .ensures .by _ _ _ (c₄ .pre .1 .1 .3)) (λ i. c₃ .shared-slice-known .given i .fits) _ _ _ _ _ _ _
-          (c₁ .h2 .given .1) (c₄ .pre .1 .0) (c .before .if1 .left) (c₄ .pre .1 .1))
+          (c₁ .h2 .given .1) (c₄ .pre .1 .0) (c .before .if1 .left) (c₄ .pre .1 .1),
+    )
 
 bind-node-add-bind-kids : (t : ℕ) → bind-node-lts.Need-add-bind-kids (calls-bind-node t) (bind-node-at t) bind-node.Post
 bind-node-add-bind-kids t c =
@@ -140,8 +154,11 @@ bind-node-add-bind-kids t c =
     let c₂ = c₁ .before .before in
     let c₃ = c₂ .before in
     let c₄ = c₃ .before in
-    omega (arith, place-room _ _ _ _ _ _ _ _ (c₂ .known-head .ensures .by _ _ _ (c₄ .pre .1 .1 .3))
-          (λ i. c₃ .shared-slice-known .given i .fits) _ _ _ _ _ _ _ (c₁ .h2 .given .1) (c₄ .pre .1 .0) (c₄ .pre .1 .1))
+    omega (
+      arith,
+      place-room _ _ _ _ _ _ _ _ (c₂ .known-head .ensures .by _ _ _ (c₄ .pre .1 .1 .3))
+          (λ i. c₃ .shared-slice-known .given i .fits) _ _ _ _ _ _ _ (c₁ .h2 .given .1) (c₄ .pre .1 .0) (c₄ .pre .1 .1),
+    )
 
 bind-node-bind-kids-requires : (t : ℕ) → bind-node-lts.Need-bind-kids-requires (calls-bind-node t) (bind-node-at t) bind-node.Post
 bind-node-bind-kids-requires t c κs =
@@ -151,17 +168,17 @@ bind-node-bind-kids-requires t c κs =
     let c₄ = c₃ .before in
     let c₅ = c₄ .before in
     let w = children-room _ _ _ _ _ _ _ _ (c₃ .known-head .ensures .by _ _ _ (c₅ .pre .1 .1 .3))
-        (λ i. c₄ .shared-slice-known .given i .fits) _ _ _ _ _ _ _ (c₂ .h2 .given .1) (c₅ .pre .1 .0) (c₅ .pre .1 .1) in
-        let f = node-next _ _ _ _ _ _ _ _ (c₃ .known-head .ensures .by _ _ _ (c₅ .pre .1 .1 .3))
-        (λ i. c₄ .shared-slice-known .given i .fits) _ _ _ _ _ _ _ (c₂ .h2 .given .1) (c₅ .pre .1 .0) (c₁ .if1 .left) _ _
-        (c .before .before .enter .ensures) (c₅ .pre .1 .1) in (omega arith, f)
+    (λ i. c₄ .shared-slice-known .given i .fits) _ _ _ _ _ _ _ (c₂ .h2 .given .1) (c₅ .pre .1 .0) (c₅ .pre .1 .1) in
+    let f = node-next _ _ _ _ _ _ _ _ (c₃ .known-head .ensures .by _ _ _ (c₅ .pre .1 .1 .3))
+    (λ i. c₄ .shared-slice-known .given i .fits) _ _ _ _ _ _ _ (c₂ .h2 .given .1) (c₅ .pre .1 .0) (c₁ .if1 .left) _ _
+    (c .before .before .enter .ensures) (c₅ .pre .1 .1) in (omega arith, f)
 
 bind-node-returns-2 : (t : ℕ) → bind-node-lts.Need-returns-2 (calls-bind-node t) (bind-node-at t) bind-node.Post
 bind-node-returns-2 t c =
     let c₁ = c .before .before .before in
     let c₂ = c₁ .before .before in
     bound-never _ _ _ _ _ _ _ _ (c₁ .known-head .ensures .by _ _ _ (c₂ .pre .1 .1 .3)) _ (c .before .h .given .1)
-        (c₂ .pre .1 .0) (c₂ .pre .1 .1)
+    (c₂ .pre .1 .0) (c₂ .pre .1 .1)
 
 bind-node-returns-3 : (t : ℕ) → bind-node-lts.Need-returns-3 (calls-bind-node t) (bind-node-at t) bind-node.Post
 bind-node-returns-3 t c =
@@ -172,8 +189,8 @@ bind-node-returns-3 t c =
     let c₅ = c₄ .before in
     let c₆ = c₅ .before in
     node-kids _ _ _ _ _ _ _ _ (c₄ .known-head .ensures .by _ _ _ (c₆ .pre .1 .1 .3))
-        (λ i. c₅ .shared-slice-known .given i .fits) _ _ _ _ _ _ _ (c₃ .h2 .given .1) (c₆ .pre .1 .0) (c₂ .if1 .left) _ _
-        (c₁ .enter .ensures) _ _ _ (c .bind-kids .ensures)
+    (λ i. c₅ .shared-slice-known .given i .fits) _ _ _ _ _ _ _ (c₃ .h2 .given .1) (c₆ .pre .1 .0) (c₂ .if1 .left) _ _
+    (c₁ .enter .ensures) _ _ _ (c .bind-kids .ensures)
 
 pub +bind-kids+bind-node-spec : {M : Type 1} → statement M
 +bind-kids+bind-node-spec = close μ-bind-kids μ-bind-node (λ t. bind-kids-lts.spec (calls-bind-kids t)

@@ -54,14 +54,14 @@ open-binders-open-binders-requires : (t : ℕ) → open-binders-lts.Need-open-bi
 open-binders-open-binders-requires t c κs =
     let c₁ = c .before .before .before .before in
     let l = binders-room _ _ _ (omega arith) (c₁ .pre .1 .3) in
-        let f = binders-after _ _ _ (omega arith) _ (c .before .skip-types .ensures) (c₁ .pre .1 .3) in
-        (omega arith, (c₁ .pre .1 .0, omega arith, simp length-set (c₁ .pre .1 .2), f .0))
+    let f = binders-after _ _ _ (omega arith) _ (c .before .skip-types .ensures) (c₁ .pre .1 .3) in
+    (omega arith, (c₁ .pre .1 .0, omega arith, simp length-set (c₁ .pre .1 .2), f .0))
 
 open-binders-returns-2 : (t : ℕ) → open-binders-lts.Need-returns-2 (calls-open-binders t) (open-binders-at t) open-binders.Post
 open-binders-returns-2 t c =
     let c₁ = c .before .before .before .before .before in
     let l = binders-room _ _ _ (omega arith) (c₁ .pre .1 .3) in
-        open-more _ _ _ (omega arith) _ (c .before .before .skip-types .ensures) _ _ _ _ (omega arith) (c .open-binders .ensures)
+    open-more _ _ _ (omega arith) _ (c .before .before .skip-types .ensures) _ _ _ _ (omega arith) (c .open-binders .ensures)
 
 pub +open-binders-spec : {M : Type 1} → statement M
 +open-binders-spec = close μ-open-binders λ t. open-binders-lts.spec (calls-open-binders t)

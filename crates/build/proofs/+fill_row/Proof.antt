@@ -40,16 +40,18 @@ fill-row-sub-fill-row t c = let z = c .before .before .before .if1 .left in omeg
 fill-row-fill-row-requires : (t : ℕ) → fill-row-lts.Need-fill-row-requires (calls-fill-row t) (fill-row-at t) fill-row.Post
 fill-row-fill-row-requires t c κs =
     let c₁ = c .before .before .before .before in
-    let c₂ = c₁ .before .before in
-    (let z = c₁ .if1 .left in let y = c₂ .pre .0 in omega arith, fill-row-rest _ _ _ _ _ _ _ _ _ (c₁ .if1 .left) (c₂ .pre .1) _
-          (c .before .next-at .ensures .0))
+    let c₂ = c₁ .before .before in (
+      let z = c₁ .if1 .left in let y = c₂ .pre .0 in omega arith,
+      fill-row-rest _ _ _ _ _ _ _ _ _ (c₁ .if1 .left) (c₂ .pre .1) _
+          (c .before .next-at .ensures .0),
+    )
 
 fill-row-returns-2 : (t : ℕ) → fill-row-lts.Need-returns-2 (calls-fill-row t) (fill-row-at t) fill-row.Post
 fill-row-returns-2 t c =
     let c₁ = c .before .before .before in
     let c₂ = c₁ .before .before in
     fill-row-more _ _ _ _ _ _ _ _ _ (c₂ .if1 .left) _ _ _ _ (c₁ .fill .ensures) _
-        (c .before .before .next-at .ensures .0) _ _ (c .fill-row .ensures)
+    (c .before .before .next-at .ensures .0) _ _ (c .fill-row .ensures)
 
 pub +fill-row-spec : {M : Type 1} → statement M
 +fill-row-spec = close μ-fill-row λ t. fill-row-lts.spec (calls-fill-row t)

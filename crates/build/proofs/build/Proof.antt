@@ -1,6 +1,15 @@
 use Rattle.build.proofs.DecisionTurns.{
-  build-rests, fixed-asked, fixed-answered, each-asked, each-answered, kept-asked, kept-answered, apart-asked, apart-answered,
-  within-asked, within-answered
+  build-rests,
+  fixed-asked,
+  fixed-answered,
+  each-asked,
+  each-answered,
+  kept-asked,
+  kept-answered,
+  apart-asked,
+  apart-answered,
+  within-asked,
+  within-answered,
 }
 use borrow.Author.Needs.{needs}
 use Rattle.build.proofs.build.Statement.{statement}

@@ -47,7 +47,7 @@ returns c =
     let c₃ = c₂ .before .before in
     let c₄ = c₃ .before .before in
     apart-built _ _ _ _ _ _ _ _ (c₄ .arity-at .ensures) _ _ _ _ (c₃ .put-word .ensures) _ _ (c₂ .put-word2 .ensures) _ _
-        (c₁ .copy-at .ensures) _ _ (c .before .before .put-joined .ensures) _ _ (c .put-row .ensures)
+    (c₁ .copy-at .ensures) _ _ (c .before .before .put-joined .ensures) _ _ (c .put-row .ensures)
 
 pub build-apart-spec : {M : Type 1} → statement M
 build-apart-spec =

@@ -12,9 +12,11 @@ joint-requires c κs = search needs
 
 put-many-requires : tie.Need-put-many-requires
 put-many-requires c κs =
-    let c₁ = c .before .before .before .before in
-    (joint-small (c₁ .args .place) _ (c .before .joint .ensures), each-count _ _ _ _ _ _ _ _ _
-          (c .before .before .arity-at .ensures) (c₁ .pre))
+    let c₁ = c .before .before .before .before in (
+      joint-small (c₁ .args .place) _ (c .before .joint .ensures),
+      each-count _ _ _ _ _ _ _ _ _
+          (c .before .before .arity-at .ensures) (c₁ .pre),
+    )
 
 add-c : tie.Need-add-c
 add-c c = let z = each-few _ _ _ _ _ _ _ _ (c .before .before .before .before .before .pre) in omega arith
@@ -30,7 +32,7 @@ returns c =
     let c₁ = c .before .before .before .before in
     let c₂ = c₁ .before in
     each-built _ _ _ _ _ _ _ _ _ (c₂ .arity-at .ensures) _ _ _ (c₁ .joint .ensures) _ _
-        (c .before .before .put-many .ensures) _ _ (c .fill-row .ensures)
+    (c .before .before .put-many .ensures) _ _ (c .fill-row .ensures)
 
 pub build-each-spec : {M : Type 1} → statement M
 build-each-spec =

@@ -34,9 +34,11 @@ count-minus-requires c κs =
 put-joined-requires-2 : tie.Need-put-joined-requires-2
 put-joined-requires-2 c κs =
     let c₁ = c .before .before .before .before .before .before .before .before in
-    let c₂ = c₁ .before .before in
-    (omega arith, let z = within-many _ _ _ _ _ _ _ (c₁ .arity-at .ensures) (c₂ .pre) in
-          let y = c .before .count-minus .ensures .few in omega arith)
+    let c₂ = c₁ .before .before in (
+      omega arith,
+      let z = within-many _ _ _ _ _ _ _ (c₁ .arity-at .ensures) (c₂ .pre) in
+          let y = c .before .count-minus .ensures .few in omega arith,
+    )
 
 put-row-requires-2 : tie.Need-put-row-requires-2
 put-row-requires-2 c κs =
@@ -52,7 +54,7 @@ returns c =
     let c₄ = c₃ .before .before in
     let c₅ = c₄ .before .before in
     within-built _ _ _ _ _ _ _ (c₅ .arity-at .ensures) _ _ _ _ (c₄ .put-word .ensures) _ _ (c₃ .put-joined .ensures) _ _
-        (c₂ .put-row .ensures) _ (c₁ .count-minus .ensures) _ _ (c .before .before .put-joined2 .ensures) _ _ (c .put-row2 .ensures)
+    (c₂ .put-row .ensures) _ (c₁ .count-minus .ensures) _ _ (c .before .before .put-joined2 .ensures) _ _ (c .put-row2 .ensures)
 
 pub build-within-spec : {M : Type 1} → statement M
 build-within-spec =

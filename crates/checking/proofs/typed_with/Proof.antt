@@ -26,7 +26,7 @@ returns c =
     let c₂ = c₁ .before .before .before in
     let c₃ = c₂ .before in
     typed-by _ _ _ _ (λ i. c₂ .shared-slice-known .given i .fits) (c₃ .pre .0) (omega arith) (c₁ .type-tree .ensures) true
-        (ap isTyped (sym (c .before .a .given .1)))
+    (ap isTyped (sym (c .before .a .given .1)))
 
 same-length-2 : tie.Need-same-length-2
 same-length-2 c = search needs
@@ -37,7 +37,7 @@ returns-2 c =
     let c₂ = c₁ .before .before .before in
     let c₃ = c₂ .before in
     typed-by _ _ _ _ (λ i. c₂ .shared-slice-known .given i .fits) (c₃ .pre .0) (omega arith) (c₁ .type-tree .ensures) false
-        (ap isTyped (sym (c .enum-told .given .1)))
+    (ap isTyped (sym (c .enum-told .given .1)))
 
 pub typed-with-spec : {M : Type 1} → statement M
 typed-with-spec =

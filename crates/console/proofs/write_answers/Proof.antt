@@ -62,16 +62,23 @@ loop-less c =
     let c₁ = c .before .before .before .before .before .before .before in
     let c₂ = c₁ .before .before .before .before .before in
     let c₃ = c₂ .before .before .before in
-    omega (arith, c₁ .feed .ensures .within, c₁ .feed .ensures .some (omega (arith, c₃ .pre))
-          (omega (arith, part-long (now (c₃ .args .piece)) (c₂ .loop .at))), part-long (now (c₃ .args .piece)) (c₂ .loop .at))
+    omega (
+      arith,
+      c₁ .feed .ensures .within,
+      c₁ .feed .ensures .some (omega (arith, c₃ .pre))
+          (omega (arith, part-long (now (c₃ .args .piece)) (c₂ .loop .at))),
+      part-long (now (c₃ .args .piece)) (c₂ .loop .at),
+    )
 
 loop-again : tie.Need-loop-again Inv-loop μ-loop
 loop-again c =
     let c₁ = c .before .before .before .before .before .before .before in
     let c₂ = c₁ .before .before .before .before .before in
-    let c₃ = c₂ .before .before .before in
-    (omega (arith, c₁ .feed .ensures .within, part-long (now (c₃ .args .piece)) (c₂ .loop .at)), omega arith,
-      carried-more _ _ _ _ _ _ (c₂ .loop .inv .2) _ _ _ _ _ _ (c₁ .feed .ensures))
+    let c₃ = c₂ .before .before .before in (
+      omega (arith, c₁ .feed .ensures .within, part-long (now (c₃ .args .piece)) (c₂ .loop .at)),
+      omega arith,
+      carried-more _ _ _ _ _ _ (c₂ .loop .inv .2) _ _ _ _ _ _ (c₁ .feed .ensures),
+    )
 
 same-length-2 : tie.Need-same-length-2 Inv-loop μ-loop
 same-length-2 c = omega arith

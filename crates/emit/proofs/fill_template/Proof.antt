@@ -29,9 +29,13 @@ run-program-requires : tie.Need-run-program-requires
 unfolding programs highs lows
 run-program-requires c κs =
     let c₁ = c .before .before .before in
-    let c₂ = c₁ .before .before .before in
-    (template (c₂ .args .place), c₂ .pre .1 .0, place-program (c₂ .args .place) (c₂ .pre .0) _ _ (c₁ .wide .ensures .0)
-          (c .before .before .wide2 .ensures .0), c₂ .pre .1 .1)
+    let c₂ = c₁ .before .before .before in (
+      template (c₂ .args .place),
+      c₂ .pre .1 .0,
+      place-program (c₂ .args .place) (c₂ .pre .0) _ _ (c₁ .wide .ensures .0)
+          (c .before .before .wide2 .ensures .0),
+      c₂ .pre .1 .1,
+    )
 
 returns : tie.Need-returns
 unfolding programs highs lows
@@ -39,8 +43,10 @@ returns c =
     let c₁ = c .before .before .before in
     let c₂ = c₁ .before in
     let c₃ = c₂ .before .before .before in
-    record { puts = λ f h. c .run-program .ensures .puts (template (c₃ .args .place)) f
-          (place-program (c₃ .args .place) (c₃ .pre .0) _ _ (c₂ .wide .ensures .0) (c₁ .wide2 .ensures .0)) h }
+    record {
+      puts = λ f h. c .run-program .ensures .puts (template (c₃ .args .place)) f
+          (place-program (c₃ .args .place) (c₃ .pre .0) _ _ (c₂ .wide .ensures .0) (c₁ .wide2 .ensures .0)) h;
+    }
 
 pub fill-template-spec : {M : Type 1} → statement M
 fill-template-spec =

@@ -152,14 +152,14 @@ returns-14 c =
     let c₁ = c .before .before .before in
     let c₂ = c₁ .before in
     empty-56 _ _ _ _ _ (c₂ .tag-at .ensures) (c .before .match .keys14) _ (c₁ .second-of .ensures) _
-        (c .before .before .arity-at .ensures) _ (c .fixed-if-two .ensures)
+    (c .before .before .arity-at .ensures) _ (c .fixed-if-two .ensures)
 
 returns-15 : tie.Need-returns-15
 returns-15 c =
     let c₁ = c .before .before .before in
     let c₂ = c₁ .before in
     empty-57 _ _ _ _ _ (c₂ .tag-at .ensures) (c .before .match .keys15) _ (c₁ .second-of .ensures) _
-        (c .before .before .arity-at .ensures) _ (c .fixed-if-two2 .ensures)
+    (c .before .before .arity-at .ensures) _ (c .fixed-if-two2 .ensures)
 
 returns-16 : tie.Need-returns-16
 returns-16 c =

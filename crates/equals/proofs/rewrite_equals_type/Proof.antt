@@ -61,55 +61,55 @@ returns-2 : tie.Need-returns-2
 returns-2 c =
     let c₁ = c .before .before .before in
     type-two _ _ _ _ _ (c₁ .tag-at .ensures) 213 25 refl (c .before .match .keys2) _
-        (c .before .before .second-of .ensures) _ (c .fixed .ensures)
+    (c .before .before .second-of .ensures) _ (c .fixed .ensures)
 
 returns-3 : tie.Need-returns-3
 returns-3 c =
     let c₁ = c .before .before .before in
     type-two _ _ _ _ _ (c₁ .tag-at .ensures) 214 26 refl (c .before .match .keys3) _
-        (c .before .before .second-of .ensures) _ (c .fixed2 .ensures)
+    (c .before .before .second-of .ensures) _ (c .fixed2 .ensures)
 
 returns-4 : tie.Need-returns-4
 returns-4 c =
     let c₁ = c .before .before .before in
     type-two _ _ _ _ _ (c₁ .tag-at .ensures) 221 27 refl (c .before .match .keys4) _
-        (c .before .before .second-of .ensures) _ (c .fixed3 .ensures)
+    (c .before .before .second-of .ensures) _ (c .fixed3 .ensures)
 
 returns-5 : tie.Need-returns-5
 returns-5 c =
     let c₁ = c .before .before .before in
     type-two _ _ _ _ _ (c₁ .tag-at .ensures) 217 28 refl (c .before .match .keys5) _
-        (c .before .before .second-of .ensures) _ (c .fixed4 .ensures)
+    (c .before .before .second-of .ensures) _ (c .fixed4 .ensures)
 
 returns-6 : tie.Need-returns-6
 returns-6 c =
     let c₁ = c .before .before .before in
     type-two _ _ _ _ _ (c₁ .tag-at .ensures) 218 29 refl (c .before .match .keys6) _
-        (c .before .before .second-of .ensures) _ (c .fixed5 .ensures)
+    (c .before .before .second-of .ensures) _ (c .fixed5 .ensures)
 
 returns-7 : tie.Need-returns-7
 returns-7 c =
     let c₁ = c .before .before .before in
     type-two _ _ _ _ _ (c₁ .tag-at .ensures) 219 30 refl (c .before .match .keys7) _
-        (c .before .before .second-of .ensures) _ (c .fixed6 .ensures)
+    (c .before .before .second-of .ensures) _ (c .fixed6 .ensures)
 
 returns-8 : tie.Need-returns-8
 returns-8 c =
     let c₁ = c .before .before .before in
     type-two _ _ _ _ _ (c₁ .tag-at .ensures) 220 31 refl (c .before .match .keys8) _
-        (c .before .before .second-of .ensures) _ (c .fixed7 .ensures)
+    (c .before .before .second-of .ensures) _ (c .fixed7 .ensures)
 
 returns-9 : tie.Need-returns-9
 returns-9 c =
     let c₁ = c .before .before .before in
     type-two _ _ _ _ _ (c₁ .tag-at .ensures) 215 32 refl (c .before .match .keys9) _
-        (c .before .before .second-of .ensures) _ (c .fixed8 .ensures)
+    (c .before .before .second-of .ensures) _ (c .fixed8 .ensures)
 
 returns-10 : tie.Need-returns-10
 returns-10 c =
     let c₁ = c .before .before .before in
     type-two _ _ _ _ _ (c₁ .tag-at .ensures) 216 32 refl (c .before .match .keys10) _
-        (c .before .before .second-of .ensures) _ (c .fixed9 .ensures)
+    (c .before .before .second-of .ensures) _ (c .fixed9 .ensures)
 
 returns-11 : tie.Need-returns-11
 returns-11 c = type-33 _ _ _ _ _ (c .before .before .before .tag-at .ensures) (c .before .match .keys11) _ (c .fixed10 .ensures)

@@ -31,7 +31,7 @@ returns c =
     let c₃ = c₂ .before in
     let c₄ = c₃ .before .before in
     ranges-done _ _ _ _ _ _ _ (c₄ .pre) _ _ _ _ _ _ (c₃ .start-at .ensures .0) (c₂ .end-at .ensures) (c₁ .start-at2 .ensures .0)
-        (c .before .before .end-at2 .ensures) (c .before .start-at3 .ensures .0) (c .start-after .ensures)
+    (c .before .before .end-at2 .ensures) (c .before .start-at3 .ensures .0) (c .start-after .ensures)
 
 pub ranges-spec : {M : Type 1} → statement M
 ranges-spec =

@@ -23,7 +23,7 @@ copy-in-requires c κs =
     let c₃ = c₂ .before .before in
     let c₄ = c₃ .before .before .before .before in
     copy-room _ _ _ _ _ _ (c₄ .pre .0) _ (c₃ .start-at .ensures .0) _ (work-kept _ _ _ _ _ _ (omega arith) (c₄ .pre .1)) _
-        (c₂ .type-tree .ensures) _ (c₁ .a .given .1)
+    (c₂ .type-tree .ensures) _ (c₁ .a .given .1)
 
 enum-told : tie.Need-enum-told
 enum-told c = search needs
@@ -41,7 +41,7 @@ returns c =
     let c₃ = c₂ .before .before in
     let c₄ = c₃ .before .before .before .before in
     type-copied _ _ _ _ _ _ (c₄ .pre .0) _ (c₃ .start-at .ensures .0) _ (work-kept _ _ _ _ _ _ (omega arith) (c₄ .pre .1)) _
-        (c₂ .type-tree .ensures) _ (c₁ .a .given .1) _ (c .before .before .copy-in .ensures)
+    (c₂ .type-tree .ensures) _ (c₁ .a .given .1) _ (c .before .before .copy-in .ensures)
 
 same-length-3 : tie.Need-same-length-3
 same-length-3 c = search needs
@@ -52,7 +52,7 @@ returns-2 c =
     let c₂ = c₁ .before .before in
     let c₃ = c₂ .before .before .before .before in
     type-refused _ _ _ _ _ _ (c₃ .pre .0) _ (c₂ .start-at .ensures .0) _ (work-kept _ _ _ _ _ _ (omega arith) (c₃ .pre .1)) _
-        (c₁ .type-tree .ensures) (c .enum-told .given .1)
+    (c₁ .type-tree .ensures) (c .enum-told .given .1)
 
 pub type-with-spec : {M : Type 1} → statement M
 type-with-spec =

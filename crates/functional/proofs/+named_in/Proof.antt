@@ -25,8 +25,18 @@ named-in-below t =
 
 -- what the calls ask and answer
 abbrev calls-named-in : ℕ → named-in-lts.Claims
-calls-named-in t = (binders-at-reads.Asked, binders-at-reads.Learnt, kids-at-reads.Asked, kids-at-reads.Learnt, own-at-reads.Asked,
-      own-at-reads.Learnt, named-in-below t, named-in.Post, next-at-reads.Asked, next-at-reads.Learnt)
+calls-named-in t = (
+  binders-at-reads.Asked,
+  binders-at-reads.Learnt,
+  kids-at-reads.Asked,
+  kids-at-reads.Learnt,
+  own-at-reads.Asked,
+  own-at-reads.Learnt,
+  named-in-below t,
+  named-in.Post,
+  next-at-reads.Asked,
+  next-at-reads.Learnt,
+)
 
 named-in-returns : (t : ℕ) → named-in-lts.Need-returns (calls-named-in t) (named-in-at t) named-in.Post
 named-in-returns t c = named-none _ _ _ _ _ _ _ _ (c .if1 .taken)
@@ -53,15 +63,15 @@ named-in-add-named-in-2 t c =
     let c₁ = c .before .before .before in
     let c₂ = c₁ .before .before in
     let z = row-few _ _ _ _ _ (c₁ .if1 .left) (c₂ .pre .1 .0) in let y = c₂ .pre .1 .1 in
-        let x = c .before .before .binders-at .ensures .1 in omega arith
+    let x = c .before .before .binders-at .ensures .1 in omega arith
 
 named-in-named-in-requires : (t : ℕ) → named-in-lts.Need-named-in-requires (calls-named-in t) (named-in-at t) named-in.Post
 named-in-named-in-requires t c κs =
     let c₁ = c .before .before .before in
     let c₂ = c₁ .before .before in
     let z = row-few _ _ _ _ _ (c₁ .if1 .left) (c₂ .pre .1 .0) in let y = c₂ .pre .1 .1 in
-        let x = c .before .before .binders-at .ensures .1 in let m = c₂ .pre .0 in
-        (omega arith, (row-kids _ _ _ _ _ (c₁ .if1 .left) _ _ (c .before .kids-at .ensures) (c₂ .pre .1 .0), omega arith, c₂ .pre .1 .2))
+    let x = c .before .before .binders-at .ensures .1 in let m = c₂ .pre .0 in
+    (omega arith, (row-kids _ _ _ _ _ (c₁ .if1 .left) _ _ (c .before .kids-at .ensures) (c₂ .pre .1 .0), omega arith, c₂ .pre .1 .2))
 
 named-in-next-at-requires : (t : ℕ) → named-in-lts.Need-next-at-requires (calls-named-in t) (named-in-at t) named-in.Post
 named-in-next-at-requires t c κs =
@@ -77,8 +87,8 @@ named-in-named-in-requires-2 t c κs =
     let c₁ = c .before .before .before .before .before in
     let c₂ = c₁ .before .before in
     let z = row-few _ _ _ _ _ (c₁ .if1 .left) (c₂ .pre .1 .0) in let w = row-far _ _ _ _ _ (c₁ .if1 .left) (c₂ .pre .1 .0) in
-        let v = c .next-at .ensures .0 in let y = c₂ .pre .1 .1 in let m = c₂ .pre .0 in
-        (omega arith, (row-rest _ _ _ _ _ (c₁ .if1 .left) _ (c .next-at .ensures .0) (c₂ .pre .1 .0), omega arith, c₂ .pre .1 .2))
+    let v = c .next-at .ensures .0 in let y = c₂ .pre .1 .1 in let m = c₂ .pre .0 in
+    (omega arith, (row-rest _ _ _ _ _ (c₁ .if1 .left) _ (c .next-at .ensures .0) (c₂ .pre .1 .0), omega arith, c₂ .pre .1 .2))
 
 named-in-returns-2 : (t : ℕ) → named-in-lts.Need-returns-2 (calls-named-in t) (named-in-at t) named-in.Post
 named-in-returns-2 t c =
@@ -87,7 +97,7 @@ named-in-returns-2 t c =
     let c₃ = c₂ .before in
     let c₄ = c₃ .before in
     named-more _ _ _ _ _ (c₄ .if1 .left) _ (c .before .next-at .ensures .0) _ _ _ _ _ (c₃ .binders-at .ensures .0)
-        (c₂ .kids-at .ensures) _ _ _ (c₁ .own-at .ensures) (c .before .before .named-in .ensures) (c .named-in2 .ensures)
+    (c₂ .kids-at .ensures) _ _ _ (c₁ .own-at .ensures) (c .before .before .named-in .ensures) (c .named-in2 .ensures)
 
 pub +named-in-spec : {M : Type 1} → statement M
 +named-in-spec = close μ-named-in λ t. named-in-lts.spec (calls-named-in t)

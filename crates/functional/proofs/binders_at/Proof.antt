@@ -27,7 +27,7 @@ number-requires c κs =
     let c₁ = c .before .before .before in
     let c₂ = c₁ .before .before in
     let z = room-binders _ _ _ _ (c₁ .tag-at .ensures) (sym (c .before .before .is-binder .ensures) ∙ not-false _ (c .before .if1 .left)) _
-        (c .start-at .ensures .0) (c₂ .pre) in omega arith
+    (c .start-at .ensures .0) (c₂ .pre) in omega arith
 
 returns-2 : tie.Need-returns-2
 returns-2 c =
@@ -35,7 +35,7 @@ returns-2 c =
     let c₂ = c₁ .before in
     let c₃ = c₂ .before .before in
     binders-some _ _ _ _ (c₂ .tag-at .ensures) (sym (c₁ .is-binder .ensures) ∙ not-false _ (c .before .before .if1 .left)) _
-        (c .before .start-at .ensures .0) (c₃ .pre) _ (c .number .ensures)
+    (c .before .start-at .ensures .0) (c₃ .pre) _ (c .number .ensures)
 
 pub binders-at-spec : {M : Type 1} → statement M
 binders-at-spec =

@@ -68,7 +68,7 @@ read-type-read-type-requires-3 t c κs =
     let c₄ = c₃ .before in
     let c₅ = c₄ .before in
     let fw = prod-further _ _ _ (c₄ .if1 .left) (c₃ .if2 .left) (c₂ .match .keys5) _ (c₁ .read-type2 .ensures)
-        (λ i. c₅ .shared-slice-known .given i .fits) _ (c .before .a .given .1) in omega arith
+    (λ i. c₅ .shared-slice-known .given i .fits) _ (c .before .a .given .1) in omega arith
 
 read-type-enum-known-a-2 : (t : ℕ) → read-type-lts.Need-enum-known-a-2 (calls-read-type t) (read-type-at t) read-type.Post
 read-type-enum-known-a-2 t c = search needs
@@ -99,7 +99,7 @@ read-type-returns-7 t c =
     let c₄ = c₃ .before in
     let c₅ = c₄ .before in
     ty-prod _ _ _ (c₄ .if1 .left) (c₃ .if2 .left) (c₂ .match .keys5) _ (c₁ .read-type2 .ensures)
-        (λ i. c₅ .shared-slice-known .given i .fits) _ (c .before .before .a .given .1) _ (c .read-type3 .ensures)
+    (λ i. c₅ .shared-slice-known .given i .fits) _ (c .before .before .a .given .1) _ (c .read-type3 .ensures)
 
 read-type-returns-8 : (t : ℕ) → read-type-lts.Need-returns-8 (calls-read-type t) (read-type-at t) read-type.Post
 read-type-returns-8 t c =

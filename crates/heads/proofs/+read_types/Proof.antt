@@ -48,7 +48,7 @@ read-types-read-types-requires t c κs =
     let c₂ = c₁ .before in
     let c₃ = c₂ .before in
     let fw = tys-further _ _ _ (c₂ .if1 .left) _ (c₁ .read-type .ensures) _ (c .before .a .given .1)
-        (λ i. c₃ .shared-slice-known .given i .fits) in omega arith
+    (λ i. c₃ .shared-slice-known .given i .fits) in omega arith
 
 read-types-enum-known-a-2 : (t : ℕ) → read-types-lts.Need-enum-known-a-2 (calls-read-types t) (read-types-at t) read-types.Post
 read-types-enum-known-a-2 t c = search needs

@@ -28,8 +28,13 @@ add-if4 c = search needs
 returns-4 : tie.Need-returns-4
 returns-4 c =
     let c₁ = c .before .before .before in
-    rw (lt-leb _ _ (c₁ .if1 .left), lt-leb _ _ (c .before .before .if2 .left), lt-leb _ _
-          (c .before .if3 .left), le-leb _ _ (c .if4 .taken))
+    rw (
+      lt-leb _ _ (c₁ .if1 .left),
+      lt-leb _ _ (c .before .before .if2 .left),
+      lt-leb _ _
+          (c .before .if3 .left),
+      le-leb _ _ (c .if4 .taken),
+    )
 
 add-t6 : tie.Need-add-t6
 add-t6 c = search needs

@@ -21,7 +21,7 @@ returns c =
     let c₁ = c .before .before .before in
     let c₂ = c₁ .before in
     head-is (c₂ .args .form) _ (c₂ .args .x) _ _ (c₂ .pre .0) (c₂ .pre .1) _ _ _ _ (c₁ .payload-of .ensures)
-        (c .before .before .children-of .ensures) (c .before .first-of .ensures) (c .later-of .ensures)
+    (c .before .before .children-of .ensures) (c .before .first-of .ensures) (c .later-of .ensures)
 
 pub head-is-spec : {M : Type 1} → statement M
 head-is-spec =

@@ -18,9 +18,11 @@ add-number c = omega (arith, known-two _ _ (c .before .before .before .before .p
 
 number-requires-2 : tie.Need-number-requires-2
 number-requires-2 c κs =
-    let c₁ = c .before .before .before .before in
-    (known-room _ _ _ (c .before .before .number .ensures) _ (c .before .form-of .ensures .0) _ (c .width-of .ensures .0)
-          (c₁ .pre), c .width-of .ensures .1)
+    let c₁ = c .before .before .before .before in (
+      known-room _ _ _ (c .before .before .number .ensures) _ (c .before .form-of .ensures .0) _ (c .width-of .ensures .0)
+          (c₁ .pre),
+      c .width-of .ensures .1,
+    )
 
 add-types : tie.Need-add-types
 add-types c = omega (arith, known-two _ _ (c .before .before .before .before .before .pre))
@@ -29,8 +31,11 @@ add-types-2 : tie.Need-add-types-2
 add-types-2 c =
     let c₁ = c .before .before .before in
     let c₂ = c₁ .before .before in
-    omega (arith, known-room _ _ _ (c₁ .number .ensures) _ (c .before .before .form-of .ensures .0) _
-          (c .before .width-of .ensures .0) (c₂ .pre))
+    omega (
+      arith,
+      known-room _ _ _ (c₁ .number .ensures) _ (c .before .before .form-of .ensures .0) _
+          (c .before .width-of .ensures .0) (c₂ .pre),
+    )
 
 types-of-requires : tie.Need-types-of-requires
 types-of-requires c κs = search needs
@@ -42,16 +47,18 @@ skip-types-requires c κs =
     let c₃ = c₂ .before in
     let c₄ = c₃ .before in
     known-types _ _ _ (c₂ .number .ensures) _ (c₁ .form-of .ensures .0) _ (c .before .before .width-of .ensures .0) _
-        (c .before .number2 .ensures) _ (c .types-of .ensures) (λ i. c₃ .shared-slice-known .given i .fits) (c₄ .pre)
+    (c .before .number2 .ensures) _ (c .types-of .ensures) (λ i. c₃ .shared-slice-known .given i .fits) (c₄ .pre)
 
 head-is-requires : tie.Need-head-is-requires
 head-is-requires c κs =
     let c₁ = c .before .before .before in
     let c₂ = c₁ .before in
     let c₃ = c₂ .before in
-    let c₄ = c₃ .before .before in
-    (c₂ .form-of .ensures .1, known-range _ _ _ (c₃ .number .ensures) _ (c₂ .form-of .ensures .0) _ (c₁ .width-of .ensures .0) _
-          (c .before .before .number2 .ensures) (c₄ .pre))
+    let c₄ = c₃ .before .before in (
+      c₂ .form-of .ensures .1,
+      known-range _ _ _ (c₃ .number .ensures) _ (c₂ .form-of .ensures .0) _ (c₁ .width-of .ensures .0) _
+          (c .before .before .number2 .ensures) (c₄ .pre),
+    )
 
 returns : tie.Need-returns
 returns c =
@@ -61,8 +68,8 @@ returns c =
     let c₄ = c₃ .before in
     let c₅ = c₄ .before in
     known-found _ _ _ (c₄ .number .ensures) _ (c₃ .form-of .ensures .0) _ (c₂ .width-of .ensures .0) _ (c₁ .number2 .ensures) _
-        (c .before .before .types-of .ensures) (λ i. c₅ .shared-slice-known .given i .fits) _
-        (c .before .skip-types .ensures) _ (c .head-is .ensures)
+    (c .before .before .types-of .ensures) (λ i. c₅ .shared-slice-known .given i .fits) _
+    (c .before .skip-types .ensures) _ (c .head-is .ensures)
 
 pub known-head-spec : {M : Type 1} → statement M
 known-head-spec =

@@ -22,8 +22,12 @@ loop-holds c = (omega arith, refl)
 mul-x : tie.Need-mul-x Inv-loop μ-loop
 mul-x c =
     let c₁ = c .before .before .before in
-    omega (arith, number-room (c .before .loop .i) (now (c₁ .args .s)) (λ i. c .before .before .shared-slice-known .given i .fits)
-          (c₁ .args .at) (omega arith), c .before .loop .inv .1)
+    omega (
+      arith,
+      number-room (c .before .loop .i) (now (c₁ .args .s)) (λ i. c .before .before .shared-slice-known .given i .fits)
+          (c₁ .args .at) (omega arith),
+      c .before .loop .inv .1,
+    )
 
 add-wide : tie.Need-add-wide Inv-loop μ-loop
 add-wide c = omega arith
@@ -39,8 +43,12 @@ add-x c =
     let c₁ = c .before .before .before in
     let c₂ = c₁ .before in
     let c₃ = c₂ .before in
-    omega (arith, number-room (c₁ .loop .i) (now (c₃ .args .s)) (λ i. c₂ .shared-slice-known .given i .fits) (c₃ .args .at)
-          (omega arith), c₁ .loop .inv .1)
+    omega (
+      arith,
+      number-room (c₁ .loop .i) (now (c₃ .args .s)) (λ i. c₂ .shared-slice-known .given i .fits) (c₃ .args .at)
+          (omega arith),
+      c₁ .loop .inv .1,
+    )
 
 add-i : tie.Need-add-i Inv-loop μ-loop
 add-i c = omega arith
@@ -55,7 +63,7 @@ returns : tie.Need-returns Inv-loop μ-loop
 returns c =
     let c₁ = c .before .before .before in
     let z : c .before .loop .i ≡ c₁ .args .w = omega arith in
-        c .before .loop .inv .1 ∙ ap (λ (k : ℕ). numberAt k (now (c₁ .args .s)) (c₁ .args .at)) z
+    c .before .loop .inv .1 ∙ ap (λ (k : ℕ). numberAt k (now (c₁ .args .s)) (c₁ .args .at)) z
 
 pub number-spec : {M : Type 1} → statement M
 number-spec =

@@ -23,7 +23,7 @@ returns-2 c =
     let c₁ = c .before .before .before in
     let c₂ = c₁ .before .before in
     head-unlisted _ _ (c₂ .args .e) (c₁ .if1 .left) _ (c .before .before .number .ensures) _ (c .before .form-of .ensures .0)
-        (c .before .form-of .ensures .1) (c .if2 .taken)
+    (c .before .form-of .ensures .1) (c .if2 .taken)
 
 is-sort-requires : tie.Need-is-sort-requires
 is-sort-requires c κs = search needs
@@ -35,7 +35,7 @@ returns-3 c =
     let c₃ = c₂ .before in
     let c₄ = c₃ .before .before in
     head-sort _ _ (c₄ .args .e) (c₃ .if1 .left) _ (c₂ .number .ensures) _ (c₁ .form-of .ensures .0) (c₁ .form-of .ensures .1)
-        (c .before .before .if2 .left) _ (c .before .is-sort .ensures) (not-true _ (c .if3 .taken))
+    (c .before .before .if2 .left) _ (c .before .is-sort .ensures) (not-true _ (c .if3 .taken))
 
 width-of-requires : tie.Need-width-of-requires
 width-of-requires c κs = search needs
@@ -55,8 +55,8 @@ returns-4 c =
     let c₅ = c₄ .before in
     let c₆ = c₅ .before .before in
     head-short _ _ (c₆ .args .e) (c₅ .if1 .left) _ (c₄ .number .ensures) _ (c₃ .form-of .ensures .0) (c₃ .form-of .ensures .1)
-        (c₂ .if2 .left) _ (c₁ .is-sort .ensures) (not-false _ (c .before .before .if3 .left)) _
-        (c .before .width-of .ensures .0) (c .if4 .taken)
+    (c₂ .if2 .left) _ (c₁ .is-sort .ensures) (not-false _ (c .before .before .if3 .left)) _
+    (c .before .width-of .ensures .0) (c .if4 .taken)
 
 add-number : tie.Need-add-number
 add-number c = search needs
@@ -79,8 +79,8 @@ returns-5 c =
     let c₈ = c₇ .before in
     let c₉ = c₈ .before .before in
     head-range _ _ (c₉ .args .e) (c₈ .if1 .left) _ (c₇ .number .ensures) _ (c₆ .form-of .ensures .0) (c₆ .form-of .ensures .1)
-        (c₅ .if2 .left) _ (c₄ .is-sort .ensures) (not-false _ (c₃ .if3 .left)) _ (c₂ .width-of .ensures .0) (c₁ .if4 .left) _
-        (c .before .before .number2 .ensures) _ (c .before .in-range .ensures) (not-true _ (c .if5 .taken))
+    (c₅ .if2 .left) _ (c₄ .is-sort .ensures) (not-false _ (c₃ .if3 .left)) _ (c₂ .width-of .ensures .0) (c₁ .if4 .left) _
+    (c .before .before .number2 .ensures) _ (c .before .in-range .ensures) (not-true _ (c .if5 .taken))
 
 add-types : tie.Need-add-types
 add-types c = search needs
@@ -124,9 +124,9 @@ returns-6 c =
     let c₁₃ = c₁₂ .before in
     let c₁₄ = c₁₃ .before .before in
     head-found _ _ (c₁₄ .args .e) (c₁₃ .if1 .left) _ (c₁₂ .number .ensures) _ (c₁₁ .form-of .ensures .0) (c₁₁ .form-of .ensures .1)
-        (c₁₀ .if2 .left) _ (c₉ .is-sort .ensures) (not-false _ (c₈ .if3 .left)) _ (c₇ .width-of .ensures .0) (c₆ .if4 .left) _
-        (c₅ .number2 .ensures) _ (c₄ .in-range .ensures) (not-false _ (c₃ .if5 .left)) _ (c₂ .types-of .ensures) _
-        (c₁ .read-types .ensures) _ _ (c .before .before .a .given .1) (c .head-is .ensures)
+    (c₁₀ .if2 .left) _ (c₉ .is-sort .ensures) (not-false _ (c₈ .if3 .left)) _ (c₇ .width-of .ensures .0) (c₆ .if4 .left) _
+    (c₅ .number2 .ensures) _ (c₄ .in-range .ensures) (not-false _ (c₃ .if5 .left)) _ (c₂ .types-of .ensures) _
+    (c₁ .read-types .ensures) _ _ (c .before .before .a .given .1) (c .head-is .ensures)
 
 returns-7 : tie.Need-returns-7
 returns-7 c =
@@ -145,9 +145,9 @@ returns-7 c =
     let c₁₃ = c₁₂ .before in
     let c₁₄ = c₁₃ .before .before in
     head-types-no _ _ (c₁₄ .args .e) (c₁₃ .if1 .left) _ (c₁₂ .number .ensures) _ (c₁₁ .form-of .ensures .0) (c₁₁ .form-of .ensures .1)
-        (c₁₀ .if2 .left) _ (c₉ .is-sort .ensures) (not-false _ (c₈ .if3 .left)) _ (c₇ .width-of .ensures .0) (c₆ .if4 .left) _
-        (c₅ .number2 .ensures) _ (c₄ .in-range .ensures) (not-false _ (c₃ .if5 .left)) _ (c₂ .types-of .ensures) _
-        (c₁ .read-types .ensures) _ (c .before .a2 .given .1)
+    (c₁₀ .if2 .left) _ (c₉ .is-sort .ensures) (not-false _ (c₈ .if3 .left)) _ (c₇ .width-of .ensures .0) (c₆ .if4 .left) _
+    (c₅ .number2 .ensures) _ (c₄ .in-range .ensures) (not-false _ (c₃ .if5 .left)) _ (c₂ .types-of .ensures) _
+    (c₁ .read-types .ensures) _ (c .before .a2 .given .1)
 
 pub read-head-spec : {M : Type 1} → statement M
 read-head-spec =

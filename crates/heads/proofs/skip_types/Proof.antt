@@ -35,7 +35,7 @@ add-left c =
     let c₁ = c .before .before .before in
     let c₂ = c₁ .before in
     let f = skip-further _ _ _ _ _ (c₂ .loop .inv) (c₁ .loop-test .taken) _ _ (c .before .type-bytes .ensures)
-        (c .type-parts .ensures) in omega arith
+    (c .type-parts .ensures) in omega arith
 
 loop-less : tie.Need-loop-less Inv-loop μ-loop
 loop-less c =

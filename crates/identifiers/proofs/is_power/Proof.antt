@@ -40,7 +40,7 @@ returns-4 c =
     let c₂ = c₁ .before .before .before in
     let c₃ = c₂ .before in
     power-is _ _ _ (c₃ .pre .2) (λ i. c₂ .shared-slice-known .given i .fits) _ (omega arith) (c₁ .if2 .left) (c .before .if3 .left)
-        (ap (λ (a : ℕ). eqb a (c₃ .args .n)) (c .number .ensures))
+    (ap (λ (a : ℕ). eqb a (c₃ .args .n)) (c .number .ensures))
 
 pub is-power-spec : {M : Type 1} → statement M
 is-power-spec =

@@ -10,9 +10,15 @@ slice-aggregate-note-nodes : tie.Need-slice-aggregate-note-nodes
 slice-aggregate-note-nodes c = search needs
 
 note-nodes-requires : tie.Need-note-nodes-requires
-note-nodes-requires c κs = (record { fits = c .before .before .pre .0; done = _; told = told-none _ 65536 },
-      (_, _, frame-rest _ (λ i. c .before .shared-slice-known .given i .fits) (c .before .before .pre .1 .0)
-        (c .before .before .pre .1 .1)))
+note-nodes-requires c κs = (
+  record { fits = c .before .before .pre .0; done = _; told = told-none _ 65536 },
+  (
+    _,
+    _,
+    frame-rest _ (λ i. c .before .shared-slice-known .given i .fits) (c .before .before .pre .1 .0)
+        (c .before .before .pre .1 .1),
+  ),
+)
 
 enum-told : tie.Need-enum-told
 enum-told c = search needs
@@ -40,7 +46,7 @@ returns-3 c =
     let c₁ = c .before .before .before in
     let c₂ = c₁ .before .before in
     λ t a. absurd (names-decided _ (λ i. c₂ .shared-slice-known .given i .fits) 65536 _ _ (c₁ .note-nodes .ensures) t a (omega arith)
-          (c .enum-told3 .given .1))
+    (c .enum-told3 .given .1))
 
 pub names-in-full-spec : {M : Type 1} → statement M
 names-in-full-spec =

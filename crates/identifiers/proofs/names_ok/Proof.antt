@@ -9,9 +9,15 @@ slice-aggregate-note-nodes : tie.Need-slice-aggregate-note-nodes
 slice-aggregate-note-nodes c = search needs
 
 note-nodes-requires : tie.Need-note-nodes-requires
-note-nodes-requires c κs = (record { fits = c .before .before .pre .0; done = _; told = told-none _ 256 },
-      (_, _, frame-rest _ (λ i. c .before .shared-slice-known .given i .fits) (c .before .before .pre .1 .0)
-        (c .before .before .pre .1 .1)))
+note-nodes-requires c κs = (
+  record { fits = c .before .before .pre .0; done = _; told = told-none _ 256 },
+  (
+    _,
+    _,
+    frame-rest _ (λ i. c .before .shared-slice-known .given i .fits) (c .before .before .pre .1 .0)
+        (c .before .before .pre .1 .1),
+  ),
+)
 
 enum-told : tie.Need-enum-told
 enum-told c = search needs

@@ -32,9 +32,12 @@ sub-is-power c = search needs
 
 is-power-requires : tie.Need-is-power-requires
 is-power-requires c κs =
-    let c₁ = c .before .before .before .before .before .before in
-    (entry-place _ _ _ (c₁ .pre .2) (c .before .before .if1 .left) (c .before .if2 .left) _
-          (c .wide16 .ensures .0) .0, c₁ .pre .2 .fits, c₁ .pre .0)
+    let c₁ = c .before .before .before .before .before .before in (
+      entry-place _ _ _ (c₁ .pre .2) (c .before .before .if1 .left) (c .before .if2 .left) _
+          (c .wide16 .ensures .0) .0,
+      c₁ .pre .2 .fits,
+      c₁ .pre .0,
+    )
 
 returns-3 : tie.Need-returns-3
 returns-3 c =

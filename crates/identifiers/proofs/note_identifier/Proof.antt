@@ -47,16 +47,20 @@ sub-same-type c = search needs
 same-type-requires : tie.Need-same-type-requires
 same-type-requires c κs =
     let c₁ = c .before .before .before .before .before .before in
-    let l = type-room _ _ _ (c₁ .pre .2 .fits) (c₁ .pre .3) in
-        (l .0, l .1, entry-place _ _ _ (c₁ .pre .2) (c .before .before .if1 .left) (c .before .if2 .left) _
-          (c .wide16 .ensures .0) .0, c₁ .pre .2 .fits)
+    let l = type-room _ _ _ (c₁ .pre .2 .fits) (c₁ .pre .3) in (
+      l .0,
+      l .1,
+      entry-place _ _ _ (c₁ .pre .2) (c .before .before .if1 .left) (c .before .if2 .left) _
+          (c .wide16 .ensures .0) .0,
+      c₁ .pre .2 .fits,
+    )
 
 returns-3 : tie.Need-returns-3
 returns-3 c =
     let c₁ = c .before .before .before in
     let c₂ = c₁ .before .before .before .before in
     name-place _ _ _ _ _ (c₂ .pre .2) (c₁ .if1 .left) (c .before .before .if2 .left) _
-        (c .before .wide16 .ensures .0) _ (c .same-type .ensures)
+    (c .before .wide16 .ensures .0) _ (c .same-type .ensures)
 
 pub note-identifier-spec : {M : Type 1} → statement M
 note-identifier-spec =

@@ -2,7 +2,17 @@ use native.Mathlib.Omega.{arith}
 use borrow.Author.Needs.{needs}
 use borrow.Author.Tests.{not-true, not-false}
 use Rattle.identifiers.proofs.NotingNodes.{
-  seen, left-tag, left-room, left-types, own-asks, node-beyond, node-clash, node-other, node-past, node-differs, node-named
+  seen,
+  left-tag,
+  left-room,
+  left-types,
+  own-asks,
+  node-beyond,
+  node-clash,
+  node-other,
+  node-past,
+  node-differs,
+  node-named,
 }
 use Rattle.identifiers.proofs.note_node.Statement.{statement}
 use Rattle.identifiers.proofs.note_node.Tie as tie
@@ -21,9 +31,14 @@ add-number c = omega (arith, left-tag _ _ (c .before .before .before .before .be
 
 number-requires-2 : tie.Need-number-requires-2
 number-requires-2 c κs =
-    let c₁ = c .before .before .before .before .before in
-    (omega (arith, left-room _ _ (c₁ .pre .0) (c₁ .pre .2) _ (c .before .before .number .ensures) _ (c .before .form-of .ensures .0) _
-            (c .width-of .ensures .0)), omega (arith, c .width-of .ensures .1))
+    let c₁ = c .before .before .before .before .before in (
+      omega (
+        arith,
+        left-room _ _ (c₁ .pre .0) (c₁ .pre .2) _ (c .before .before .number .ensures) _ (c .before .form-of .ensures .0) _
+            (c .width-of .ensures .0),
+      ),
+      omega (arith, c .width-of .ensures .1),
+    )
 
 add-types : tie.Need-add-types
 add-types c =
@@ -34,8 +49,11 @@ add-types-2 : tie.Need-add-types-2
 add-types-2 c =
     let c₁ = c .before .before .before in
     let c₂ = c₁ .before .before .before in
-    omega (arith, left-room _ _ (c₂ .pre .0) (c₂ .pre .2) _ (c₁ .number .ensures) _ (c .before .before .form-of .ensures .0) _
-          (c .before .width-of .ensures .0))
+    omega (
+      arith,
+      left-room _ _ (c₂ .pre .0) (c₂ .pre .2) _ (c₁ .number .ensures) _ (c .before .before .form-of .ensures .0) _
+          (c .before .width-of .ensures .0),
+    )
 
 types-of-requires : tie.Need-types-of-requires
 types-of-requires c κs = search needs
@@ -45,9 +63,11 @@ note-types-requires c κs =
     let c₁ = c .before .before .before in
     let c₂ = c₁ .before in
     let c₃ = c₂ .before in
-    let c₄ = c₃ .before .before .before in
-    (c₄ .pre .1, left-types _ _ _ _ _ _ _ (seen _ _ _ _ _ _ _ (c₃ .number .ensures) (c₂ .form-of .ensures .0) (c₁ .width-of .ensures .0)
-            (c .before .before .number2 .ensures) (c .before .types-of .ensures)) (c₄ .pre .0) (c₄ .pre .2))
+    let c₄ = c₃ .before .before .before in (
+      c₄ .pre .1,
+      left-types _ _ _ _ _ _ _ (seen _ _ _ _ _ _ _ (c₃ .number .ensures) (c₂ .form-of .ensures .0) (c₁ .width-of .ensures .0)
+          (c .before .before .number2 .ensures) (c .before .types-of .ensures)) (c₄ .pre .0) (c₄ .pre .2),
+    )
 
 enum-told : tie.Need-enum-told
 enum-told c = search needs
@@ -70,7 +90,7 @@ returns c =
     let c₅ = c₄ .before in
     let c₆ = c₅ .before in
     node-other _ _ _ _ _ _ _ (seen _ _ _ _ _ _ _ (c₆ .number .ensures) (c₅ .form-of .ensures .0) (c₄ .width-of .ensures .0)
-          (c₃ .number2 .ensures) (c₂ .types-of .ensures)) _ _ _ (c₁ .note-types .ensures) _ (c .before .before .a .given .1) (c .if1 .taken)
+    (c₃ .number2 .ensures) (c₂ .types-of .ensures)) _ _ _ (c₁ .note-types .ensures) _ (c .before .before .a .given .1) (c .if1 .taken)
 
 same-length-2 : tie.Need-same-length-2
 same-length-2 c = search needs
@@ -85,8 +105,8 @@ returns-2 c =
     let c₆ = c₅ .before in
     let c₇ = c₆ .before in
     node-past _ _ _ _ _ _ _ (seen _ _ _ _ _ _ _ (c₇ .number .ensures) (c₆ .form-of .ensures .0) (c₅ .width-of .ensures .0)
-          (c₄ .number2 .ensures) (c₃ .types-of .ensures)) _ _ _ (c₂ .note-types .ensures) _ (c₁ .a .given .1)
-        (c .before .if1 .left) (omega arith)
+    (c₄ .number2 .ensures) (c₃ .types-of .ensures)) _ _ _ (c₂ .note-types .ensures) _ (c₁ .a .given .1)
+    (c .before .if1 .left) (omega arith)
 
 note-identifier-requires : tie.Need-note-identifier-requires
 note-identifier-requires c κs =
@@ -99,8 +119,8 @@ note-identifier-requires c κs =
     let c₇ = c₆ .before in
     let c₈ = c₇ .before .before .before in
     let o = own-asks _ _ _ _ _ _ _ (seen _ _ _ _ _ _ _ (c₇ .number .ensures) (c₆ .form-of .ensures .0) (c₅ .width-of .ensures .0)
-          (c₄ .number2 .ensures) (c₃ .types-of .ensures)) _ _ _ (c₂ .note-types .ensures) _ (c₁ .a .given .1) (c .before .before .if1 .left)
-        (c₈ .pre .0) (c₈ .pre .1) (c₈ .pre .2) in (o .0, omega arith, o .1, o .2)
+    (c₄ .number2 .ensures) (c₃ .types-of .ensures)) _ _ _ (c₂ .note-types .ensures) _ (c₁ .a .given .1) (c .before .before .if1 .left)
+    (c₈ .pre .0) (c₈ .pre .1) (c₈ .pre .2) in (o .0, omega arith, o .1, o .2)
 
 same-length-3 : tie.Need-same-length-3
 same-length-3 c = search needs
@@ -117,8 +137,8 @@ returns-3 c =
     let c₈ = c₇ .before in
     let c₉ = c₈ .before in
     node-differs _ _ _ _ _ _ _ (seen _ _ _ _ _ _ _ (c₉ .number .ensures) (c₈ .form-of .ensures .0) (c₇ .width-of .ensures .0)
-          (c₆ .number2 .ensures) (c₅ .types-of .ensures)) _ _ _ (c₄ .note-types .ensures) _ (c₃ .a .given .1) (c₂ .if1 .left) _ _
-        (c₁ .note-identifier .ensures) (not-true _ (c .if3 .taken))
+    (c₆ .number2 .ensures) (c₅ .types-of .ensures)) _ _ _ (c₄ .note-types .ensures) _ (c₃ .a .given .1) (c₂ .if1 .left) _ _
+    (c₁ .note-identifier .ensures) (not-true _ (c .if3 .taken))
 
 same-length-4 : tie.Need-same-length-4
 same-length-4 c = search needs
@@ -132,7 +152,7 @@ returns-4 c =
     let c₅ = c₄ .before in
     let c₆ = c₅ .before in
     node-clash _ _ _ _ _ _ _ (seen _ _ _ _ _ _ _ (c₆ .number .ensures) (c₅ .form-of .ensures .0) (c₄ .width-of .ensures .0)
-          (c₃ .number2 .ensures) (c₂ .types-of .ensures)) _ _ _ (c₁ .note-types .ensures) (c .enum-told .given .1)
+    (c₃ .number2 .ensures) (c₂ .types-of .ensures)) _ _ _ (c₁ .note-types .ensures) (c .enum-told .given .1)
 
 same-length-5 : tie.Need-same-length-5
 same-length-5 c = search needs
@@ -146,7 +166,7 @@ returns-5 c =
     let c₅ = c₄ .before in
     let c₆ = c₅ .before in
     node-beyond _ _ _ _ _ _ _ (seen _ _ _ _ _ _ _ (c₆ .number .ensures) (c₅ .form-of .ensures .0) (c₄ .width-of .ensures .0)
-          (c₃ .number2 .ensures) (c₂ .types-of .ensures)) _ _ _ (c₁ .note-types .ensures) (c .enum-told2 .given .1)
+    (c₃ .number2 .ensures) (c₂ .types-of .ensures)) _ _ _ (c₁ .note-types .ensures) (c .enum-told2 .given .1)
 
 same-length-6 : tie.Need-same-length-6
 same-length-6 c = search needs
@@ -163,8 +183,8 @@ returns-6 c =
     let c₈ = c₇ .before in
     let c₉ = c₈ .before in
     node-named _ _ _ _ _ _ _ (seen _ _ _ _ _ _ _ (c₉ .number .ensures) (c₈ .form-of .ensures .0) (c₇ .width-of .ensures .0)
-          (c₆ .number2 .ensures) (c₅ .types-of .ensures)) _ _ _ (c₄ .note-types .ensures) _ (c₃ .a .given .1) (c₂ .if1 .left) _ _
-        (c₁ .note-identifier .ensures) (not-false _ (c .if3 .left))
+    (c₆ .number2 .ensures) (c₅ .types-of .ensures)) _ _ _ (c₄ .note-types .ensures) _ (c₃ .a .given .1) (c₂ .if1 .left) _ _
+    (c₁ .note-identifier .ensures) (not-false _ (c .if3 .left))
 
 pub note-node-spec : {M : Type 1} → statement M
 note-node-spec =

@@ -5,8 +5,17 @@ use native.Mathlib.Omega.{arith}
 use lib.ListN.{length}
 use borrow.Author.Tests.{not-true, not-false}
 use Rattle.identifiers.proofs.NotingTypes.{
-  Going, going-begins, going-done, going-beyond, going-room, going-number, going-clash, going-forward, going-further, going-other,
-  going-given
+  Going,
+  going-begins,
+  going-done,
+  going-beyond,
+  going-room,
+  going-number,
+  going-clash,
+  going-forward,
+  going-further,
+  going-other,
+  going-given,
 }
 use Rattle.identifiers.proofs.note_types.Statement.{statement}
 use Rattle.identifiers.proofs.note_types.Tie as tie
@@ -27,8 +36,14 @@ add-number : tie.Need-add-number Inv-loop μ-loop
 add-number c = omega (arith, going-room _ _ _ _ _ _ _ (c .before .before .before .loop .inv))
 
 number-requires : tie.Need-number-requires Inv-loop μ-loop
-number-requires c κs = (omega (arith, going-number _ _ _ _ _ _ _ (c .before .before .before .loop .inv) (omega arith)
-        (c .if1 .taken) .0), omega arith)
+number-requires c κs = (
+  omega (
+    arith,
+    going-number _ _ _ _ _ _ _ (c .before .before .before .loop .inv) (omega arith)
+        (c .if1 .taken) .0,
+  ),
+  omega arith,
+)
 
 same-length : tie.Need-same-length Inv-loop μ-loop
 same-length c = c .before .before .before .before .before .loop .inv .size
@@ -58,7 +73,7 @@ returns-2 c =
     let c₃ = c₂ .before in
     let c₄ = c₃ .before .before .before in
     going-clash _ _ _ _ _ _ _ (c₄ .loop .inv) (omega arith) (c₃ .if1 .taken) _ (c₂ .number .ensures) _ _ (c₁ .note-given .ensures)
-        (not-true _ (c .if3 .taken))
+    (not-true _ (c .if3 .taken))
 
 type-bytes-requires : tie.Need-type-bytes-requires Inv-loop μ-loop
 type-bytes-requires c κs = tt
@@ -80,17 +95,21 @@ add-left c =
 loop-less : tie.Need-loop-less Inv-loop μ-loop
 loop-less c =
     let c₁ = c .before .before .before .before .before in
-    omega (arith, going-forward _ _ _ _ _ _ _ (c₁ .loop .inv) (omega arith) _ _ (c .before .type-bytes .ensures)
-          (c .type-parts .ensures), going-further _ _ _ _ _ _ _ (c₁ .loop .inv) (omega arith) _ _ (c .before .type-bytes .ensures)
-          (c .type-parts .ensures))
+    omega (
+      arith,
+      going-forward _ _ _ _ _ _ _ (c₁ .loop .inv) (omega arith) _ _ (c .before .type-bytes .ensures)
+          (c .type-parts .ensures),
+      going-further _ _ _ _ _ _ _ (c₁ .loop .inv) (omega arith) _ _ (c .before .type-bytes .ensures)
+          (c .type-parts .ensures),
+    )
 
 loop-again : tie.Need-loop-again Inv-loop μ-loop
 loop-again c = ⊎-elim
     (λ w. going-given _ _ _ _ _ _ _ (c .before .before .before .before .before .loop .inv) (omega arith) _ _
-          (c .before .type-bytes .ensures) (c .type-parts .ensures) (w .0 .taken) _ (w .1 .ensures) _ _ (w .4 .ensures)
-          (not-false _ (w .7 .left)) _ (w .8))
+    (c .before .type-bytes .ensures) (c .type-parts .ensures) (w .0 .taken) _ (w .1 .ensures) _ _ (w .4 .ensures)
+    (not-false _ (w .7 .left)) _ (w .8))
     (λ w. going-other _ _ _ _ _ _ _ (c .before .before .before .before .before .loop .inv) (omega arith) _ _
-          (c .before .type-bytes .ensures) (c .type-parts .ensures) (w .0 .left) _ (w .1))
+    (c .before .type-bytes .ensures) (c .type-parts .ensures) (w .0 .left) _ (w .1))
     (c .before .before .if1 .came)
 
 same-length-3 : tie.Need-same-length-3 Inv-loop μ-loop

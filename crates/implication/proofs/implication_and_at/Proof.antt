@@ -32,7 +32,7 @@ returns-2 c =
     let c₂ = c₁ .before in
     let c₃ = c₂ .before in
     out-71 _ _ _ _ _ _ (c₃ .tag-at .ensures) (c₂ .if1 .left) _ (c₁ .arity-at .ensures) _ (c .before .before .contains-in .ensures)
-        (c .before .if2 .taken) _ (c .fixed .ensures)
+    (c .before .if2 .taken) _ (c .fixed .ensures)
 
 contains-in-requires-2 : tie.Need-contains-in-requires-2
 contains-in-requires-2 c κs =
@@ -52,7 +52,7 @@ returns-3 c =
     let c₄ = c₃ .before in
     let c₅ = c₄ .before in
     out-72 _ _ _ _ _ _ (c₅ .tag-at .ensures) (c₄ .if1 .left) _ (c₃ .arity-at .ensures) _ (c₂ .contains-in .ensures) (c₁ .if2 .left) _
-        (c .before .before .contains-in2 .ensures) (c .before .if3 .taken) _ (c .fixed2 .ensures)
+    (c .before .before .contains-in2 .ensures) (c .before .if3 .taken) _ (c .fixed2 .ensures)
 
 returns-4 : tie.Need-returns-4
 returns-4 c =
@@ -61,7 +61,7 @@ returns-4 c =
     let c₃ = c₂ .before in
     let c₄ = c₃ .before in
     and-none _ _ _ _ _ _ (c₄ .tag-at .ensures) (c₃ .if1 .left) _ (c₂ .arity-at .ensures) _ (c₁ .contains-in .ensures)
-        (c .before .before .if2 .left) _ (c .before .contains-in2 .ensures) (c .if3 .left)
+    (c .before .before .if2 .left) _ (c .before .contains-in2 .ensures) (c .if3 .left)
 
 pub implication-and-at-spec : {M : Type 1} → statement M
 implication-and-at-spec =

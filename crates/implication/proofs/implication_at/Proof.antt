@@ -26,7 +26,7 @@ returns-2 c =
     let c₂ = c₁ .before in
     let c₃ = c₂ .before in
     imp-and _ _ _ _ _ _ (c₃ .implication-first-at .ensures) (sym (c₂ .rests .ensures) ∙ not-false _ (c₁ .if1 .left)) _
-        (c .before .before .implication-and-at .ensures) (sym (c .before .rests2 .ensures) ∙ not-true _ (c .if2 .taken))
+    (c .before .before .implication-and-at .ensures) (sym (c .before .rests2 .ensures) ∙ not-true _ (c .if2 .taken))
 
 implication-last-at-requires : tie.Need-implication-last-at-requires
 implication-last-at-requires c κs = c .before .before .before .before .before .before .before .pre
@@ -38,8 +38,8 @@ returns-3 c =
     let c₃ = c₂ .before in
     let c₄ = c₃ .before in
     imp-last _ _ _ _ _ _ (c₄ .implication-first-at .ensures) (sym (c₃ .rests .ensures) ∙ not-false _ (c₂ .if1 .left)) _
-        (c₁ .implication-and-at .ensures) (sym (c .before .before .rests2 .ensures) ∙ not-false _ (c .before .if2 .left)) _
-        (c .implication-last-at .ensures)
+    (c₁ .implication-and-at .ensures) (sym (c .before .before .rests2 .ensures) ∙ not-false _ (c .before .if2 .left)) _
+    (c .implication-last-at .ensures)
 
 pub implication-at-spec : {M : Type 1} → statement M
 implication-at-spec =

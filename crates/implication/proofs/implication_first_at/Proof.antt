@@ -37,7 +37,7 @@ returns-3 c =
     let c₂ = c₁ .before in
     let c₃ = c₂ .before in
     out-68 _ _ _ _ _ _ _ (c₃ .tag-at .ensures) (c₂ .tag-at2 .ensures) (c₁ .if1 .left) (c .before .before .if2 .left)
-        (c .before .if3 .taken) _ (c .fixed3 .ensures)
+    (c .before .if3 .taken) _ (c .fixed3 .ensures)
 
 make-neg-requires : tie.Need-make-neg-requires
 make-neg-requires c κs = two-few (c .before .before .before .before .before .before .before .pre) .0
@@ -49,7 +49,7 @@ returns-4 c =
     let c₃ = c₂ .before in
     let c₄ = c₃ .before in
     out-69 _ _ _ _ _ _ _ (c₄ .tag-at .ensures) (c₃ .tag-at2 .ensures) (c₂ .if1 .left) (c₁ .if2 .left)
-        (c .before .if4 .taken) _ (c .make-neg .ensures)
+    (c .before .if4 .taken) _ (c .make-neg .ensures)
 
 same-at-requires : tie.Need-same-at-requires
 same-at-requires c κs = both-placed (c .before .before .before .before .before .before .before .pre)
@@ -66,7 +66,7 @@ returns-5 c =
     let c₅ = c₄ .before in
     let c₆ = c₅ .before in
     out-70 _ _ _ _ _ _ _ (c₆ .tag-at .ensures) (c₅ .tag-at2 .ensures) (c₄ .if1 .left) (c₃ .if2 .left) (c₂ .if3 .left) (c₁ .if4 .left) _
-        (c .before .before .same-at .ensures) (c .before .if5 .taken) _ (c .fixed4 .ensures)
+    (c .before .before .same-at .ensures) (c .before .if5 .taken) _ (c .fixed4 .ensures)
 
 returns-6 : tie.Need-returns-6
 returns-6 c =
@@ -76,7 +76,7 @@ returns-6 c =
     let c₄ = c₃ .before in
     let c₅ = c₄ .before in
     first-none _ _ _ _ _ _ _ (c₅ .tag-at .ensures) (c₄ .tag-at2 .ensures) (c₃ .if1 .left) (c₂ .if2 .left) (c₁ .if3 .left)
-        (c .before .before .if4 .left) _ (c .before .same-at .ensures) (c .if5 .left)
+    (c .before .before .if4 .left) _ (c .before .same-at .ensures) (c .if5 .left)
 
 pub implication-first-at-spec : {M : Type 1} → statement M
 implication-first-at-spec =

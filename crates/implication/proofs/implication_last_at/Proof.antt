@@ -24,7 +24,7 @@ returns-2 c =
     let c₁ = c .before .before .before in
     let c₂ = c₁ .before in
     out-74 _ _ _ _ _ _ (c₂ .negates .ensures) (c₁ .if1 .left) _ (c .before .before .negates2 .ensures)
-        (c .before .if2 .taken) _ (c .fixed2 .ensures)
+    (c .before .if2 .taken) _ (c .fixed2 .ensures)
 
 returns-3 : tie.Need-returns-3
 returns-3 c =

@@ -21,7 +21,7 @@ returns c =
     let c₁ = c .before .before .before in
     let c₂ = c₁ .before in
     inter-apart _ _ _ _ _ _ (c₂ .arity-at .ensures) (c₁ .count-singles .ensures)
-        (sym (c .before .before .is-apart .ensures) ∙ c .before .if1 .taken) _ (c .first-single .ensures)
+    (sym (c .before .before .is-apart .ensures) ∙ c .before .if1 .taken) _ (c .first-single .ensures)
 
 any-minus-requires : tie.Need-any-minus-requires
 any-minus-requires c κs = search needs
@@ -32,7 +32,7 @@ returns-2 c =
     let c₂ = c₁ .before in
     let c₃ = c₂ .before in
     inter-within _ _ _ _ _ _ (c₃ .arity-at .ensures) (c₂ .count-singles .ensures)
-        (sym (c₁ .is-apart .ensures) ∙ c .before .before .if1 .left) _ (c .before .any-minus .ensures) (c .if2 .taken)
+    (sym (c₁ .is-apart .ensures) ∙ c .before .before .if1 .left) _ (c .before .any-minus .ensures) (c .if2 .taken)
 
 returns-3 : tie.Need-returns-3
 returns-3 c =
@@ -40,7 +40,7 @@ returns-3 c =
     let c₂ = c₁ .before in
     let c₃ = c₂ .before in
     inter-rests _ _ _ _ _ _ (c₃ .arity-at .ensures) (c₂ .count-singles .ensures)
-        (sym (c₁ .is-apart .ensures) ∙ c .before .before .if1 .left) _ (c .before .any-minus .ensures) (c .if2 .left)
+    (sym (c₁ .is-apart .ensures) ∙ c .before .before .if1 .left) _ (c .before .any-minus .ensures) (c .if2 .left)
 
 pub decide-inter-spec : {M : Type 1} → statement M
 decide-inter-spec =

@@ -1,6 +1,21 @@
 use Rattle.junction.proofs.JunctionTurns.{
-  pre-placed, children-few, Scanned, AllInv, states-first, turn-placed, turn-both, turn-decides, turn-end, again-drop, again-keep,
-  scanned-first, scanned-meets, scanned-next, says-decides, says-keeps, says-drops
+  pre-placed,
+  children-few,
+  Scanned,
+  AllInv,
+  states-first,
+  turn-placed,
+  turn-both,
+  turn-decides,
+  turn-end,
+  again-drop,
+  again-keep,
+  scanned-first,
+  scanned-meets,
+  scanned-next,
+  says-decides,
+  says-keeps,
+  says-drops,
 }
 use denote.Ref.{now}
 use Prim.Native.Nat.{_-_}
@@ -45,8 +60,8 @@ loop-holds c =
     let c₁ = c .before .before .before .before .before in
     let c₂ = c₁ .before .before in
     let z = children-few _ _ _ _ _ (c₂ .pre) _ (c₁ .arity-at .ensures) in
-        rw (c .compared-from .ensures) (scanned-first _ _ _ _ _ _ _ _ _ (c .before .before .tag-at .ensures)
-          (c .before .if1 .left) (omega arith) _ refl)
+    rw (c .compared-from .ensures) (scanned-first _ _ _ _ _ _ _ _ _ (c .before .before .tag-at .ensures)
+    (c .before .if1 .left) (omega arith) _ refl)
 
 mul-wide16 : tie.Need-mul-wide16 Inv-loop μ-loop Inv-all μ-all
 mul-wide16 c =
@@ -71,8 +86,8 @@ opposite-requires c κs =
     let c₄ = c₃ .before in
     let c₅ = c₄ .before .before in
     let z = children-few _ _ _ _ _ (c₅ .pre) _ (c₄ .arity-at .ensures) in
-        turn-both _ _ _ _ _ _ _ (c₄ .arity-at .ensures) _ _ _ _ (c₃ .all .inv .3) (c₂ .all-test .taken) _ (c₅ .pre) (c₁ .loop .fresh)
-        (c₁ .loop .j) (c₁ .loop .inv) (c .before .before .loop-test .taken) (omega arith) _ (c .wide16 .ensures .0)
+    turn-both _ _ _ _ _ _ _ (c₄ .arity-at .ensures) _ _ _ _ (c₃ .all .inv .3) (c₂ .all-test .taken) _ (c₅ .pre) (c₁ .loop .fresh)
+    (c₁ .loop .j) (c₁ .loop .inv) (c .before .before .loop-test .taken) (omega arith) _ (c .wide16 .ensures .0)
 
 same-at-requires : tie.Need-same-at-requires Inv-loop μ-loop Inv-all μ-all
 same-at-requires c κs =
@@ -83,8 +98,8 @@ same-at-requires c κs =
     let c₅ = c₄ .before in
     let c₆ = c₅ .before .before in
     let z = children-few _ _ _ _ _ (c₆ .pre) _ (c₅ .arity-at .ensures) in
-        turn-both _ _ _ _ _ _ _ (c₅ .arity-at .ensures) _ _ _ _ (c₄ .all .inv .3) (c₃ .all-test .taken) _ (c₆ .pre) (c₂ .loop .fresh)
-        (c₂ .loop .j) (c₂ .loop .inv) (c₁ .loop-test .taken) (omega arith) _ (c .before .before .wide16 .ensures .0)
+    turn-both _ _ _ _ _ _ _ (c₅ .arity-at .ensures) _ _ _ _ (c₄ .all .inv .3) (c₃ .all-test .taken) _ (c₆ .pre) (c₂ .loop .fresh)
+    (c₂ .loop .j) (c₂ .loop .inv) (c₁ .loop-test .taken) (omega arith) _ (c .before .before .wide16 .ensures .0)
 
 still-requires : tie.Need-still-requires Inv-loop μ-loop Inv-all μ-all
 still-requires c κs = search needs
@@ -98,12 +113,12 @@ loop-less c = omega arith
 loop-again : tie.Need-loop-again Inv-loop μ-loop Inv-all μ-all
 loop-again c =
     let z = children-few _ _ _ _ _ (c .before .before .before .before .before .before .before .before .before .before .before .before .before
-            .before .before .pre) _ (c .before .before .before .before .before .before .before .before .before .before .before .before .before
-            .arity-at .ensures) in
+    .before .before .pre) _ (c .before .before .before .before .before .before .before .before .before .before .before .before .before
+    .arity-at .ensures) in
     scanned-next _ _ _ _ _ _ _ _ _ _ (c .before .before .before .before .before .before .before .loop .inv)
-        (c .before .before .before .before .before .before .loop-test .taken) (omega arith) _
-        (c .before .before .before .before .wide16 .ensures .0) _ (c .before .before .before .opposite .ensures) (c .before .before .if2 .left) _
-        (c .before .same-at .ensures) _ (c .still .ensures)
+    (c .before .before .before .before .before .before .loop-test .taken) (omega arith) _
+    (c .before .before .before .before .wide16 .ensures .0) _ (c .before .before .before .opposite .ensures) (c .before .before .if2 .left) _
+    (c .before .same-at .ensures) _ (c .still .ensures)
 
 cast-kept : tie.Need-cast-kept Inv-loop μ-loop Inv-all μ-all
 cast-kept c =
@@ -151,15 +166,15 @@ all-again c =
     let c₂ = c₁ .before .before in
     let z = children-few _ _ _ _ _ (c₂ .pre) _ (c₁ .arity-at .ensures) in ⊎-elim
     (λ w. again-keep _ _ _ _ _ _ _ (c .before .before .before .before .before .before .before .before .before .arity-at .ensures) z _ _ _ _
-          (c .before .before .before .before .before .before .before .before .all .inv)
-          (c .before .before .before .before .before .before .before .all-test .taken) _ (c .next-at .ensures .0)
-          (says-keeps _ _ _ _ _ _ _ _ _ _ (c .before .before .before .loop .inv) (c .before .before .loop-test .left)
-            (w .0 .taken)) _ _ (w .1) (w .2))
+    (c .before .before .before .before .before .before .before .before .all .inv)
+    (c .before .before .before .before .before .before .before .all-test .taken) _ (c .next-at .ensures .0)
+    (says-keeps _ _ _ _ _ _ _ _ _ _ (c .before .before .before .loop .inv) (c .before .before .loop-test .left)
+    (w .0 .taken)) _ _ (w .1) (w .2))
     (λ w. again-drop _ _ _ _ _ _ _ (c .before .before .before .before .before .before .before .before .before .arity-at .ensures) z _ _ _ _
-          (c .before .before .before .before .before .before .before .before .all .inv)
-          (c .before .before .before .before .before .before .before .all-test .taken) _ (c .next-at .ensures .0)
-          (says-drops _ _ _ _ _ _ _ _ _ _ (c .before .before .before .loop .inv) (c .before .before .loop-test .left)
-            (w .0 .left)) _ _ (w .1) (w .2))
+    (c .before .before .before .before .before .before .before .before .all .inv)
+    (c .before .before .before .before .before .before .before .all-test .taken) _ (c .next-at .ensures .0)
+    (says-drops _ _ _ _ _ _ _ _ _ _ (c .before .before .before .loop .inv) (c .before .before .loop-test .left)
+    (w .0 .left)) _ _ (w .1) (w .2))
     (c .before .if3 .came)
 
 returns : tie.Need-returns Inv-loop μ-loop Inv-all μ-all
@@ -167,11 +182,11 @@ returns c = let z = children-few _ _ _ _ _ (c .before .before .before .before .b
     (λ w. absurd (omega arith))
     (λ v. ⊎-elim
     (λ w. turn-decides _ _ _ _ _ _ _ (c .before .before .before .arity-at .ensures) _ _ _ _ (c .before .before .all .inv .3) (w .0 .taken) _
-          (c .before .before .all .inv .1) (λ d. says-decides _ _ _ _ _ (c .before .before .all .kept) _ (c .before .before .all .m) _
-            (w .1 .ensures) (w .2 .taken) d))
+    (c .before .before .all .inv .1) (λ d. says-decides _ _ _ _ _ (c .before .before .all .kept) _ (c .before .before .all .m) _
+    (w .1 .ensures) (w .2 .taken) d))
     (λ w. turn-decides _ _ _ _ _ _ _ (c .before .before .before .arity-at .ensures) _ _ _ _ (c .before .before .all .inv .3) (w .0 .taken) _
-          (c .before .before .all .inv .1) (λ d. scanned-meets _ _ _ _ _ _ _ _ _ _ (w .4 .inv) (w .5 .taken) (omega arith) _
-            (w .7 .ensures .0) _ (w .8 .ensures) (w .9 .taken)))
+    (c .before .before .all .inv .1) (λ d. scanned-meets _ _ _ _ _ _ _ _ _ _ (w .4 .inv) (w .5 .taken) (omega arith) _
+    (w .7 .ensures .0) _ (w .8 .ensures) (w .9 .taken)))
     v)
     (c .before .all-test .came)
 

@@ -29,7 +29,7 @@ returns c =
     let c₃ = c₂ .before in
     let c₄ = c₃ .before in
     conj-done _ _ _ _ _ (c₄ .arity-at .ensures) _ (c₃ .tag-at .ensures) _ _ _ (c .before .wide16 .ensures .0) _ (c₂ .if1 .taken)
-        (c₁ .absorb .ensures) (c .settle .ensures)
+    (c₁ .absorb .ensures) (c .settle .ensures)
 
 absorb-requires-2 : tie.Need-absorb-requires-2
 absorb-requires-2 c κs = search needs
@@ -50,7 +50,7 @@ returns-2 c =
     let c₃ = c₂ .before in
     let c₄ = c₃ .before in
     disj-done _ _ _ _ _ (c₄ .arity-at .ensures) _ (c₃ .tag-at .ensures) _ _ _ (c .before .wide162 .ensures .0) _ (c₂ .if1 .left)
-        (c₁ .absorb2 .ensures) (c .settle2 .ensures)
+    (c₁ .absorb2 .ensures) (c .settle2 .ensures)
 
 pub simplify-assoc-pred-spec : {M : Type 1} → statement M
 simplify-assoc-pred-spec =

@@ -27,7 +27,7 @@ returns-3 c =
     let c₂ = c₁ .before in
     let c₃ = c₂ .before in
     digit-even (c₃ .args .state) _ _ _ _ (c₂ .count-next .ensures) (c₁ .digit-of .ensures .0) (c .before .before .if1 .left)
-        (c .before .if2 .left) (c .if3 .taken)
+    (c .before .if2 .left) (c .if3 .taken)
 
 mul-buf : tie.Need-mul-buf
 mul-buf c = search needs
@@ -45,7 +45,7 @@ returns-4 c =
     let c₃ = c₂ .before in
     let c₄ = c₃ .before in
     digit-odd (c₄ .args .state) _ _ _ _ (c₃ .count-next .ensures) (c₂ .digit-of .ensures .0) (c₁ .if1 .left) (c .before .before .if2 .left)
-        (c .before .if3 .left) (c .if4 .taken)
+    (c .before .if3 .left) (c .if4 .taken)
 
 returns-5 : tie.Need-returns-5
 returns-5 c =
@@ -54,7 +54,7 @@ returns-5 c =
     let c₃ = c₂ .before in
     let c₄ = c₃ .before in
     digit-past (c₄ .args .state) _ _ _ _ (c₃ .count-next .ensures) (c₂ .digit-of .ensures .0) (c₁ .if1 .left) (c .before .before .if2 .left)
-        (c .before .if3 .left) (c .if4 .left)
+    (c .before .if3 .left) (c .if4 .left)
 
 pub line-digit-spec : {M : Type 1} → statement M
 line-digit-spec =

@@ -33,9 +33,11 @@ loop-again : tie.Need-loop-again Inv-loop μ-loop
 loop-again c =
     let c₁ = c .before .before .before in
     let c₂ = c₁ .before in
-    let c₃ = c₂ .before .before in
-    (omega arith, goes-more (c₃ .args .state) (c₂ .loop .line) _ (now (c₃ .args .buf)) (c₂ .loop .buf) _ (now (c₃ .args .piece))
-          (c₂ .loop .i) (c₁ .loop-test .taken) (c₂ .loop .inv .1) (c .line-digit .ensures))
+    let c₃ = c₂ .before .before in (
+      omega arith,
+      goes-more (c₃ .args .state) (c₂ .loop .line) _ (now (c₃ .args .buf)) (c₂ .loop .buf) _ (now (c₃ .args .piece))
+          (c₂ .loop .i) (c₁ .loop-test .taken) (c₂ .loop .inv .1) (c .line-digit .ensures),
+    )
 
 returns : tie.Need-returns Inv-loop μ-loop
 returns c = goes-all _ _ _ _ (now (c .before .before .before .args .piece)) (c .before .loop .i) (omega arith) (c .before .loop .inv .1)

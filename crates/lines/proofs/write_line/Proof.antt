@@ -37,8 +37,11 @@ slice-write-out : tie.Need-slice-write-out Inv-loop μ-loop
 slice-write-out c =
     let c₁ = c .before .before .before in
     let c₂ = c₁ .before .before .before .before in
-    omega (arith, ap (λ (l : List ℕ). length l) (c₁ .loop .inv .2) ∙ length-sets (now (c₂ .args .out)) 0
-          (writeLine (take (c₁ .loop .i) (now (c₂ .args .frame)))))
+    omega (
+      arith,
+      ap (λ (l : List ℕ). length l) (c₁ .loop .inv .2) ∙ length-sets (now (c₂ .args .out)) 0
+          (writeLine (take (c₁ .loop .i) (now (c₂ .args .frame)))),
+    )
 
 digit-for-requires-2 : tie.Need-digit-for-requires-2 Inv-loop μ-loop
 digit-for-requires-2 c κs = omega arith
@@ -53,9 +56,13 @@ slice-write-out-2 : tie.Need-slice-write-out-2 Inv-loop μ-loop
 slice-write-out-2 c =
     let c₁ = c .before .before .before .before in
     let c₂ = c₁ .before .before .before .before in
-    omega (arith, ap (λ (l : List ℕ). length l) (c₁ .loop .inv .2) ∙ length-sets (now (c₂ .args .out)) 0
-          (writeLine (take (c₁ .loop .i) (now (c₂ .args .frame)))), length-set (c₁ .loop .out) (2 * c₁ .loop .i)
-          (c .before .digit-for .result))
+    omega (
+      arith,
+      ap (λ (l : List ℕ). length l) (c₁ .loop .inv .2) ∙ length-sets (now (c₂ .args .out)) 0
+          (writeLine (take (c₁ .loop .i) (now (c₂ .args .frame)))),
+      length-set (c₁ .loop .out) (2 * c₁ .loop .i)
+          (c .before .digit-for .result),
+    )
 
 add-i : tie.Need-add-i Inv-loop μ-loop
 add-i c = omega arith
@@ -67,10 +74,13 @@ loop-again : tie.Need-loop-again Inv-loop μ-loop
 loop-again c =
     let c₁ = c .before .before .before in
     let c₂ = c₁ .before in
-    let c₃ = c₂ .before .before .before .before in
-    (omega arith, c₂ .loop .inv .1, ap (λ (l : List ℕ). set (set l (2 * c₂ .loop .i) (c .before .digit-for .result)) (2 * c₂ .loop .i + 1)
-            (c .digit-for2 .result)) (c₂ .loop .inv .2) ∙ write-more (now (c₃ .args .frame)) (now (c₃ .args .out)) (c₂ .loop .i)
-          (c₁ .loop-test .taken) _ _ (c .before .digit-for .ensures) (c .digit-for2 .ensures))
+    let c₃ = c₂ .before .before .before .before in (
+      omega arith,
+      c₂ .loop .inv .1,
+      ap (λ (l : List ℕ). set (set l (2 * c₂ .loop .i) (c .before .digit-for .result)) (2 * c₂ .loop .i + 1)
+          (c .digit-for2 .result)) (c₂ .loop .inv .2) ∙ write-more (now (c₃ .args .frame)) (now (c₃ .args .out)) (c₂ .loop .i)
+          (c₁ .loop-test .taken) _ _ (c .before .digit-for .ensures) (c .digit-for2 .ensures),
+    )
 
 mul-result : tie.Need-mul-result Inv-loop μ-loop
 mul-result c = omega arith
@@ -79,7 +89,7 @@ same-length : tie.Need-same-length Inv-loop μ-loop
 same-length c =
     let c₁ = c .before .before .before .before .before in
     ap (λ (l : List ℕ). length l) (c .before .loop .inv .2) ∙ length-sets (now (c₁ .args .out)) 0
-        (writeLine (take (c .before .loop .i) (now (c₁ .args .frame))))
+    (writeLine (take (c .before .loop .i) (now (c₁ .args .frame))))
 
 returns-2 : tie.Need-returns-2 Inv-loop μ-loop
 returns-2 c = write-all _ _ _ _ _ (c .before .loop .inv .1) (omega arith) refl (c .before .loop .inv .2)

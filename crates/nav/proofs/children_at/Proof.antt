@@ -21,7 +21,7 @@ number-requires-2 : tie.Need-number-requires-2
 number-requires-2 c κs =
     let c₁ = c .before .before .before .before in
     let z = arity-room _ _ _ _ _ (c .before .before .number .ensures) (c .before .form-of .ensures .0) (c .width-of .ensures .0) _ _
-        (c₁ .pre .there) in omega arith
+    (c₁ .pre .there) in omega arith
 
 children-of-requires : tie.Need-children-of-requires
 children-of-requires c κs = search needs
@@ -31,7 +31,7 @@ returns c =
     let c₁ = c .before .before .before in
     let c₂ = c₁ .before in
     arity-read _ _ _ _ _ (c₂ .number .ensures) (c₁ .form-of .ensures .0) (c .before .before .width-of .ensures .0) _
-        (c .before .number2 .ensures) _ (c .children-of .ensures)
+    (c .before .number2 .ensures) _ (c .children-of .ensures)
 
 pub children-at-spec : {M : Type 1} → statement M
 children-at-spec =

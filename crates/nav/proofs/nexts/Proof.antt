@@ -42,7 +42,7 @@ hop-requires c κs =
     let c₁ = c .before .before .before .before .before in
     let c₂ = c₁ .before .before in
     fill-hops _ _ _ _ (omega arith) _ (c₁ .loop .inv) _ (rw (c .before .before .wide16 .ensures .0) at
-          (c .before .children-at .ensures)) _ (c₂ .pre .framed) .0
+    (c .before .children-at .ensures)) _ (c₂ .pre .framed) .0
 
 cast-table : tie.Need-cast-table Inv-loop μ-loop
 cast-table c =
@@ -50,7 +50,7 @@ cast-table c =
     let c₂ = c₁ .before .before .before in
     let c₃ = c₂ .before .before in
     let z = fill-hops _ _ _ _ (omega arith) _ (c₂ .loop .inv) _ (rw (c₁ .wide16 .ensures .0) at (c .before .before .children-at .ensures)) _
-        (c₃ .pre .framed) in omega (arith, c .hop .ensures)
+    (c₃ .pre .framed) in omega (arith, c .hop .ensures)
 
 mul-table : tie.Need-mul-table Inv-loop μ-loop
 mul-table c =
@@ -73,7 +73,7 @@ loop-again c =
     let c₂ = c₁ .before .before .before in
     let c₃ = c₂ .before .before in
     fill-turn _ _ _ _ (omega arith) _ (c₂ .loop .inv) _ (rw (c₁ .wide16 .ensures .0) at (c .before .before .children-at .ensures))
-        (fill-root _ _ _ _ (omega arith) _ (c₂ .loop .inv) _ (c₃ .pre .framed) .0) _ (c .hop .ensures)
+    (fill-root _ _ _ _ (omega arith) _ (c₂ .loop .inv) _ (c₃ .pre .framed) .0) _ (c .hop .ensures)
 
 returns : tie.Need-returns Inv-loop μ-loop
 returns c = fill-done _ _ _ _ _ (c .before .loop .inv) (omega arith)

@@ -26,7 +26,7 @@ returns c =
     let c₁ = c .before .before .before in
     let c₂ = c₁ .before in
     tags-differ _ _ _ _ _ _ (c₂ .start-at .ensures .0) (c₁ .start-at2 .ensures .0)
-        (λ q. c .if1 .taken (c .before .before .number .ensures ∙ (q ∙ sym (c .before .number2 .ensures))))
+    (λ q. c .if1 .taken (c .before .before .number .ensures ∙ (q ∙ sym (c .before .number2 .ensures))))
 
 differ-early-requires : tie.Need-differ-early-requires
 differ-early-requires c κs = record {
@@ -59,7 +59,7 @@ same-expr-requires c κs =
     let c₅ = c₄ .before in
     let c₆ = c₅ .before .before in
     at-sort (c .if3 .taken) (both-there _ _ _ _ _ _ (c₅ .start-at .ensures .0) (c₄ .start-at2 .ensures .0) _ _ (c₃ .number .ensures)
-          (c₁ .if1 .left ∙ c₂ .number2 .ensures) (c .before .before .form-of .ensures .0) _ (c .before .is-sort .ensures) (c₆ .pre))
+    (c₁ .if1 .left ∙ c₂ .number2 .ensures) (c .before .before .form-of .ensures .0) _ (c .before .is-sort .ensures) (c₆ .pre))
 
 is-yes-requires : tie.Need-is-yes-requires
 is-yes-requires c κs = search needs
@@ -74,8 +74,8 @@ returns-3 c =
     let c₆ = c₅ .before in
     let c₇ = c₆ .before in
     rw (c .is-yes .ensures) (same-done _ _ _ _ _ _ (c₇ .start-at .ensures .0) (c₆ .start-at2 .ensures .0) _ _ (c₅ .number .ensures)
-          (c₃ .if1 .left ∙ c₄ .number2 .ensures) (c₂ .form-of .ensures .0) _ (c₁ .is-sort .ensures) _
-          (of-sort (c .before .before .if3 .taken) (c .before .same-expr .ensures)))
+    (c₃ .if1 .left ∙ c₄ .number2 .ensures) (c₂ .form-of .ensures .0) _ (c₁ .is-sort .ensures) _
+    (of-sort (c .before .before .if3 .taken) (c .before .same-expr .ensures)))
 
 same-pred-requires : tie.Need-same-pred-requires
 same-pred-requires c κs =
@@ -86,7 +86,7 @@ same-pred-requires c κs =
     let c₅ = c₄ .before in
     let c₆ = c₅ .before .before in
     at-sort (c .if3 .left) (both-there _ _ _ _ _ _ (c₅ .start-at .ensures .0) (c₄ .start-at2 .ensures .0) _ _ (c₃ .number .ensures)
-          (c₁ .if1 .left ∙ c₂ .number2 .ensures) (c .before .before .form-of .ensures .0) _ (c .before .is-sort .ensures) (c₆ .pre))
+    (c₁ .if1 .left ∙ c₂ .number2 .ensures) (c .before .before .form-of .ensures .0) _ (c .before .is-sort .ensures) (c₆ .pre))
 
 is-yes-requires-2 : tie.Need-is-yes-requires-2
 is-yes-requires-2 c κs = search needs
@@ -101,8 +101,8 @@ returns-4 c =
     let c₆ = c₅ .before in
     let c₇ = c₆ .before in
     rw (c .is-yes2 .ensures) (same-done _ _ _ _ _ _ (c₇ .start-at .ensures .0) (c₆ .start-at2 .ensures .0) _ _ (c₅ .number .ensures)
-          (c₃ .if1 .left ∙ c₄ .number2 .ensures) (c₂ .form-of .ensures .0) _ (c₁ .is-sort .ensures) _
-          (of-sort (c .before .before .if3 .left) (c .before .same-pred .ensures)))
+    (c₃ .if1 .left ∙ c₄ .number2 .ensures) (c₂ .form-of .ensures .0) _ (c₁ .is-sort .ensures) _
+    (of-sort (c .before .before .if3 .left) (c .before .same-pred .ensures)))
 
 pub same-at-spec : {M : Type 1} → statement M
 same-at-spec =

@@ -24,7 +24,7 @@ returns c =
     let c₂ = c₁ .before in
     let c₃ = c₂ .before in
     expression-power _ _ _ _ _ (c₃ .inner-at .ensures) (c₂ .is-power .ensures) _ _ _ _ _ _ (c₁ .if1 .taken)
-        (c .before .before .put-word .ensures) (c .to-expression .ensures)
+    (c .before .before .put-word .ensures) (c .to-expression .ensures)
 
 to-expression-requires-2 : tie.Need-to-expression-requires-2
 to-expression-requires-2 c κs = inner-has _ _ _ _ (c .before .before .before .before .before .pre) (c .before .before .before .inner-at .ensures)
@@ -34,7 +34,7 @@ returns-2 c =
     let c₁ = c .before .before .before in
     let c₂ = c₁ .before in
     expression-plain _ _ _ _ _ (c₂ .inner-at .ensures) (c₁ .is-power .ensures) _ _ _ _ (c .before .before .if1 .left)
-        (c .to-expression2 .ensures)
+    (c .to-expression2 .ensures)
 
 pub put-expression-spec : {M : Type 1} → statement M
 put-expression-spec =

@@ -1,7 +1,19 @@
 use native.Mathlib.Omega.{arith}
 use Rattle.parts.proofs.Parts.{
-  part-within, can-make, tag-ready, byte-ready, operand-ready, type-ready, expression-ready, binders-ready, tag-put, byte-put,
-  operand-put, type-put, expression-put, binders-put
+  part-within,
+  can-make,
+  tag-ready,
+  byte-ready,
+  operand-ready,
+  type-ready,
+  expression-ready,
+  binders-ready,
+  tag-put,
+  byte-put,
+  operand-put,
+  type-put,
+  expression-put,
+  binders-put,
 }
 use borrow.Author.Needs.{needs}
 use Rattle.parts.proofs.put_part.Statement.{statement}
@@ -97,7 +109,7 @@ put-copy-requires-3 : tie.Need-put-copy-requires-3
 put-copy-requires-3 c κs =
     let c₁ = c .before .before .before .before .before .before in
     binders-ready _ _ _ _ _ (c₁ .pre) (c .before .match .rest .0 .0 .0 .0 .1) (c .before .match .rest .0 .0 .0 .1)
-        (c .before .match .rest .0 .0 .1) (c .before .match .rest .0 .1) (c .before .match .rest .1)
+    (c .before .match .rest .0 .0 .1) (c .before .match .rest .0 .1) (c .before .match .rest .1)
 
 returns : tie.Need-returns
 returns c = tag-put _ _ _ _ _ _ _ _ _ (c .before .before .match .keys1) (c .put-copy .ensures)

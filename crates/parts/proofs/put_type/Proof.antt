@@ -24,7 +24,7 @@ put-copy-requires c κs =
     let c₂ = c₁ .before in
     let c₃ = c₂ .before .before in
     let z = type-past _ _ _ (inner-has _ _ _ _ (c₃ .pre) (c₂ .inner-at .ensures))
-        (as-end _ _ _ (c₁ .type-end .ensures)) in (omega arith, z .1)
+    (as-end _ _ _ (c₁ .type-end .ensures)) in (omega arith, z .1)
 
 returns : tie.Need-returns
 returns c =
@@ -33,7 +33,7 @@ returns c =
     let c₃ = c₂ .before in
     let c₄ = c₃ .before in
     type-power _ _ _ _ _ (c₄ .inner-at .ensures) (c₂ .is-power .ensures) _ _ _ _ _ _ _ (as-end _ _ _ (c₃ .type-end .ensures))
-        (c₁ .if1 .taken) (c .before .before .put-byte .ensures) (c .put-copy .ensures)
+    (c₁ .if1 .taken) (c .before .before .put-byte .ensures) (c .put-copy .ensures)
 
 put-copy-requires-2 : tie.Need-put-copy-requires-2
 put-copy-requires-2 c κs =
@@ -41,7 +41,7 @@ put-copy-requires-2 c κs =
     let c₂ = c₁ .before in
     let c₃ = c₂ .before .before in
     let z = type-past _ _ _ (inner-has _ _ _ _ (c₃ .pre) (c₂ .inner-at .ensures))
-        (as-end _ _ _ (c₁ .type-end .ensures)) in (omega arith, z .1)
+    (as-end _ _ _ (c₁ .type-end .ensures)) in (omega arith, z .1)
 
 returns-2 : tie.Need-returns-2
 returns-2 c =
@@ -49,7 +49,7 @@ returns-2 c =
     let c₂ = c₁ .before in
     let c₃ = c₂ .before in
     type-plain _ _ _ _ _ (c₃ .inner-at .ensures) (c₁ .is-power .ensures) _ _ _ _ _ (as-end _ _ _ (c₂ .type-end .ensures))
-        (c .before .before .if1 .left) (c .put-copy2 .ensures)
+    (c .before .before .if1 .left) (c .put-copy2 .ensures)
 
 pub put-type-spec : {M : Type 1} → statement M
 put-type-spec =

@@ -47,9 +47,11 @@ loop-less c =
 loop-again : tie.Need-loop-again Inv-loop μ-loop
 loop-again c =
     let c₁ = c .before .before .before .before in
-    let c₂ = c₁ .before .before in
-    (c₂ .loop .inv .0, run-again _ _ _ _ _ _ _ (c₂ .loop .inv .0) _ _ _ (c₂ .loop .inv .1) (c₁ .if1 .taken) _ (c .size-of .ensures) _ _
-          (c .before .before .put-part .ensures))
+    let c₂ = c₁ .before .before in (
+      c₂ .loop .inv .0,
+      run-again _ _ _ _ _ _ _ (c₂ .loop .inv .0) _ _ _ (c₂ .loop .inv .1) (c₁ .if1 .taken) _ (c .size-of .ensures) _ _
+          (c .before .before .put-part .ensures),
+    )
 
 returns : tie.Need-returns Inv-loop μ-loop
 returns c = run-ends _ _ _ _ _ _ _ (c .before .before .loop .inv .0) _ _ _ (c .before .before .loop .inv .1) (c .if1 .left)

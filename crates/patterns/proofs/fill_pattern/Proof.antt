@@ -4,8 +4,18 @@ use native.Mathlib.Omega.{arith}
 use lib.ListN.{length-set}
 use Rattle.patterns.proofs.MatchTurns.{slot-span, slot-some}
 use Rattle.patterns.proofs.FillTurns.{
-  Going, going-begins, going-next, fill-end, fill-full, fill-fixed-pre, fill-fixed, fill-unbound, fill-long, fill-copy,
-  fill-bound-pre, fill-bound
+  Going,
+  going-begins,
+  going-next,
+  fill-end,
+  fill-full,
+  fill-fixed-pre,
+  fill-fixed,
+  fill-unbound,
+  fill-long,
+  fill-copy,
+  fill-bound-pre,
+  fill-bound,
 }
 use Rattle.patterns.proofs.fill_pattern.Statement.{statement}
 use Rattle.patterns.proofs.fill_pattern.Tie as tie
@@ -26,7 +36,7 @@ returns : tie.Need-returns Inv-loop μ-loop
 returns c =
     let c₁ = c .before .before .before in
     c .before .loop .inv .back _ _ (fill-end (c .before .loop .p) (c .before .loop .types) (c .before .loop .m) (c₁ .args .limit)
-          (c₁ .args .starts .now) (c₁ .args .ends .now) (c₁ .args .k) (c .before .loop .inv .pre .room) (c .if1 .taken))
+    (c₁ .args .starts .now) (c₁ .args .ends .now) (c₁ .args .k) (c .before .loop .inv .pre .room) (c .if1 .taken))
 
 same-length-2 : tie.Need-same-length-2 Inv-loop μ-loop
 same-length-2 c = c .before .before .before .loop .inv .size
@@ -36,8 +46,8 @@ returns-2 c =
     let c₁ = c .before .before .before in
     let c₂ = c₁ .before .before in
     c₁ .loop .inv .back _ _ (fill-full (c₁ .loop .p) (c₁ .loop .types) (c₁ .loop .m) (c₂ .args .limit) (c₂ .args .starts .now)
-          (c₂ .args .ends .now) (c₂ .args .k) (c₁ .loop .inv .pre .room) (c₁ .loop .p % 16) refl (c .before .before .if1 .left)
-          (c .before .if2 .taken) (c .if3 .taken))
+    (c₂ .args .ends .now) (c₂ .args .k) (c₁ .loop .inv .pre .room) (c₁ .loop .p % 16) refl (c .before .before .if1 .left)
+    (c .before .if2 .taken) (c .if3 .taken))
 
 cast-types : tie.Need-cast-types Inv-loop μ-loop
 cast-types c = omega arith
@@ -56,12 +66,12 @@ loop-again c =
     let c₁ = c .before .before .before in
     let c₂ = c₁ .before .before in
     going-next _ _ _ _ _ _ _ _ _ _ (c₁ .loop .inv) _ _ (fill-fixed-pre (c₁ .loop .p) (c₁ .loop .types) (c₁ .loop .m) (c₂ .args .limit)
-          (c₂ .args .starts .now) (c₂ .args .ends .now) (c₂ .args .k) (c₁ .loop .inv .pre .room) (c₁ .loop .p % 16) refl
-          (c .before .before .if1 .left) (c .before .if2 .taken) (c₁ .loop .p % 16) refl (c .if3 .left) (c₁ .loop .inv .pre))
-        (length-set (c₁ .loop .types) (c₁ .loop .m) (c₁ .loop .p % 16))
-        (fill-fixed (c₁ .loop .p) (c₁ .loop .types) (c₁ .loop .m) (c₂ .args .limit) (c₂ .args .starts .now) (c₂ .args .ends .now)
-          (c₂ .args .k) (c₁ .loop .inv .pre .room) (c₁ .loop .p % 16) refl (c .before .before .if1 .left) (c .before .if2 .taken)
-          (c₁ .loop .p % 16) refl (c .if3 .left))
+    (c₂ .args .starts .now) (c₂ .args .ends .now) (c₂ .args .k) (c₁ .loop .inv .pre .room) (c₁ .loop .p % 16) refl
+    (c .before .before .if1 .left) (c .before .if2 .taken) (c₁ .loop .p % 16) refl (c .if3 .left) (c₁ .loop .inv .pre))
+    (length-set (c₁ .loop .types) (c₁ .loop .m) (c₁ .loop .p % 16))
+    (fill-fixed (c₁ .loop .p) (c₁ .loop .types) (c₁ .loop .m) (c₂ .args .limit) (c₂ .args .starts .now) (c₂ .args .ends .now)
+    (c₂ .args .k) (c₁ .loop .inv .pre .room) (c₁ .loop .p % 16) refl (c .before .before .if1 .left) (c .before .if2 .taken)
+    (c₁ .loop .p % 16) refl (c .if3 .left))
 
 same-length-3 : tie.Need-same-length-3 Inv-loop μ-loop
 same-length-3 c = c .before .before .before .loop .inv .size
@@ -71,8 +81,8 @@ returns-3 c =
     let c₁ = c .before .before .before in
     let c₂ = c₁ .before .before in
     c₁ .loop .inv .back _ _ (fill-unbound (c₁ .loop .p) (c₁ .loop .types) (c₁ .loop .m) (c₂ .args .limit) (c₂ .args .starts .now)
-          (c₂ .args .ends .now) (c₂ .args .k) (c₁ .loop .inv .pre .room) (c₁ .loop .p % 16) refl (c .before .before .if1 .left)
-          (c .before .if2 .left) (c .if4 .taken))
+    (c₂ .args .ends .now) (c₂ .args .k) (c₁ .loop .inv .pre .room) (c₁ .loop .p % 16) refl (c .before .before .if1 .left)
+    (c .before .if2 .left) (c .if4 .taken))
 
 mul-from : tie.Need-mul-from Inv-loop μ-loop
 mul-from c = omega (arith, c .before .before .before .loop .inv .pre .env .few, c .before .before .before .loop .inv .pre .count)
@@ -107,8 +117,8 @@ returns-4 c =
     let c₄ = c₃ .before in
     let c₅ = c₄ .before .before in
     c₄ .loop .inv .back _ _ (fill-long (c₄ .loop .p) (c₄ .loop .types) (c₄ .loop .m) (c₅ .args .limit) (c₅ .args .starts .now)
-          (c₅ .args .ends .now) (c₅ .args .k) (c₄ .loop .inv .pre .room) (c₄ .loop .p % 16) refl (c₃ .if1 .left) (c₂ .if2 .left)
-          (c₁ .if4 .left) _ _ refl refl (c .if5 .taken))
+    (c₅ .args .ends .now) (c₅ .args .k) (c₄ .loop .inv .pre .room) (c₄ .loop .p % 16) refl (c₃ .if1 .left) (c₂ .if2 .left)
+    (c₁ .if4 .left) _ _ refl refl (c .if5 .taken))
 
 copy-within-requires : tie.Need-copy-within-requires Inv-loop μ-loop
 copy-within-requires c κs =
@@ -118,8 +128,8 @@ copy-within-requires c κs =
     let c₄ = c₃ .before in
     let c₅ = c₄ .before .before in
     fill-copy (c₄ .loop .p) (c₄ .loop .types) (c₄ .loop .m) (c₅ .args .limit) (c₅ .args .starts .now) (c₅ .args .ends .now) (c₅ .args .k)
-        (c₄ .loop .inv .pre .room) (c₄ .loop .p % 16) refl (c₃ .if1 .left) (c₂ .if2 .left) (c₁ .if4 .left) _ _ refl refl
-        (c .before .if5 .left) (c₄ .loop .inv .pre)
+    (c₄ .loop .inv .pre .room) (c₄ .loop .p % 16) refl (c₃ .if1 .left) (c₂ .if2 .left) (c₁ .if4 .left) _ _ refl refl
+    (c .before .if5 .left) (c₄ .loop .inv .pre)
 
 add-m-2 : tie.Need-add-m-2 Inv-loop μ-loop
 add-m-2 c = omega (arith, c .before .before .before .before .before .before .before .before .before .before .loop .inv .pre .room)
@@ -139,11 +149,11 @@ loop-again-2 c =
     let c₅ = c₄ .before in
     let c₆ = c₅ .before .before in
     going-next _ _ _ _ _ _ _ _ _ _ (c₅ .loop .inv) _ _ (fill-bound-pre (c₅ .loop .p) (c₅ .loop .types) (c₅ .loop .m) (c₆ .args .limit)
-          (c₆ .args .starts .now) (c₆ .args .ends .now) (c₆ .args .k) (c₅ .loop .inv .pre .room) (c₅ .loop .p % 16) refl (c₄ .if1 .left)
-          (c₃ .if2 .left) (c₂ .if4 .left) _ _ refl refl (c₁ .if5 .left) _ (c .before .before .copy-within .ensures) (c₅ .loop .inv .pre))
-        (c .before .before .copy-within .ensures .long) (fill-bound (c₅ .loop .p) (c₅ .loop .types) (c₅ .loop .m) (c₆ .args .limit)
-          (c₆ .args .starts .now) (c₆ .args .ends .now) (c₆ .args .k) (c₅ .loop .inv .pre .room) (c₅ .loop .p % 16) refl (c₄ .if1 .left)
-          (c₃ .if2 .left) (c₂ .if4 .left) _ _ refl refl (c₁ .if5 .left) _ (c .before .before .copy-within .ensures))
+    (c₆ .args .starts .now) (c₆ .args .ends .now) (c₆ .args .k) (c₅ .loop .inv .pre .room) (c₅ .loop .p % 16) refl (c₄ .if1 .left)
+    (c₃ .if2 .left) (c₂ .if4 .left) _ _ refl refl (c₁ .if5 .left) _ (c .before .before .copy-within .ensures) (c₅ .loop .inv .pre))
+    (c .before .before .copy-within .ensures .long) (fill-bound (c₅ .loop .p) (c₅ .loop .types) (c₅ .loop .m) (c₆ .args .limit)
+    (c₆ .args .starts .now) (c₆ .args .ends .now) (c₆ .args .k) (c₅ .loop .inv .pre .room) (c₅ .loop .p % 16) refl (c₄ .if1 .left)
+    (c₃ .if2 .left) (c₂ .if4 .left) _ _ refl refl (c₁ .if5 .left) _ (c .before .before .copy-within .ensures))
 
 pub fill-pattern-spec : {M : Type 1} → statement M
 fill-pattern-spec =

@@ -62,7 +62,7 @@ returns-2 c =
     let c₄ = c₃ .before .before in
     let c₅ = c₄ .before .before .before .before in
     judge-over _ (operands-fit _ _ _ _ (c₄ .match-operands .ensures _ (c₅ .rule-row .ensures)) (c₃ .fit .given .1))
-        (c₁ .fill-pattern .ensures _ (result-packed (c₅ .rule-row .ensures) _ (c₂ .pattern .ensures))) (c .enum-told2 .given .1) _
+    (c₁ .fill-pattern .ensures _ (result-packed (c₅ .rule-row .ensures) _ (c₂ .pattern .ensures))) (c .enum-told2 .given .1) _
 
 copy-within-requires : tie.Need-copy-within-requires
 copy-within-requires c κs =
@@ -73,8 +73,8 @@ copy-within-requires c κs =
     let c₅ = c₄ .before .before .before .before in
     let c₆ = c₅ .before .before in
     copy-pre _ (done-by _ (operands-fit _ _ _ _ (c₄ .match-operands .ensures _ (c₅ .rule-row .ensures)) (c₃ .fit .given .1))
-          (c₁ .fill-pattern .ensures _ (result-packed (c₅ .rule-row .ensures) _ (c₂ .pattern .ensures)))
-          (c .before .before .filled .given .1)) (c₆ .pre)
+    (c₁ .fill-pattern .ensures _ (result-packed (c₅ .rule-row .ensures) _ (c₂ .pattern .ensures)))
+    (c .before .before .filled .given .1)) (c₆ .pre)
 
 sub-t16 : tie.Need-sub-t16
 sub-t16 c =
@@ -86,8 +86,8 @@ sub-t16 c =
     let c₆ = c₅ .before .before .before .before in
     let c₇ = c₆ .before .before in
     copy-pre _ (done-by _ (operands-fit _ _ _ _ (c₅ .match-operands .ensures _ (c₆ .rule-row .ensures)) (c₄ .fit .given .1))
-          (c₂ .fill-pattern .ensures _ (result-packed (c₆ .rule-row .ensures) _ (c₃ .pattern .ensures)))
-          (c₁ .filled .given .1)) (c₇ .pre) .0
+    (c₂ .fill-pattern .ensures _ (result-packed (c₆ .rule-row .ensures) _ (c₃ .pattern .ensures)))
+    (c₁ .filled .given .1)) (c₇ .pre) .0
 
 add-t17 : tie.Need-add-t17
 add-t17 c =
@@ -99,8 +99,8 @@ add-t17 c =
     let c₆ = c₅ .before .before .before .before in
     let c₇ = c₆ .before .before in
     let p = copy-pre _ (done-by _ (operands-fit _ _ _ _ (c₅ .match-operands .ensures _ (c₆ .rule-row .ensures)) (c₄ .fit .given .1))
-          (c₂ .fill-pattern .ensures _ (result-packed (c₆ .rule-row .ensures) _ (c₃ .pattern .ensures))) (c₁ .filled .given .1))
-        (c₇ .pre) in omega (arith, c₇ .good, c₇ .pre .row .span .long, c₇ .pre .room, p .1, p .2)
+    (c₂ .fill-pattern .ensures _ (result-packed (c₆ .rule-row .ensures) _ (c₃ .pattern .ensures))) (c₁ .filled .given .1))
+    (c₇ .pre) in omega (arith, c₇ .good, c₇ .pre .row .span .long, c₇ .pre .room, p .1, p .2)
 
 same-length-3 : tie.Need-same-length-3
 same-length-3 c = search needs
@@ -114,8 +114,8 @@ returns-3 c =
     let c₅ = c₄ .before .before in
     let c₆ = c₅ .before .before .before .before in
     judge-typed _ (done-by _ (operands-fit _ _ _ _ (c₅ .match-operands .ensures _ (c₆ .rule-row .ensures)) (c₄ .fit .given .1))
-          (c₂ .fill-pattern .ensures _ (result-packed (c₆ .rule-row .ensures) _ (c₃ .pattern .ensures))) (c₁ .filled .given .1)) _
-        (c .before .before .copy-within .ensures)
+    (c₂ .fill-pattern .ensures _ (result-packed (c₆ .rule-row .ensures) _ (c₃ .pattern .ensures))) (c₁ .filled .given .1)) _
+    (c .before .before .copy-within .ensures)
 
 pub judge-types-spec : {M : Type 1} → statement M
 judge-types-spec =

@@ -3,7 +3,17 @@ use Prim.Native.Nat.{_-_, _%_}
 use native.Mathlib.Omega.{arith}
 use borrow.Author.Needs.{needs}
 use Rattle.patterns.proofs.MatchTurns.{
-  Going, going-begins, going-next, going-off, going-past, going-variable, fit-end, fit-none, fit-other, fit-large, next-fixed
+  Going,
+  going-begins,
+  going-next,
+  going-off,
+  going-past,
+  going-variable,
+  fit-end,
+  fit-none,
+  fit-other,
+  fit-large,
+  next-fixed,
 }
 use Rattle.patterns.proofs.match_pattern.Statement.{statement}
 use Rattle.patterns.proofs.match_pattern.Tie as tie
@@ -21,14 +31,14 @@ returns : tie.Need-returns Inv-loop μ-loop
 returns c =
     let c₁ = c .before .before .before in
     c .before .loop .inv .back _ _ _ (fit-end (c .before .loop .p) (c₁ .args .types .now) (c .before .loop .at) (c₁ .args .n)
-          (c .before .loop .starts) (c .before .loop .ends) (c .before .loop .k) (c .if1 .taken))
+    (c .before .loop .starts) (c .before .loop .ends) (c .before .loop .k) (c .if1 .taken))
 
 returns-2 : tie.Need-returns-2 Inv-loop μ-loop
 returns-2 c =
     let c₁ = c .before .before .before .before in
     c .before .before .loop .inv .back _ _ _ (fit-none (c .before .before .loop .p) (c₁ .args .types .now) (c .before .before .loop .at)
-          (c₁ .args .n) (c .before .before .loop .starts) (c .before .before .loop .ends) (c .before .before .loop .k)
-          (c .before .before .loop .p % 16) refl (c .before .if1 .left) (c .if2 .taken))
+    (c₁ .args .n) (c .before .before .loop .starts) (c .before .before .loop .ends) (c .before .before .loop .k)
+    (c .before .before .loop .p % 16) refl (c .before .if1 .left) (c .if2 .taken))
 
 shared-slice-read-wide : tie.Need-shared-slice-read-wide Inv-loop μ-loop
 shared-slice-read-wide c = omega (arith, c .before .before .before .before .loop .inv .pre .row .span .within)
@@ -42,8 +52,8 @@ returns-3 c =
     let c₂ = c₁ .before in
     let c₃ = c₂ .before .before in
     c₂ .loop .inv .back _ _ _ (fit-other (c₂ .loop .p) (c₃ .args .types .now) (c₂ .loop .at) (c₃ .args .n) (c₂ .loop .starts)
-          (c₂ .loop .ends) (c₂ .loop .k) (c₂ .loop .p % 16) refl (c₁ .if1 .left) (omega arith) (omega arith)
-          (λ e. c .if4 .taken (c .before .wide .ensures .0 ∙ e)))
+    (c₂ .loop .ends) (c₂ .loop .k) (c₂ .loop .p % 16) refl (c₁ .if1 .left) (omega arith) (omega arith)
+    (λ e. c .if4 .taken (c .before .wide .ensures .0 ∙ e)))
 
 add-at : tie.Need-add-at Inv-loop μ-loop
 add-at c = omega (arith, c .before .before .before .before .before .before .loop .inv .pre .row .span .within)
@@ -57,8 +67,8 @@ loop-again c =
     let c₂ = c₁ .before in
     let c₃ = c₂ .before .before in
     going-next _ _ _ _ _ _ _ _ _ _ _ _ (c₂ .loop .inv) (c₁ .if1 .left) (omega arith) _ _ _ _
-        (next-fixed (c₂ .loop .p) (c₃ .args .types .now) (c₂ .loop .at) (c₃ .args .n) (c₂ .loop .starts) (c₂ .loop .ends) (c₂ .loop .k)
-          (c₂ .loop .p % 16) refl (c₁ .if1 .left) (omega arith) (omega arith) (sym (c .before .wide .ensures .0) ∙ c .if4 .left))
+    (next-fixed (c₂ .loop .p) (c₃ .args .types .now) (c₂ .loop .at) (c₃ .args .n) (c₂ .loop .starts) (c₂ .loop .ends) (c₂ .loop .k)
+    (c₂ .loop .p % 16) refl (c₁ .if1 .left) (omega arith) (omega arith) (sym (c .before .wide .ensures .0) ∙ c .if4 .left))
 
 returns-4 : tie.Need-returns-4 Inv-loop μ-loop
 returns-4 c =
@@ -66,7 +76,7 @@ returns-4 c =
     let c₂ = c₁ .before in
     let c₃ = c₂ .before .before in
     c₂ .loop .inv .back _ _ _ (fit-large (c₂ .loop .p) (c₃ .args .types .now) (c₂ .loop .at) (c₃ .args .n) (c₂ .loop .starts)
-          (c₂ .loop .ends) (c₂ .loop .k) (c₂ .loop .p % 16) refl (c₁ .if1 .left) (omega arith) (c .if5 .taken))
+    (c₂ .loop .ends) (c₂ .loop .k) (c₂ .loop .p % 16) refl (c₁ .if1 .left) (omega arith) (c .if5 .taken))
 
 match-variable-requires : tie.Need-match-variable-requires Inv-loop μ-loop
 match-variable-requires c κs = (c .before .before .before .before .before .before .loop .inv .pre, omega arith, omega arith)
@@ -82,15 +92,18 @@ returns-5 c =
     let c₁ = c .before .before .before .before .before .before .before .before in
     let c₂ = c₁ .before in
     going-off _ _ _ _ _ _ _ _ _ _ _ _ (c₂ .loop .inv) (c₁ .if1 .left) (omega arith) (c₂ .loop .p % 16 - 5) (omega arith) _ _ _
-        (c .before .before .match-variable .ensures) (c .enum-told .given .1)
+    (c .before .before .match-variable .ensures) (c .enum-told .given .1)
 
 loop-less-2 : tie.Need-loop-less-2 Inv-loop μ-loop
 loop-less-2 c =
     let c₁ = c .before .before .before in
     let c₂ = c₁ .before .before .before .before .before .before in
     let c₃ = c₂ .before in
-    omega (arith, going-past _ _ _ _ _ _ _ _ _ _ _ _ (c₃ .loop .inv) (c₂ .if1 .left) (omega arith) (c₃ .loop .p % 16 - 5)
-          (omega arith) _ _ _ (c₁ .match-variable .ensures) _ _ (c .before .part .given .1))
+    omega (
+      arith,
+      going-past _ _ _ _ _ _ _ _ _ _ _ _ (c₃ .loop .inv) (c₂ .if1 .left) (omega arith) (c₃ .loop .p % 16 - 5)
+          (omega arith) _ _ _ (c₁ .match-variable .ensures) _ _ (c .before .part .given .1),
+    )
 
 loop-again-2 : tie.Need-loop-again-2 Inv-loop μ-loop
 loop-again-2 c =
@@ -98,7 +111,7 @@ loop-again-2 c =
     let c₂ = c₁ .before .before .before .before .before .before in
     let c₃ = c₂ .before in
     going-variable _ _ _ _ _ _ _ _ _ _ _ _ (c₃ .loop .inv) (c₂ .if1 .left) (omega arith) (c₃ .loop .p % 16 - 5) (omega arith) _ _ _
-        (c₁ .match-variable .ensures) _ _ (c .before .part .given .1)
+    (c₁ .match-variable .ensures) _ _ (c .before .part .given .1)
 
 pub match-pattern-spec : {M : Type 1} → statement M
 match-pattern-spec =

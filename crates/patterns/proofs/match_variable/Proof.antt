@@ -30,21 +30,21 @@ returns c =
     let c₁ = c .before .before .before in
     let c₂ = c₁ .before .before in
     fit-long (c₂ .args .v) (c₂ .pre .2) (c₂ .args .types .now) (c₂ .args .at) (c₂ .args .n) (c₂ .pre .1) (c₂ .args .starts .now)
-        (c₂ .args .ends .now) (c₂ .args .k) (c₁ .if1 .taken) _ _ refl refl (c .if2 .taken)
+    (c₂ .args .ends .now) (c₂ .args .k) (c₁ .if1 .taken) _ _ refl refl (c .if2 .taken)
 
 same-bytes-requires : tie.Need-same-bytes-requires
 same-bytes-requires c κs =
     let c₁ = c .before .before .before in
     let c₂ = c₁ .before .before in
     let w = slot-span (c₂ .pre .0 .env) (c₂ .pre .0 .count) (c₂ .args .v) (c₁ .if1 .taken) in
-        omega (arith, c₂ .pre .0 .row .span .within, c₂ .pre .1, w .0, w .1, w .2)
+    omega (arith, c₂ .pre .0 .row .span .within, c₂ .pre .1, w .0, w .1, w .2)
 
 returns-2 : tie.Need-returns-2
 returns-2 c =
     let c₁ = c .before .before .before .before .before in
     let c₂ = c₁ .before .before in
     fit-differ (c₂ .args .v) (c₂ .pre .2) (c₂ .args .types .now) (c₂ .args .at) (c₂ .args .n) (c₂ .pre .1) (c₂ .args .starts .now)
-        (c₂ .args .ends .now) (c₂ .args .k) (c₁ .if1 .taken) _ _ refl refl _ (c .before .same-bytes .ensures) (not-true _ (c .if3 .taken))
+    (c₂ .args .ends .now) (c₂ .args .k) (c₁ .if1 .taken) _ _ refl refl _ (c .before .same-bytes .ensures) (not-true _ (c .if3 .taken))
 
 add-t15 : tie.Need-add-t15
 add-t15 c = omega (arith, c .before .before .before .before .before .before .before .pre .0 .row .span .within)
@@ -54,20 +54,20 @@ returns-3 c =
     let c₁ = c .before .before .before .before .before in
     let c₂ = c₁ .before .before in
     next-same (c₂ .args .v) (c₂ .pre .2) (c₂ .args .types .now) (c₂ .args .at) (c₂ .args .n) (c₂ .pre .1) (c₂ .args .starts .now)
-        (c₂ .args .ends .now) (c₂ .args .k) (c₁ .if1 .taken) _ _ refl refl (omega arith) _ (c .before .same-bytes .ensures)
-        (not-false _ (c .if3 .left))
+    (c₂ .args .ends .now) (c₂ .args .k) (c₁ .if1 .taken) _ _ refl refl (omega arith) _ (c .before .same-bytes .ensures)
+    (not-false _ (c .if3 .left))
 
 returns-4 : tie.Need-returns-4
 returns-4 c =
     let c₁ = c .before .before .before in
     fit-gap (c₁ .args .v) (c₁ .pre .2) (c₁ .args .types .now) (c₁ .args .at) (c₁ .args .n) (c₁ .pre .1) (c₁ .args .starts .now)
-        (c₁ .args .ends .now) (c₁ .args .k) (c .if4 .taken)
+    (c₁ .args .ends .now) (c₁ .args .k) (c .if4 .taken)
 
 type-end-requires : tie.Need-type-end-requires
 type-end-requires c κs =
     let c₁ = c .before .before .before in
     first-type (c₁ .args .v) (c₁ .pre .2) (c₁ .args .types .now) (c₁ .args .at) (c₁ .args .n) (c₁ .pre .1) (c₁ .args .starts .now)
-        (c₁ .args .ends .now) (c₁ .args .k) (c₁ .pre .0)
+    (c₁ .args .ends .now) (c₁ .args .k) (c₁ .pre .0)
 
 mul-starts : tie.Need-mul-starts
 mul-starts c = omega (arith, c .before .before .before .before .pre .2)
@@ -88,7 +88,7 @@ returns-5 : tie.Need-returns-5
 returns-5 c =
     let c₁ = c .before .before .before .before in
     next-new (c₁ .args .v) (c₁ .pre .2) (c₁ .args .types .now) (c₁ .args .at) (c₁ .args .n) (c₁ .pre .1) (c₁ .args .starts .now)
-        (c₁ .args .ends .now) (c₁ .args .k) (omega arith) _ (c .type-end .ensures)
+    (c₁ .args .ends .now) (c₁ .args .k) (omega arith) _ (c .type-end .ensures)
 
 pub match-variable-spec : {M : Type 1} → statement M
 match-variable-spec =

@@ -69,7 +69,7 @@ put-decimal-returns-2 t c =
     let c₁ = c .before .before .before .before .before .before in
     let c₂ = c₁ .before .before in
     appends-as _ _ _ _ _ _ (sym (decimal-more _ (c₂ .if1 .left)))
-        (appends-then _ _ _ _ _ _ _ _ (c₁ .put-decimal .ensures) (c .before .before .put-byte2 .ensures))
+    (appends-then _ _ _ _ _ _ _ _ (c₁ .put-decimal .ensures) (c .before .before .put-byte2 .ensures))
 
 pub +put-decimal-spec : {M : Type 1} → statement M
 +put-decimal-spec = close μ-put-decimal λ t. put-decimal-lts.spec (calls-put-decimal t)

@@ -22,8 +22,13 @@ put-decimal-requires c κs =
     let c₁ = c .before .before .before in
     let c₂ = c₁ .before .before .before .before in
     let c₃ = c₂ .before .before .before .before .before in
-    omega (arith, ended-length (now (c₃ .args .word)) (c₃ .args .count)
-          (now (c₃ .args .frame)), c₂ .put-text .ensures .after, c₁ .put-byte .ensures .after)
+    omega (
+      arith,
+      ended-length (now (c₃ .args .word)) (c₃ .args .count)
+          (now (c₃ .args .frame)),
+      c₂ .put-text .ensures .after,
+      c₁ .put-byte .ensures .after,
+    )
 
 put-byte-requires-2 : tie.Need-put-byte-requires-2
 put-byte-requires-2 c κs =
@@ -31,8 +36,14 @@ put-byte-requires-2 c κs =
     let c₂ = c₁ .before .before .before .before in
     let c₃ = c₂ .before .before .before .before in
     let c₄ = c₃ .before .before .before .before .before in
-    omega (arith, ended-length (now (c₄ .args .word)) (c₄ .args .count)
-          (now (c₄ .args .frame)), c₃ .put-text .ensures .after, c₂ .put-byte .ensures .after, c₁ .put-decimal .ensures .after)
+    omega (
+      arith,
+      ended-length (now (c₄ .args .word)) (c₄ .args .count)
+          (now (c₄ .args .frame)),
+      c₃ .put-text .ensures .after,
+      c₂ .put-byte .ensures .after,
+      c₁ .put-decimal .ensures .after,
+    )
 
 put-frame-requires : tie.Need-put-frame-requires
 put-frame-requires c κs =
@@ -41,9 +52,15 @@ put-frame-requires c κs =
     let c₃ = c₂ .before .before .before .before in
     let c₄ = c₃ .before .before .before .before in
     let c₅ = c₄ .before .before .before .before .before in
-    omega (arith, ended-length (now (c₅ .args .word)) (c₅ .args .count)
-          (now (c₅ .args .frame)), c₄ .put-text .ensures .after, c₃ .put-byte .ensures .after, c₂ .put-decimal .ensures .after,
-          c₁ .put-byte2 .ensures .after)
+    omega (
+      arith,
+      ended-length (now (c₅ .args .word)) (c₅ .args .count)
+          (now (c₅ .args .frame)),
+      c₄ .put-text .ensures .after,
+      c₃ .put-byte .ensures .after,
+      c₂ .put-decimal .ensures .after,
+      c₁ .put-byte2 .ensures .after,
+    )
 
 put-byte-requires-3 : tie.Need-put-byte-requires-3
 put-byte-requires-3 c κs =
@@ -53,9 +70,16 @@ put-byte-requires-3 c κs =
     let c₄ = c₃ .before .before .before .before in
     let c₅ = c₄ .before .before .before .before in
     let c₆ = c₅ .before .before .before .before .before in
-    omega (arith, ended-length (now (c₆ .args .word)) (c₆ .args .count)
-          (now (c₆ .args .frame)), c₅ .put-text .ensures .after, c₄ .put-byte .ensures .after, c₃ .put-decimal .ensures .after,
-          c₂ .put-byte2 .ensures .after, c₁ .put-frame .ensures .after)
+    omega (
+      arith,
+      ended-length (now (c₆ .args .word)) (c₆ .args .count)
+          (now (c₆ .args .frame)),
+      c₅ .put-text .ensures .after,
+      c₄ .put-byte .ensures .after,
+      c₃ .put-decimal .ensures .after,
+      c₂ .put-byte2 .ensures .after,
+      c₁ .put-frame .ensures .after,
+    )
 
 same-length : tie.Need-same-length
 same-length c = search needs
@@ -69,9 +93,9 @@ returns c =
     let c₄ = c₃ .before .before .before .before in
     let c₅ = c₄ .before .before .before .before in
     appends-then _ _ _ _ _ _ _ _ (appends-then _ _ _ _ _ _ _ _
-          (appends-then _ _ _ _ _ _ _ _ (appends-then _ _ _ _ _ _ _ _
-              (appends-then _ _ _ _ _ _ _ _ (c₅ .put-text .ensures) (c₄ .put-byte .ensures)) (c₃ .put-decimal .ensures))
-            (c₂ .put-byte2 .ensures)) (c₁ .put-frame .ensures)) (c .before .before .put-byte3 .ensures)
+    (appends-then _ _ _ _ _ _ _ _ (appends-then _ _ _ _ _ _ _ _
+    (appends-then _ _ _ _ _ _ _ _ (c₅ .put-text .ensures) (c₄ .put-byte .ensures)) (c₃ .put-decimal .ensures))
+    (c₂ .put-byte2 .ensures)) (c₁ .put-frame .ensures)) (c .before .before .put-byte3 .ensures)
 
 pub put-ended-spec : {M : Type 1} → statement M
 put-ended-spec =

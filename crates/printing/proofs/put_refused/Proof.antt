@@ -30,8 +30,13 @@ put-byte-requires-2 c κs =
     let c₂ = c₁ .before .before .before .before in
     let c₃ = c₂ .before .before .before .before in
     let c₄ = c₃ .before .before .before .before in
-    omega (arith, refused-length (c₄ .args .number), c₃ .put-text .ensures .after, c₂ .put-byte .ensures .after,
-          c₁ .put-decimal .ensures .after)
+    omega (
+      arith,
+      refused-length (c₄ .args .number),
+      c₃ .put-text .ensures .after,
+      c₂ .put-byte .ensures .after,
+      c₁ .put-decimal .ensures .after,
+    )
 
 same-length : tie.Need-same-length
 same-length c = search needs
@@ -43,8 +48,8 @@ returns c =
     let c₂ = c₁ .before .before .before .before in
     let c₃ = c₂ .before .before .before .before in
     appends-then _ _ _ _ _ _ _ _ (appends-then _ _ _ _ _ _ _ _
-          (appends-then _ _ _ _ _ _ _ _ (c₃ .put-text .ensures) (c₂ .put-byte .ensures)) (c₁ .put-decimal .ensures))
-        (c .before .before .put-byte2 .ensures)
+    (appends-then _ _ _ _ _ _ _ _ (c₃ .put-text .ensures) (c₂ .put-byte .ensures)) (c₁ .put-decimal .ensures))
+    (c .before .before .put-byte2 .ensures)
 
 pub put-refused-spec : {M : Type 1} → statement M
 put-refused-spec =

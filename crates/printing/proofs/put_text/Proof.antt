@@ -27,8 +27,11 @@ add-out c = omega arith
 slice-write-out : tie.Need-slice-write-out Inv-loop μ-loop
 slice-write-out c =
     let c₁ = c .before .before .before in
-    omega (arith, ap (λ (l : List ℕ). length l) (c .before .before .loop .inv .1) ∙ length-sets (now (c₁ .args .out)) (c₁ .args .at)
-          (take (c .before .before .loop .i) (now (c₁ .args .text))))
+    omega (
+      arith,
+      ap (λ (l : List ℕ). length l) (c .before .before .loop .inv .1) ∙ length-sets (now (c₁ .args .out)) (c₁ .args .at)
+          (take (c .before .before .loop .i) (now (c₁ .args .text))),
+    )
 
 add-i : tie.Need-add-i Inv-loop μ-loop
 add-i c = omega arith

@@ -31,9 +31,13 @@ loop-less c = omega arith
 
 loop-again : tie.Need-loop-again Inv-loop μ-loop
 loop-again c =
-    let c₁ = c .before .before .before .before in
-    (omega arith, omega arith, omega arith, copy-more _ _ _ _ _ _ _ _ _ (c₁ .loop .inv .0) (omega arith)
-          (c₁ .loop .inv .3) (c .put-byte .ensures))
+    let c₁ = c .before .before .before .before in (
+      omega arith,
+      omega arith,
+      omega arith,
+      copy-more _ _ _ _ _ _ _ _ _ (c₁ .loop .inv .0) (omega arith)
+          (c₁ .loop .inv .3) (c .put-byte .ensures),
+    )
 
 returns : tie.Need-returns Inv-loop μ-loop
 returns c = copy-end _ _ _ _ _ _ _ _ (c .before .loop .inv .1) (c .loop-test .left) (c .before .loop .inv .3)

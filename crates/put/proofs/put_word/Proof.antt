@@ -19,7 +19,7 @@ returns : tie.Need-returns
 returns c =
     let c₁ = c .before .before .before .before in
     puts-as _ _ _ _ _ _ (word-bytes (c₁ .args .w)) (puts-then _ _ _ _ _ _ _ _
-          (c .before .before .put-byte .ensures) (c .put-byte2 .ensures))
+    (c .before .before .put-byte .ensures) (c .put-byte2 .ensures))
 
 pub put-word-spec : {M : Type 1} → statement M
 put-word-spec =

@@ -64,7 +64,7 @@ read-kids-read-kids-requires t c κs =
     let c₃ = c₂ .before in
     let c₄ = c₃ .before in
     let r = kids-room _ (c₄ .args .n) (c₄ .args .first) (c₄ .args .later) _ _ _ _ (c₄ .pre .1) (c₂ .if1 .left) _ (c₁ .read-node .ensures)
-        (λ i. c₃ .shared-slice-known .given i .fits) _ _ (c .before .before .a .given .1) in (omega (arith, r .1), r .0)
+    (λ i. c₃ .shared-slice-known .given i .fits) _ _ (c .before .before .a .given .1) in (omega (arith, r .1), r .0)
 
 read-kids-enum-known-a-2 : (t : ℕ) → read-kids-lts.Need-enum-known-a-2 (calls-read-kids t) (read-kids-at t) read-kids.Post
 read-kids-enum-known-a-2 t c = search needs
@@ -77,7 +77,7 @@ read-kids-returns-2 t c =
     let c₄ = c₃ .before in
     let c₅ = c₄ .before in
     kids-more _ _ _ _ _ _ _ _ (c₅ .pre .1) (c₃ .if1 .left) _ (c₂ .read-node .ensures) (λ i. c₄ .shared-slice-known .given i .fits) _ _
-        (c₁ .a .given .1) _ _ (c .read-kids .ensures)
+    (c₁ .a .given .1) _ _ (c .read-kids .ensures)
 
 read-kids-returns-3 : (t : ℕ) → read-kids-lts.Need-returns-3 (calls-read-kids t) (read-kids-at t) read-kids.Post
 read-kids-returns-3 t c =
@@ -107,7 +107,7 @@ read-node-element-write-starts t c =
     let c₂ = c₁ .before in
     let c₃ = c₂ .before in
     let r = node-room _ _ _ _ (now (c₃ .args .starts)) (now (c₃ .args .starts)) (c₃ .pre .1) _ (c₁ .read-head .ensures)
-        (λ i. c₂ .shared-slice-known .given i .fits) _ _ _ _ _ _ _ (c .before .h2 .given .1) in omega (arith, r .1, r .0 .within)
+    (λ i. c₂ .shared-slice-known .given i .fits) _ _ _ _ _ _ _ (c .before .h2 .given .1) in omega (arith, r .1, r .0 .within)
 
 read-node-add-read-kids : (t : ℕ) → read-node-lts.Need-add-read-kids (calls-read-node t) (read-node-at t) read-node.Post
 read-node-add-read-kids t c = omega arith
@@ -118,8 +118,8 @@ read-node-read-kids-requires t c κs =
     let c₂ = c₁ .before in
     let c₃ = c₂ .before in
     let r = node-room _ _ _ _ (now (c₃ .args .starts)) (now (c₃ .args .starts)) (c₃ .pre .1) _ (c₁ .read-head .ensures)
-        (λ i. c₂ .shared-slice-known .given i .fits) _ _ _ _ _ _ _ (c .before .before .h2 .given .1) in
-        (omega (arith, r .1, r .0 .within), r .0)
+    (λ i. c₂ .shared-slice-known .given i .fits) _ _ _ _ _ _ _ (c .before .before .h2 .given .1) in
+    (omega (arith, r .1, r .0 .within), r .0)
 
 read-node-returns : (t : ℕ) → read-node-lts.Need-returns (calls-read-node t) (read-node-at t) read-node.Post
 read-node-returns t c =
@@ -134,7 +134,7 @@ read-node-returns-2 t c =
     let c₃ = c₂ .before in
     let c₄ = c₃ .before in
     node-kids _ _ _ _ _ _ (c₄ .pre .1) _ (c₂ .read-head .ensures) (λ i. c₃ .shared-slice-known .given i .fits) _ _ _ _ _ _ _
-        (c₁ .h2 .given .1) _ (c .read-kids .ensures)
+    (c₁ .h2 .given .1) _ (c .read-kids .ensures)
 
 pub +read-kids+read-node-spec : {M : Type 1} → statement M
 +read-kids+read-node-spec = close μ-read-kids μ-read-node (λ t. read-kids-lts.spec (calls-read-kids t)

@@ -34,13 +34,13 @@ loop-less : tie.Need-loop-less Inv-loop μ-loop
 loop-less c =
     let c₁ = c .before .before .before in
     let g = placing-goes _ (λ i. c₁ .shared-slice-known .given i .fits) _ _ _ _ _ _ (c .before .before .loop .inv)
-        (c .before .loop-test .taken) _ (c .head-end .ensures) in omega (arith, g .0, g .1)
+    (c .before .loop-test .taken) _ (c .head-end .ensures) in omega (arith, g .0, g .1)
 
 loop-again : tie.Need-loop-again Inv-loop μ-loop
 loop-again c =
     let c₁ = c .before .before .before in
     placing-goes _ (λ i. c₁ .shared-slice-known .given i .fits) _ _ _ _ _ _ (c .before .before .loop .inv) (c .before .loop-test .taken) _
-        (c .head-end .ensures) .2
+    (c .head-end .ensures) .2
 
 returns : tie.Need-returns Inv-loop μ-loop
 returns c = placing-done _ (λ i. c .before .before .shared-slice-known .given i .fits) _ _ _ _ _ _ (c .before .loop .inv) (c .loop-test .left)

@@ -32,7 +32,7 @@ returns-3 c =
     let c₃ = c₂ .before .before in
     let c₄ = c₃ .before in
     read-more _ (c₄ .if1 .left) (c₃ .if2 .left) _ _ (c₂ .read-node .ensures) _ _ (c₁ .a .given .1)
-        (c .before .if3 .taken) _ _ (c .refused3 .ensures)
+    (c .before .if3 .taken) _ _ (c .refused3 .ensures)
 
 enum-known-a-2 : tie.Need-enum-known-a-2
 enum-known-a-2 c = search needs
@@ -47,7 +47,7 @@ returns-4 c =
     let c₃ = c₂ .before in
     let c₄ = c₃ .before in
     read-whole _ (c₃ .if1 .left) (c₂ .if2 .left) _ _ (c₁ .read-node .ensures) _ _ (c .before .before .a .given .1)
-        (λ i. c₄ .shared-slice-known .given i .fits) (c .if3 .left)
+    (λ i. c₄ .shared-slice-known .given i .fits) (c .if3 .left)
 
 returns-5 : tie.Need-returns-5
 returns-5 c =
@@ -55,7 +55,7 @@ returns-5 c =
     let c₂ = c₁ .before .before in
     let c₃ = c₂ .before in
     read-refused _ (c₃ .if1 .left) (c₂ .if2 .left) _ _ (c₁ .read-node .ensures) _
-        (c .before .before .a2 .given .1) _ _ (c .refused4 .ensures)
+    (c .before .before .a2 .given .1) _ _ (c .refused4 .ensures)
 
 pub read-spec : {M : Type 1} → statement M
 read-spec =

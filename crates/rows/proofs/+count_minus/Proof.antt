@@ -38,10 +38,15 @@ count-minus-sub-count-minus t c = let z = c .before .if1 .left in omega arith
 
 count-minus-count-minus-requires : (t : ℕ) → count-minus-lts.Need-count-minus-requires (calls-count-minus t) (count-minus-at t) count-minus.Post
 count-minus-count-minus-requires t c κs =
-    let c₁ = c .before .before .before in
-    (let z = c .before .if1 .left in let y = c₁ .pre .0 in
-          omega arith, (row-rest _ _ _ _ _ _ (c .before .if1 .left) (c₁ .pre .1 .0) _
-            (c .next-at .ensures .0), let z = c₁ .pre .1 .1 in omega arith))
+    let c₁ = c .before .before .before in (
+      let z = c .before .if1 .left in let y = c₁ .pre .0 in
+          omega arith,
+      (
+        row-rest _ _ _ _ _ _ (c .before .if1 .left) (c₁ .pre .1 .0) _
+            (c .next-at .ensures .0),
+        let z = c₁ .pre .1 .1 in omega arith,
+      ),
+    )
 
 count-minus-tag-at-requires : (t : ℕ) → count-minus-lts.Need-tag-at-requires (calls-count-minus t) (count-minus-at t) count-minus.Post
 count-minus-tag-at-requires t c κs =
@@ -58,14 +63,14 @@ count-minus-returns-2 t c =
     let c₁ = c .before .before .before in
     let c₂ = c₁ .before in
     minus-yes _ _ _ _ _ _ (c₂ .if1 .left) _ (c₁ .next-at .ensures .0) _ (c .before .before .count-minus .ensures) _
-        (c .before .tag-at .ensures) (c .if2 .taken)
+    (c .before .tag-at .ensures) (c .if2 .taken)
 
 count-minus-returns-3 : (t : ℕ) → count-minus-lts.Need-returns-3 (calls-count-minus t) (count-minus-at t) count-minus.Post
 count-minus-returns-3 t c =
     let c₁ = c .before .before .before in
     let c₂ = c₁ .before in
     minus-no _ _ _ _ _ _ (c₂ .if1 .left) _ (c₁ .next-at .ensures .0) _ (c .before .before .count-minus .ensures) _
-        (c .before .tag-at .ensures) (c .if2 .left)
+    (c .before .tag-at .ensures) (c .if2 .left)
 
 pub +count-minus-spec : {M : Type 1} → statement M
 +count-minus-spec = close μ-count-minus λ t. count-minus-lts.spec (calls-count-minus t)

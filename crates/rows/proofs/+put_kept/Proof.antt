@@ -62,7 +62,7 @@ put-kept-returns-2 t c =
     let c₂ = c₁ .before .before in
     let c₃ = c₂ .before .before in
     kept-more _ _ _ _ _ (c₃ .pre .1 .long) _ _ (c₂ .if1 .left) (c₃ .pre .1 .few) _ (c₁ .wide16 .ensures .0) _ _ _ _
-        (c .before .before .copy-at .ensures) _ _ (c .put-kept .ensures)
+    (c .before .before .copy-at .ensures) _ _ (c .put-kept .ensures)
 
 pub +put-kept-spec : {M : Type 1} → statement M
 +put-kept-spec = close μ-put-kept λ t. put-kept-lts.spec (calls-put-kept t)

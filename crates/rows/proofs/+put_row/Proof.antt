@@ -42,16 +42,18 @@ put-row-sub-put-row t c = let z = c .before .before .before .if1 .left in omega 
 put-row-put-row-requires : (t : ℕ) → put-row-lts.Need-put-row-requires (calls-put-row t) (put-row-at t) put-row.Post
 put-row-put-row-requires t c κs =
     let c₁ = c .before .before .before .before in
-    let c₂ = c₁ .before .before in
-    (let z = c₁ .if1 .left in let y = c₂ .pre .0 in omega arith, row-rest _ _ _ _ _ _ (c₁ .if1 .left) (c₂ .pre .1) _
-          (c .before .next-at .ensures .0))
+    let c₂ = c₁ .before .before in (
+      let z = c₁ .if1 .left in let y = c₂ .pre .0 in omega arith,
+      row-rest _ _ _ _ _ _ (c₁ .if1 .left) (c₂ .pre .1) _
+          (c .before .next-at .ensures .0),
+    )
 
 put-row-returns-2 : (t : ℕ) → put-row-lts.Need-returns-2 (calls-put-row t) (put-row-at t) put-row.Post
 put-row-returns-2 t c =
     let c₁ = c .before .before .before in
     let c₂ = c₁ .before .before in
     row-more _ _ _ _ _ _ (c₂ .if1 .left) _ _ _ _ _ (c₁ .put-share .ensures) _
-        (c .before .before .next-at .ensures .0) _ _ (c .put-row .ensures)
+    (c .before .before .next-at .ensures .0) _ _ (c .put-row .ensures)
 
 pub +put-row-spec : {M : Type 1} → statement M
 +put-row-spec = close μ-put-row λ t. put-row-lts.spec (calls-put-row t)

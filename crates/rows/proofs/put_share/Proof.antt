@@ -1,7 +1,15 @@
 use Rattle.nav.proofs.PlaceTurns.{end-place}
 use mathlib.Core.List.{[]}
 use Rattle.rows.proofs.RowTurns.{
-  in-placed, besides-none, besides-some, left-in, right-in, minuend-left, minuend-whole, subtrahend-right, subtrahend-none
+  in-placed,
+  besides-none,
+  besides-some,
+  left-in,
+  right-in,
+  minuend-left,
+  minuend-whole,
+  subtrahend-right,
+  subtrahend-none,
 }
 use borrow.Author.Needs.{needs}
 use Rattle.rows.proofs.put_share.Statement.{statement}
@@ -35,7 +43,7 @@ returns-2 c =
     let c₁ = c .before .before .before in
     let c₂ = c₁ .before in
     minuend-left _ _ _ _ _ _ _ _ (c₁ .tag-at .ensures) _ _ _ (c₂ .enum-told .given .1)
-        (c .before .before .if2 .taken) (c .copy-at2 .ensures)
+    (c .before .before .if2 .taken) (c .copy-at2 .ensures)
 
 copy-at-requires-3 : tie.Need-copy-at-requires-3
 copy-at-requires-3 c κs = search needs
@@ -61,7 +69,7 @@ returns-3 c =
     let c₂ = c₁ .before in
     let c₃ = c₂ .before in
     subtrahend-right _ _ _ _ _ _ _ _ (c₂ .tag-at2 .ensures) _ _ _ (c₃ .enum-told2 .given .1) (c₁ .if3 .taken) _
-        (c .before .before .second-of .ensures) (c .copy-at4 .ensures)
+    (c .before .before .second-of .ensures) (c .copy-at4 .ensures)
 
 returns-4 : tie.Need-returns-4
 returns-4 c =
@@ -73,7 +81,7 @@ returns-5 c =
     let c₁ = c .before .before .before in
     let c₂ = c₁ .before in
     minuend-whole _ _ _ _ _ _ _ _ (c₁ .tag-at .ensures) _ _ _ (c₂ .enum-told .given .1)
-        (c .before .before .if2 .left) (c .copy-at3 .ensures)
+    (c .before .before .if2 .left) (c .copy-at3 .ensures)
 
 returns-6 : tie.Need-returns-6
 returns-6 c = subtrahend-none _ _ _ _ _ _ _ _ (c .before .tag-at2 .ensures) _ (c .before .before .enum-told2 .given .1) (c .if3 .left)

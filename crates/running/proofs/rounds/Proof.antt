@@ -21,7 +21,7 @@ slice-reshare-prefix-first-step c = let z = c .loop .inv .0 .fits in let y = c .
 
 slice-aggregate-first-step : tie.Need-slice-aggregate-first-step Inv-loop μ-loop
 slice-aggregate-first-step c = sym (length-take-le _ _ (let z = c .before .loop .inv .0 .fits in
-        let y = c .before .loop .inv .0 .long in omega arith))
+    let y = c .before .loop .inv .0 .long in omega arith))
 
 first-step-requires : tie.Need-first-step-requires Inv-loop μ-loop
 first-step-requires c κs = going-first _ _ _ (c .before .before .before .before .pre) _ _ _ _ _ (c .before .before .loop .inv .0)
@@ -40,7 +40,7 @@ returns c =
     let c₁ = c .before .before .before .before .before in
     let c₂ = c₁ .before .before in
     going-rests _ _ _ (c₂ .pre) _ _ _ _ _ (c₁ .loop .inv .0) (c₁ .loop .inv .1) _ _ (c .before .before .first-step .ensures)
-        (c .enum-told .given .1) _ refl refl
+    (c .enum-told .given .1) _ refl refl
 
 enum-known-next : tie.Need-enum-known-next Inv-loop μ-loop
 enum-known-next c = search needs
@@ -57,7 +57,7 @@ returns-2 c =
     let c₂ = c₁ .before .before .before in
     let c₃ = c₂ .before .before in
     going-spent _ _ _ (c₃ .pre) _ _ _ _ _ (c₂ .loop .inv .0) (c₂ .loop .inv .1) _ _ (c₁ .first-step .ensures) _
-        (c .before .before .next .given .1) (c .if1 .taken) _ refl refl
+    (c .before .before .next .given .1) (c .if1 .taken) _ refl refl
 
 same-length-3 : tie.Need-same-length-3 Inv-loop μ-loop
 same-length-3 c =
@@ -72,7 +72,7 @@ returns-3 c =
     let c₃ = c₂ .before .before .before in
     let c₄ = c₃ .before .before in
     going-full _ _ _ (c₄ .pre) _ _ _ _ _ (c₃ .loop .inv .0) (c₃ .loop .inv .1) _ _ (c₂ .first-step .ensures) _ (c₁ .next .given .1)
-        (c .before .if1 .left) (c .if2 .taken) _ refl refl
+    (c .before .if1 .left) (c .if2 .taken) _ refl refl
 
 slice-aggregate-copy-in : tie.Need-slice-aggregate-copy-in Inv-loop μ-loop
 slice-aggregate-copy-in c = search needs
@@ -85,7 +85,7 @@ copy-in-requires c κs =
     let c₄ = c₃ .before .before .before in
     let c₅ = c₄ .before .before in
     going-copy _ _ _ (c₅ .pre) _ _ _ _ _ (c₄ .loop .inv .0) (c₄ .loop .inv .1) _ _ (c₃ .first-step .ensures) _ (c₂ .next .given .1)
-        (c₁ .if1 .left) (c .before .before .if2 .left)
+    (c₁ .if1 .left) (c .before .before .if2 .left)
 
 sub-left : tie.Need-sub-left Inv-loop μ-loop
 sub-left c = let z = c .before .before .before .before .before .before .if1 .left in omega arith
@@ -107,9 +107,11 @@ loop-again c =
     let c₃ = c₂ .before .before in
     let c₄ = c₃ .before .before in
     let c₅ = c₄ .before .before .before in
-    let c₆ = c₅ .before .before in
-    (going-on _ _ _ (c₆ .pre) _ _ _ _ _ (c₅ .loop .inv .0) (c₅ .loop .inv .1) _ _ (c₄ .first-step .ensures) _ (c₃ .next .given .1)
-          (c₂ .if1 .left) (c₁ .if2 .left) _ (c .before .before .copy-in .ensures), λ i. c .slice-known2 .given i .fits)
+    let c₆ = c₅ .before .before in (
+      going-on _ _ _ (c₆ .pre) _ _ _ _ _ (c₅ .loop .inv .0) (c₅ .loop .inv .1) _ _ (c₄ .first-step .ensures) _ (c₃ .next .given .1)
+          (c₂ .if1 .left) (c₁ .if2 .left) _ (c .before .before .copy-in .ensures),
+      λ i. c .slice-known2 .given i .fits,
+    )
 
 pub rounds-spec : {M : Type 1} → statement M
 rounds-spec =

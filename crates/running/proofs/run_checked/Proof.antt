@@ -40,7 +40,7 @@ returns c =
     let c₃ = c₂ .before .before .before in
     let c₄ = c₃ .before in
     checked-done _ (λ i. c₃ .shared-slice-known .given i .fits) _ _ (c₄ .pre) _ _ refl (c₂ .copy-in .ensures) _ _ (c₁ .rounds .ensures) _
-        (c .before .before .copy-in2 .ensures)
+    (c .before .before .copy-in2 .ensures)
 
 pub run-checked-spec : {M : Type 1} → statement M
 run-checked-spec =

@@ -75,7 +75,7 @@ same-expr-same-kids-requires t c κs =
     let c₁ = c .before .before .before in
     let c₂ = c₁ .before .before in
     let r = node-both _ _ _ _ _ (c₁ .same-heads .ensures) _ _ _ _ _ (c .before .h .given .1) (c₂ .pre .1) in
-        (omega (arith, r .1, r .2), r .0)
+    (omega (arith, r .1, r .2), r .0)
 
 same-expr-returns : (t : ℕ) → same-expr-lts.Need-returns (calls-same-expr t) (same-expr-at t) same-expr.Post
 same-expr-returns t c = node-differ _ _ _ _ _ (c .before .before .same-heads .ensures) (c .enum-told .given .1)
@@ -92,7 +92,7 @@ same-kids-same-expr-requires : (t : ℕ) → same-kids-lts.Need-same-expr-requir
 same-kids-same-expr-requires t c κs =
     let c₁ = c .before .before .before in
     let r = kids-first _ _ (c₁ .args .first) (c₁ .args .later) _ _ (c .before .if1 .left) (c₁ .pre .1) in
-        (omega (arith, r .1), at-sort (c .if2 .taken) (r .0))
+    (omega (arith, r .1), at-sort (c .if2 .taken) (r .0))
 
 same-kids-enum-told : (t : ℕ) → same-kids-lts.Need-enum-told (calls-same-kids t) (same-kids-at t) same-kids.Post
 same-kids-enum-told t c = search needs
@@ -110,13 +110,13 @@ same-kids-same-kids-requires t c κs =
     let c₃ = c₂ .before in
     let c₄ = c₃ .before .before in
     let r = kids-rest _ _ (c₄ .args .first) (c₄ .args .later) _ _ (c₃ .if1 .left) _ (of-sort (c₂ .if2 .taken) (c₁ .same-expr .ensures)) _ _
-        (c .before .x .given .1) (c₄ .pre .1) in (omega (arith, r .1, r .2), r .0)
+    (c .before .x .given .1) (c₄ .pre .1) in (omega (arith, r .1, r .2), r .0)
 
 same-kids-same-pred-requires : (t : ℕ) → same-kids-lts.Need-same-pred-requires (calls-same-kids t) (same-kids-at t) same-kids.Post
 same-kids-same-pred-requires t c κs =
     let c₁ = c .before .before .before in
     let r = kids-first _ _ (c₁ .args .first) (c₁ .args .later) _ _ (c .before .if1 .left) (c₁ .pre .1) in
-        (omega (arith, r .1), at-sort (c .if2 .left) (r .0))
+    (omega (arith, r .1), at-sort (c .if2 .left) (r .0))
 
 same-kids-enum-told-2 : (t : ℕ) → same-kids-lts.Need-enum-told-2 (calls-same-kids t) (same-kids-at t) same-kids.Post
 same-kids-enum-told-2 t c = search needs
@@ -134,7 +134,7 @@ same-kids-same-kids-requires-2 t c κs =
     let c₃ = c₂ .before in
     let c₄ = c₃ .before .before in
     let r = kids-rest _ _ (c₄ .args .first) (c₄ .args .later) _ _ (c₃ .if1 .left) _ (of-sort (c₂ .if2 .left) (c₁ .same-pred .ensures)) _ _
-        (c .before .x2 .given .1) (c₄ .pre .1) in (omega (arith, r .1, r .2), r .0)
+    (c .before .x2 .given .1) (c₄ .pre .1) in (omega (arith, r .1, r .2), r .0)
 
 same-kids-returns-2 : (t : ℕ) → same-kids-lts.Need-returns-2 (calls-same-kids t) (same-kids-at t) same-kids.Post
 same-kids-returns-2 t c =
@@ -142,7 +142,7 @@ same-kids-returns-2 t c =
     let c₂ = c₁ .before in
     let c₃ = c₂ .before .before in
     kids-no _ _ (c₃ .args .first) (c₃ .args .later) _ _ (c₂ .if1 .left) _
-        (of-sort (c₁ .if2 .taken) (c .before .before .same-expr .ensures)) (c .enum-told .given .1)
+    (of-sort (c₁ .if2 .taken) (c .before .before .same-expr .ensures)) (c .enum-told .given .1)
 
 same-kids-returns-3 : (t : ℕ) → same-kids-lts.Need-returns-3 (calls-same-kids t) (same-kids-at t) same-kids.Post
 same-kids-returns-3 t c =
@@ -151,7 +151,7 @@ same-kids-returns-3 t c =
     let c₃ = c₂ .before in
     let c₄ = c₃ .before .before in
     kids-yes _ _ (c₄ .args .first) (c₄ .args .later) _ _ (c₃ .if1 .left) _ (of-sort (c₂ .if2 .taken) (c₁ .same-expr .ensures)) _ _
-        (c .before .before .x .given .1) _ (c .same-kids .ensures)
+    (c .before .before .x .given .1) _ (c .same-kids .ensures)
 
 same-kids-returns-4 : (t : ℕ) → same-kids-lts.Need-returns-4 (calls-same-kids t) (same-kids-at t) same-kids.Post
 same-kids-returns-4 t c =
@@ -159,7 +159,7 @@ same-kids-returns-4 t c =
     let c₂ = c₁ .before in
     let c₃ = c₂ .before .before in
     kids-no _ _ (c₃ .args .first) (c₃ .args .later) _ _ (c₂ .if1 .left) _ (of-sort (c₁ .if2 .left) (c .before .before .same-pred .ensures))
-        (c .enum-told2 .given .1)
+    (c .enum-told2 .given .1)
 
 same-kids-returns-5 : (t : ℕ) → same-kids-lts.Need-returns-5 (calls-same-kids t) (same-kids-at t) same-kids.Post
 same-kids-returns-5 t c =
@@ -168,7 +168,7 @@ same-kids-returns-5 t c =
     let c₃ = c₂ .before in
     let c₄ = c₃ .before .before in
     kids-yes _ _ (c₄ .args .first) (c₄ .args .later) _ _ (c₃ .if1 .left) _ (of-sort (c₂ .if2 .left) (c₁ .same-pred .ensures)) _ _
-        (c .before .before .x2 .given .1) _ (c .same-kids2 .ensures)
+    (c .before .before .x2 .given .1) _ (c .same-kids2 .ensures)
 
 same-pred-same-heads-requires : (t : ℕ) → same-pred-lts.Need-same-heads-requires (calls-same-pred t) (same-pred-at t) same-pred.Post
 same-pred-same-heads-requires t c κs = c .before .pre .1
@@ -184,7 +184,7 @@ same-pred-same-kids-requires t c κs =
     let c₁ = c .before .before .before in
     let c₂ = c₁ .before .before in
     let r = node-both _ _ _ _ _ (c₁ .same-heads .ensures) _ _ _ _ _ (c .before .h .given .1) (c₂ .pre .1) in
-        (omega (arith, r .1, r .2), r .0)
+    (omega (arith, r .1, r .2), r .0)
 
 same-pred-returns : (t : ℕ) → same-pred-lts.Need-returns (calls-same-pred t) (same-pred-at t) same-pred.Post
 same-pred-returns t c = node-differ _ _ _ _ _ (c .before .before .same-heads .ensures) (c .enum-told .given .1)

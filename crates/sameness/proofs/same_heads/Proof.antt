@@ -1,7 +1,16 @@
 use Rattle.octets.proofs.SameBytes.{parts}
 use native.Mathlib.Omega.{arith}
 use Rattle.sameness.proofs.SameTurns.{
-  left-stands, left-known, tags-first, tags-second, both-inside, heads-refused, heads-room, heads-short, heads-bytes, heads-agree
+  left-stands,
+  left-known,
+  tags-first,
+  tags-second,
+  both-inside,
+  heads-refused,
+  heads-room,
+  heads-short,
+  heads-bytes,
+  heads-agree,
 }
 use borrow.Author.Needs.{needs}
 use Rattle.sameness.proofs.same_heads.Statement.{statement}
@@ -45,28 +54,28 @@ sub-n c =
     let c₁ = c .before .before .before in
     let c₂ = c₁ .before .before .before .before .before .before .before .before in
     let z = heads-room _ _ _ _ _ (left-known _ _ _ _ (c₂ .pre) _ (c₁ .known-head .ensures)) _ _ _ _ _ _ _
-        (c .before .h2 .given .1) (c₂ .pre) in omega arith
+    (c .before .h2 .given .1) (c₂ .pre) in omega arith
 
 sub-if3 : tie.Need-sub-if3
 sub-if3 c =
     let c₁ = c .before .before .before in
     let c₂ = c₁ .before .before .before .before .before .before .before .before in
     let z = heads-room _ _ _ _ _ (left-known _ _ _ _ (c₂ .pre) _ (c₁ .known-head .ensures)) _ _ _ _ _ _ _
-        (c .before .h2 .given .1) (c₂ .pre) in omega arith
+    (c .before .h2 .given .1) (c₂ .pre) in omega arith
 
 returns-3 : tie.Need-returns-3
 returns-3 c =
     let c₁ = c .before .before .before .before in
     let c₂ = c₁ .before .before .before .before .before .before .before .before in
     heads-short _ _ _ _ _ (left-known _ _ _ _ (c₂ .pre) _ (c₁ .known-head .ensures)) _ _ _ _ _ _ _
-        (c .before .before .h2 .given .1) (c .if3 .taken)
+    (c .before .before .h2 .given .1) (c .if3 .taken)
 
 same-bytes-requires : tie.Need-same-bytes-requires
 same-bytes-requires c κs =
     let c₁ = c .before .before .before .before in
     let c₂ = c₁ .before .before .before .before .before .before .before .before in
     let z = heads-room _ _ _ _ _ (left-known _ _ _ _ (c₂ .pre) _ (c₁ .known-head .ensures)) _ _ _ _ _ _ _
-        (c .before .before .h2 .given .1) (c₂ .pre) in omega arith
+    (c .before .before .h2 .given .1) (c₂ .pre) in omega arith
 
 add-q : tie.Need-add-q
 add-q c =
@@ -74,7 +83,7 @@ add-q c =
     let c₂ = c₁ .before .before in
     let c₃ = c₂ .before .before .before .before .before .before .before .before in
     let z = heads-room _ _ _ _ _ (left-known _ _ _ _ (c₃ .pre) _ (c₂ .known-head .ensures)) _ _ _ _ _ _ _
-        (c₁ .h2 .given .1) (c₃ .pre) in omega arith
+    (c₁ .h2 .given .1) (c₃ .pre) in omega arith
 
 returns-4 : tie.Need-returns-4
 returns-4 c =
@@ -88,9 +97,9 @@ returns-5 c =
     let c₂ = c₁ .before .before in
     let c₃ = c₂ .before .before .before .before .before .before .before .before in
     heads-agree _ _ _ _ _ (left-known _ _ _ _ (c₃ .pre) _ (c₂ .known-head .ensures)) _ _ _ _ _ _ _ (c₁ .h2 .given .1) _
-        (let z = heads-room _ _ _ _ _ (left-known _ _ _ _ (c₃ .pre) _ (c₂ .known-head .ensures)) _ _ _ _ _ _ _ (c₁ .h2 .given .1)
-          (c₃ .pre) in parts _ _ _ _ (omega arith) (omega arith) _ (c .before .same-bytes .ensures)) (c .if4 .taken)
-        (c .before .before .if3 .left)
+    (let z = heads-room _ _ _ _ _ (left-known _ _ _ _ (c₃ .pre) _ (c₂ .known-head .ensures)) _ _ _ _ _ _ _ (c₁ .h2 .given .1)
+    (c₃ .pre) in parts _ _ _ _ (omega arith) (omega arith) _ (c .before .same-bytes .ensures)) (c .if4 .taken)
+    (c .before .before .if3 .left)
 
 returns-6 : tie.Need-returns-6
 returns-6 c =
@@ -98,8 +107,8 @@ returns-6 c =
     let c₂ = c₁ .before .before in
     let c₃ = c₂ .before .before .before .before .before .before .before .before in
     heads-bytes _ _ _ _ _ (left-known _ _ _ _ (c₃ .pre) _ (c₂ .known-head .ensures)) _ _ _ _ _ _ _ (c₁ .h2 .given .1) _
-        (let z = heads-room _ _ _ _ _ (left-known _ _ _ _ (c₃ .pre) _ (c₂ .known-head .ensures)) _ _ _ _ _ _ _ (c₁ .h2 .given .1)
-          (c₃ .pre) in parts _ _ _ _ (omega arith) (omega arith) _ (c .before .same-bytes .ensures)) (c .if4 .left)
+    (let z = heads-room _ _ _ _ _ (left-known _ _ _ _ (c₃ .pre) _ (c₂ .known-head .ensures)) _ _ _ _ _ _ _ (c₁ .h2 .given .1)
+    (c₃ .pre) in parts _ _ _ _ (omega arith) (omega arith) _ (c .before .same-bytes .ensures)) (c .if4 .left)
 
 pub same-heads-spec : {M : Type 1} → statement M
 same-heads-spec =

@@ -16,9 +16,11 @@ enum-known-answer-2 c = search needs
 binding-ok-requires : tie.Need-binding-ok-requires
 binding-ok-requires c κs =
     let c₁ = c .before .before .before .before .before .before in
-    let c₂ = c₁ .before in
-    (read-length _ (λ i. c₁ .shared-slice-known .given i .fits) _ (c₂ .pre .checks), refl,
-          (c₂ .pre .t, stands-at _ (λ i. c₁ .shared-slice-known .given i .fits) _ (c₂ .pre .checks)))
+    let c₂ = c₁ .before in (
+      read-length _ (λ i. c₁ .shared-slice-known .given i .fits) _ (c₂ .pre .checks),
+      refl,
+      (c₂ .pre .t, stands-at _ (λ i. c₁ .shared-slice-known .given i .fits) _ (c₂ .pre .checks)),
+    )
 
 nexts-requires : tie.Need-nexts-requires
 nexts-requires c κs =
@@ -26,8 +28,12 @@ nexts-requires c κs =
     let c₂ = c₁ .before .before in
     let c₃ = c₂ .before in
     let c₄ = c₃ .before in
-    record { t = c₄ .pre .t; framed = as-framed _ (λ i. c₃ .shared-slice-known .given i .fits) _ (c₄ .pre .checks) _
-          (sym (c₁ .answer2 .given .1) ∙ c₂ .read-again .ensures .0) _ (c₂ .read-again .ensures .1); long = refl }
+    record {
+      t = c₄ .pre .t;
+      framed = as-framed _ (λ i. c₃ .shared-slice-known .given i .fits) _ (c₄ .pre .checks) _
+          (sym (c₁ .answer2 .given .1) ∙ c₂ .read-again .ensures .0) _ (c₂ .read-again .ensures .1);
+      long = refl;
+    }
 
 search-requires : tie.Need-search-requires
 search-requires c κs =
@@ -37,11 +43,16 @@ search-requires c κs =
     let c₄ = c₃ .before .before in
     let c₅ = c₄ .before in
     let c₆ = c₅ .before in
-    record { t = c₆ .pre .t; table = c₁ .nexts .ensures .table (c₆ .pre .t)
+    record {
+      t = c₆ .pre .t;
+      table = c₁ .nexts .ensures .table (c₆ .pre .t)
           (as-framed _ (λ i. c₅ .shared-slice-known .given i .fits) _ (c₆ .pre .checks) _
-            (sym (c₃ .answer2 .given .1) ∙ c₄ .read-again .ensures .0) _ (c₄ .read-again .ensures .1)); held = as-held _
+          (sym (c₃ .answer2 .given .1) ∙ c₄ .read-again .ensures .0) _ (c₄ .read-again .ensures .1));
+      held = as-held _
           (λ i. c₅ .shared-slice-known .given i .fits) _ (c₆ .pre .checks) _ (sym (c₃ .answer2 .given .1) ∙ c₄ .read-again .ensures .0) _
-          (c₄ .read-again .ensures .1) _ _ _ (c₂ .binding-ok .ensures); room = c₆ .pre .room }
+          (c₄ .read-again .ensures .1) _ _ _ (c₂ .binding-ok .ensures);
+      room = c₆ .pre .room;
+    }
 
 returns : tie.Need-returns
 returns c =
@@ -49,7 +60,7 @@ returns c =
     let c₂ = c₁ .before in
     let c₃ = c₂ .before in
     first-refused _ (λ i. c₂ .shared-slice-known .given i .fits) _ (c₃ .pre .room) _
-        (sym (c .before .answer .given .1) ∙ c₁ .read-again .ensures .0)
+    (sym (c .before .answer .given .1) ∙ c₁ .read-again .ensures .0)
 
 returns-2 : tie.Need-returns-2
 returns-2 c =
@@ -59,7 +70,7 @@ returns-2 c =
     let c₄ = c₃ .before .before in
     let c₅ = c₄ .before in
     first-searched _ (λ i. c₅ .shared-slice-known .given i .fits) _ (sym (c₃ .answer2 .given .1) ∙ c₄ .read-again .ensures .0) _
-        (c₄ .read-again .ensures .1) _ _ _ (c₂ .binding-ok .ensures) _ (c₁ .nexts .ensures) _ _ (c .search .ensures)
+    (c₄ .read-again .ensures .1) _ _ _ (c₂ .binding-ok .ensures) _ (c₁ .nexts .ensures) _ _ (c .search .ensures)
 
 pub first-step-spec : {M : Type 1} → statement M
 first-step-spec =

@@ -32,7 +32,7 @@ splice-requires c κs =
     let c₄ = c₃ .before in
     let c₅ = c₄ .before .before in
     search-splice _ _ _ _ _ _ (pre-now _ _ _ _ _ _ _ (c₄ .loop .inv .1) (c₅ .pre)) _ (c₃ .loop-test .taken) _ _ (c₂ .decide-at .ensures)
-        (sym (c₁ .rests .ensures) ∙ not-true _ (c .before .before .if1 .taken))
+    (sym (c₁ .rests .ensures) ∙ not-true _ (c .before .before .if1 .taken))
 
 returns : tie.Need-returns Inv-loop μ-loop
 returns c =
@@ -43,7 +43,7 @@ returns c =
     let c₅ = c₄ .before in
     let c₆ = c₅ .before .before in
     search-writes _ _ _ _ _ _ (c₆ .pre) _ (c₄ .loop-test .taken) _ _ (c₃ .decide-at .ensures) _ (c₅ .loop .inv .0)
-        (sym (c₂ .rests .ensures) ∙ not-true _ (c₁ .if1 .taken)) _ _ (c .splice .ensures)
+    (sym (c₂ .rests .ensures) ∙ not-true _ (c₁ .if1 .taken)) _ _ (c .splice .ensures)
 
 add-k : tie.Need-add-k Inv-loop μ-loop
 add-k c = let z = c .before .before .before .before .loop-test .taken in omega arith
@@ -55,9 +55,11 @@ loop-again : tie.Need-loop-again Inv-loop μ-loop
 loop-again c =
     let c₁ = c .before .before .before .before in
     let c₂ = c₁ .before in
-    let c₃ = c₂ .before .before in
-    (search-next _ _ _ _ _ _ (c₃ .pre) _ (c₁ .loop-test .taken) _ _ (c .before .before .decide-at .ensures) _ (c₂ .loop .inv .0)
-          (sym (c .before .rests .ensures) ∙ not-false _ (c .if1 .left)), c₂ .loop .inv .1)
+    let c₃ = c₂ .before .before in (
+      search-next _ _ _ _ _ _ (c₃ .pre) _ (c₁ .loop-test .taken) _ _ (c .before .before .decide-at .ensures) _ (c₂ .loop .inv .0)
+          (sym (c .before .rests .ensures) ∙ not-false _ (c .if1 .left)),
+      c₂ .loop .inv .1,
+    )
 
 returns-2 : tie.Need-returns-2 Inv-loop μ-loop
 returns-2 c = search-rests _ _ _ _ _ _ (pre-now _ _ _ _ _ _ _ (c .before .loop .inv .1) (c .before .before .before .pre)) _ _

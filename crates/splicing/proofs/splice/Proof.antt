@@ -30,7 +30,7 @@ returns c =
     let c₃ = c₂ .before in
     let c₄ = c₃ .before .before in
     splice-done _ _ _ _ _ _ _ _ _ (c₄ .pre) _ (c₃ .start-at .ensures .0) _ (c₂ .end-at .ensures) _ _ (c₁ .put-copy .ensures) _ _
-        (c .before .before .build .ensures) _ _ (c .put-copy2 .ensures)
+    (c .before .before .build .ensures) _ _ (c .put-copy2 .ensures)
 
 pub splice-spec : {M : Type 1} → statement M
 splice-spec =

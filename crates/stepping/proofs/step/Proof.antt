@@ -19,12 +19,15 @@ step-read-requires c κs =
     let c₁ = c .before .before .before .before in
     let c₂ = c₁ .before .before in
     let c₃ = c₂ .before .before in
-    record { was = read-pre _ (λ i. c₃ .shared-slice-known .given i .fits) _
-          (sym (c₁ .answer2 .given .1) ∙ c₂ .read .ensures .0); starts = c₂ .read .ensures .1 }
+    record {
+      was = read-pre _ (λ i. c₃ .shared-slice-known .given i .fits) _
+          (sym (c₁ .answer2 .given .1) ∙ c₂ .read .ensures .0);
+      starts = c₂ .read .ensures .1;
+    }
 
 returns : tie.Need-returns
 returns c = let z = step-refused _ _ _ _ (refused-read _ _
-      (sym (c .before .answer .given .1) ∙ c .before .before .before .read .ensures .0)) in (z .answer, z .output)
+    (sym (c .before .answer .given .1) ∙ c .before .before .before .read .ensures .0)) in (z .answer, z .output)
 
 same-length : tie.Need-same-length
 same-length c = search needs

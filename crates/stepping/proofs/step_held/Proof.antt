@@ -1,6 +1,14 @@
 use mathlib.Core.List.{[]}
 use Rattle.stepping.proofs.Turns.{
-  held-none, held-placed, held-expression, held-nexts, held-decide, held-rests, held-splice, held-out, held-done
+  held-none,
+  held-placed,
+  held-expression,
+  held-nexts,
+  held-decide,
+  held-rests,
+  held-splice,
+  held-out,
+  held-done,
 }
 use mathlib.Core.Path.{refl}
 use borrow.Author.Needs.{needs}
@@ -31,7 +39,7 @@ decide-requires c κs =
     let c₃ = c₂ .before in
     let c₄ = c₃ .before .before .before in
     held-decide _ _ _ _ (c₄ .pre) _ [] (c₃ .if1 .left) _ (c₂ .is-expression-at .ensures) (c₁ .if2 .left) _
-        (c .before .before .nexts .ensures) _ refl
+    (c .before .before .nexts .ensures) _ refl
 
 rests-requires : tie.Need-rests-requires
 rests-requires c κs = search needs
@@ -44,7 +52,7 @@ returns-3 c =
     let c₄ = c₃ .before in
     let c₅ = c₄ .before .before .before in
     held-rests _ _ _ _ (c₅ .pre) _ _ (c₄ .if1 .left) _ (c₃ .is-expression-at .ensures) (c₂ .if2 .left) _ (c₁ .nexts .ensures) _ _
-        (c .before .before .decide .ensures) _ (c .before .rests .ensures) (c .if3 .taken)
+    (c .before .before .decide .ensures) _ (c .before .rests .ensures) (c .if3 .taken)
 
 splice-requires : tie.Need-splice-requires
 splice-requires c κs =
@@ -55,7 +63,7 @@ splice-requires c κs =
     let c₅ = c₄ .before in
     let c₆ = c₅ .before .before .before in
     held-splice _ _ _ _ (c₆ .pre) _ [] (c₅ .if1 .left) _ (c₄ .is-expression-at .ensures) (c₃ .if2 .left) _ (c₂ .nexts .ensures) _ _
-        (c₁ .decide .ensures) _ refl
+    (c₁ .decide .ensures) _ refl
 
 write-out-requires : tie.Need-write-out-requires
 write-out-requires c κs =
@@ -68,7 +76,7 @@ write-out-requires c κs =
     let c₇ = c₆ .before in
     let c₈ = c₇ .before .before .before in
     held-out _ _ _ _ (c₈ .pre) _ [] (c₇ .if1 .left) _ (c₆ .is-expression-at .ensures) (c₅ .if2 .left) _ (c₄ .nexts .ensures) _ _
-        (c₃ .decide .ensures) _ (c₂ .rests .ensures) (c₁ .if3 .left) _ _ (c .before .before .splice .ensures)
+    (c₃ .decide .ensures) _ (c₂ .rests .ensures) (c₁ .if3 .left) _ _ (c .before .before .splice .ensures)
 
 same-length : tie.Need-same-length
 same-length c = search needs
@@ -85,7 +93,7 @@ returns-4 c =
     let c₈ = c₇ .before in
     let c₉ = c₈ .before .before .before in
     held-done _ _ _ _ (c₉ .pre) _ _ (c₈ .if1 .left) _ (c₇ .is-expression-at .ensures) (c₆ .if2 .left) _ (c₅ .nexts .ensures) _ _
-        (c₄ .decide .ensures) _ (c₃ .rests .ensures) (c₂ .if3 .left) _ _ (c₁ .splice .ensures) _ _ (c .before .before .write-out .ensures)
+    (c₄ .decide .ensures) _ (c₃ .rests .ensures) (c₂ .if3 .left) _ _ (c₁ .splice .ensures) _ _ (c .before .before .write-out .ensures)
 
 pub step-held-spec : {M : Type 1} → statement M
 step-held-spec =

@@ -26,8 +26,12 @@ same-length : tie.Need-same-length Inv-loop μ-loop
 same-length c = c .before .before .loop .inv .3
 
 returns : tie.Need-returns Inv-loop μ-loop
-returns c = record { fed = c .before .before .loop .inv .0; some = λ r l. omega (arith, r); within = c .before .before .loop .inv .1;
-      room = c .before .before .loop .inv .2 }
+returns c = record {
+  fed = c .before .before .loop .inv .0;
+  some = λ r l. omega (arith, r);
+  within = c .before .before .loop .inv .1;
+  room = c .before .before .loop .inv .2;
+}
 
 end-of-line-requires : tie.Need-end-of-line-requires Inv-loop μ-loop
 end-of-line-requires c κs = omega arith
@@ -51,8 +55,13 @@ returns-2 : tie.Need-returns-2 Inv-loop μ-loop
 returns-2 c =
     let c₁ = c .before .before .before .before in
     let c₂ = c₁ .before .before .before in
-    record { fed = fed-part _ _ _ _ _ _ (c₁ .end-of-line .ensures) _ _ _ _ (c₂ .loop .inv .0) _ _
-          (c .before .line-piece .ensures); some = λ r l. omega arith; within = c₁ .end-of-line .ensures .within; room = c₂ .loop .inv .2 }
+    record {
+      fed = fed-part _ _ _ _ _ _ (c₁ .end-of-line .ensures) _ _ _ _ (c₂ .loop .inv .0) _ _
+          (c .before .line-piece .ensures);
+      some = λ r l. omega arith;
+      within = c₁ .end-of-line .ensures .within;
+      room = c₂ .loop .inv .2;
+    }
 
 put-line-requires : tie.Need-put-line-requires Inv-loop μ-loop
 put-line-requires c κs = omega arith
@@ -72,11 +81,15 @@ loop-again c =
     let c₂ = c₁ .before .before .before in
     let c₃ = c₂ .before in
     let c₄ = c₃ .before .before .before in
-    let c₅ = c₄ .before .before .before in
-    (fed-end _ _ _ _ _ _ (c₄ .end-of-line .ensures) (c₂ .if2 .left) _ _ _ _
+    let c₅ = c₄ .before .before .before in (
+      fed-end _ _ _ _ _ _ (c₄ .end-of-line .ensures) (c₂ .if2 .left) _ _ _ _
           (fed-part _ _ _ _ _ _ (c₄ .end-of-line .ensures) _ _ _ _ (c₅ .loop .inv .0) _ _ (c₃ .line-piece .ensures)) _ _
-          (c₁ .put-line .ensures) _ (c .line-start .ensures), omega arith, omega (arith, c₁ .put-line .ensures .room), omega arith,
-          omega (arith, c₁ .put-line .ensures .room, c₄ .end-of-line .ensures .from))
+          (c₁ .put-line .ensures) _ (c .line-start .ensures),
+      omega arith,
+      omega (arith, c₁ .put-line .ensures .room),
+      omega arith,
+      omega (arith, c₁ .put-line .ensures .room, c₄ .end-of-line .ensures .from),
+    )
 
 same-length-3 : tie.Need-same-length-3 Inv-loop μ-loop
 same-length-3 c = c .before .loop .inv .3

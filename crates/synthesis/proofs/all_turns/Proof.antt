@@ -14,7 +14,7 @@ judge-types-requires c κs =
     let c₁ = c .before .before .before in
     let c₂ = c₁ .before .before .before .before in
     leaf-judge (c₂ .args .first) (c₂ .args .s .now) (c₂ .args .leaves .now) (c₂ .args .types .now) (c₂ .args .start) (c₂ .pre)
-        (c₁ .if1 .taken) _ (c .wide32 .ensures .0)
+    (c₁ .if1 .taken) _ (c .wide32 .ensures .0)
 
 same-length : tie.Need-same-length
 same-length c = search needs
@@ -26,8 +26,8 @@ returns c =
     let c₃ = c₂ .before in
     let c₄ = c₃ .before .before .before .before in
     leaf-turns (c₄ .args .first) (c₄ .args .s .now) (c₄ .args .leaves .now) (c₄ .args .types .now) (c₄ .args .start) (c₄ .pre)
-        (c₃ .if1 .taken) _ (λ i. c .slice-known2 .given i .fits) _ _ _ (c₂ .wide16 .ensures .0) (c₁ .wide32 .ensures .0)
-        (c .before .before .judge-types .ensures)
+    (c₃ .if1 .taken) _ (λ i. c .slice-known2 .given i .fits) _ _ _ (c₂ .wide16 .ensures .0) (c₁ .wide32 .ensures .0)
+    (c .before .before .judge-types .ensures)
 
 lent-turns-requires : tie.Need-lent-turns-requires
 lent-turns-requires c κs = search needs

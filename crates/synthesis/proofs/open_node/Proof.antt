@@ -21,8 +21,8 @@ own-type-requires c κs =
     let c₂ = c₁ .before .before in
     let c₃ = c₂ .before in
     open-own (c₃ .args .s .now) (λ i. c₂ .shared-slice-known .given i .fits) (c₃ .args .at) (c₃ .args .leaf) [] [] [] 0
-        (c₃ .args .types .now) (c₃ .args .end) (c₁ .known-head .result) (c₁ .known-head .ensures)
-        (c .before .before .h2 .given .0 .0) _ _ _ _ _ _ (c .before .before .h2 .given .1) (c₃ .pre)
+    (c₃ .args .types .now) (c₃ .args .end) (c₁ .known-head .result) (c₁ .known-head .ensures)
+    (c .before .before .h2 .given .0 .0) _ _ _ _ _ _ (c .before .before .h2 .given .1) (c₃ .pre)
 
 enum-told : tie.Need-enum-told
 enum-told c = search needs
@@ -37,8 +37,8 @@ cast-t18 c =
     let c₃ = c₂ .before .before in
     let c₄ = c₃ .before in
     let z = open-small (c₄ .args .s .now) (λ i. c₃ .shared-slice-known .given i .fits) (c₄ .args .at) (c₄ .args .leaf) [] [] [] 0
-        (c₄ .args .types .now) (c₄ .args .end) (c₂ .known-head .result) (c₂ .known-head .ensures) (c₁ .h2 .given .0 .0) _ _ _ _ _ _
-        (c₁ .h2 .given .1) (c₄ .pre) in omega (arith, z .0)
+    (c₄ .args .types .now) (c₄ .args .end) (c₂ .known-head .result) (c₂ .known-head .ensures) (c₁ .h2 .given .0 .0) _ _ _ _ _ _
+    (c₁ .h2 .given .1) (c₄ .pre) in omega (arith, z .0)
 
 cast-t19 : tie.Need-cast-t19
 cast-t19 c =
@@ -47,8 +47,8 @@ cast-t19 c =
     let c₃ = c₂ .before .before in
     let c₄ = c₃ .before in
     let z = open-small (c₄ .args .s .now) (λ i. c₃ .shared-slice-known .given i .fits) (c₄ .args .at) (c₄ .args .leaf) [] [] [] 0
-        (c₄ .args .types .now) (c₄ .args .end) (c₂ .known-head .result) (c₂ .known-head .ensures) (c₁ .h2 .given .0 .0) _ _ _ _ _ _
-        (c₁ .h2 .given .1) (c₄ .pre) in omega (arith, z .1)
+    (c₄ .args .types .now) (c₄ .args .end) (c₂ .known-head .result) (c₂ .known-head .ensures) (c₁ .h2 .given .0 .0) _ _ _ _ _ _
+    (c₁ .h2 .given .1) (c₄ .pre) in omega (arith, z .1)
 
 cast-t20 : tie.Need-cast-t20
 cast-t20 c =
@@ -57,17 +57,19 @@ cast-t20 c =
     let c₃ = c₂ .before .before in
     let c₄ = c₃ .before in
     let z = open-small (c₄ .args .s .now) (λ i. c₃ .shared-slice-known .given i .fits) (c₄ .args .at) (c₄ .args .leaf) [] [] [] 0
-        (c₄ .args .types .now) (c₄ .args .end) (c₂ .known-head .result) (c₂ .known-head .ensures) (c₁ .h2 .given .0 .0) _ _ _ _ _ _
-        (c₁ .h2 .given .1) (c₄ .pre) in omega (arith, z .2)
+    (c₄ .args .types .now) (c₄ .args .end) (c₂ .known-head .result) (c₂ .known-head .ensures) (c₁ .h2 .given .0 .0) _ _ _ _ _ _
+    (c₁ .h2 .given .1) (c₄ .pre) in omega (arith, z .2)
 
 returns : tie.Need-returns
 returns c =
     let c₁ = c .before .before .before in
     let c₂ = c₁ .before .before in
     let c₃ = c₂ .before in
-    record { opens = λ t l f top. open-refused (c₃ .args .s .now) (λ i. c₂ .shared-slice-known .given i .fits) (c₃ .args .at)
+    record {
+      opens = λ t l f top. open-refused (c₃ .args .s .now) (λ i. c₂ .shared-slice-known .given i .fits) (c₃ .args .at)
           (c₃ .args .leaf) t l f top (c₃ .args .types .now) (c₃ .args .end) (c₁ .known-head .result) (c₁ .known-head .ensures) _
-          (c .before .h .given .1) _ _ _ _ }
+          (c .before .h .given .1) _ _ _ _;
+    }
 
 same-length : tie.Need-same-length
 same-length c = search needs
@@ -79,10 +81,12 @@ returns-2 c =
     let c₃ = c₂ .before .before in
     let c₄ = c₃ .before .before in
     let c₅ = c₄ .before in
-    record { opens = λ t l f top. open-bad (c₅ .args .s .now) (λ i. c₄ .shared-slice-known .given i .fits) (c₅ .args .at)
+    record {
+      opens = λ t l f top. open-bad (c₅ .args .s .now) (λ i. c₄ .shared-slice-known .given i .fits) (c₅ .args .at)
           (c₅ .args .leaf) t l f top (c₅ .args .types .now) (c₅ .args .end) (c₃ .known-head .result) (c₃ .known-head .ensures)
           (c₂ .h2 .given .0 .0) _ _ _ _ _ _ (c₂ .h2 .given .1) _ (c₁ .own-type .result) (c₁ .own-type .ensures)
-          (c .enum-told .given .1) _ _ _ }
+          (c .enum-told .given .1) _ _ _;
+    }
 
 same-length-2 : tie.Need-same-length-2
 same-length-2 c = search needs
@@ -94,10 +98,12 @@ returns-3 c =
     let c₃ = c₂ .before .before in
     let c₄ = c₃ .before .before in
     let c₅ = c₄ .before in
-    record { opens = λ t l f top. open-to (c₅ .args .s .now) (λ i. c₄ .shared-slice-known .given i .fits) (c₅ .args .at)
+    record {
+      opens = λ t l f top. open-to (c₅ .args .s .now) (λ i. c₄ .shared-slice-known .given i .fits) (c₅ .args .at)
           (c₅ .args .leaf) t l f top (c₅ .args .types .now) (c₅ .args .end) (c₃ .known-head .result) (c₃ .known-head .ensures)
           (c₂ .h2 .given .0 .0) _ _ _ _ _ _ (c₂ .h2 .given .1) _ (c₁ .own-type .result) (c₁ .own-type .ensures) _
-          (c .before .own .given .1) _ _ _ _ refl refl refl }
+          (c .before .own .given .1) _ _ _ _ refl refl refl;
+    }
 
 pub open-node-spec : {M : Type 1} → statement M
 open-node-spec =

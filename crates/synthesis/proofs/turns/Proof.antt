@@ -48,14 +48,26 @@ use Rattle.synthesis.proofs.turns.Proof.Walk.{walk}
 
 module _ {M : Type 1} (𝓤 : URA M) (H : Heap 𝓤) (A : Atoms 𝓤) (W : Given 𝓤 H A) (mem : Memory → SProp 𝓤) (run : Routine → Fun 𝓤) (𝓣 : Tables 𝓤 H)
     (known : Triple 𝓤 (𝓣 .C #one-turn) (Turn 𝓤 H A mem run)) (known-push : Triple 𝓤 (𝓣 .C #push) (Push 𝓤 H A mem run))
-        (known-pop : Triple 𝓤 (𝓣 .C #pop) (Pop 𝓤 H A mem run)) where
+    (known-pop : Triple 𝓤 (𝓣 .C #pop) (Pop 𝓤 H A mem run)) where
   turns-walks : Walks 𝓤 H A turns.ended stayed (WpFn 𝓤 H (𝓣 .C) (𝓣 .Λ) code.function) (turns.clauses 𝓤 H A mem run)
   turns-walks = walked 𝓤 H A turns.ended stayed (turns.clauses 𝓤 H A mem run) (WpFn 𝓤 H (𝓣 .C) (𝓣 .Λ) code.function)
       (λ κs. (slice-vals, (ptr-vals, (slice-vals, (slice-vals, (LL.vals TO.the-type TO′.the-laws, (LL.vals TS.the-type TS′.the-laws, tt)))))))
-      (λ κs. (shr-slice-tells (named 0) (κs .0) u8, (shr-tells (named 1) (κs .1 .0) (Array u16 tt 2048),
-                (mut-slice-tells (named 2) (κs .1 .1 .0) TO.the-row,
-                  (mut-slice-tells (named 3) (κs .1 .1 .1 .0) u8, (LL.tells TO.the-type TO′.the-laws,
-                    (LL.tells TS.the-type TS′.the-laws, tt)))))))
+      (λ κs. (
+        shr-slice-tells (named 0) (κs .0) u8,
+        (
+          shr-tells (named 1) (κs .1 .0) (Array u16 tt 2048),
+          (
+            mut-slice-tells (named 2) (κs .1 .1 .0) TO.the-row,
+            (
+              mut-slice-tells (named 3) (κs .1 .1 .1 .0) u8,
+              (
+                LL.tells TO.the-type TO′.the-laws,
+                (LL.tells TS.the-type TS′.the-laws, tt),
+              ),
+            ),
+          ),
+        ),
+      ))
       (λ κs qs bounds a g are.
       let k = a .1 .1 .0 in
       let y = a .1 .1 .1 .0 in
@@ -63,18 +75,27 @@ module _ {M : Type 1} (𝓤 : URA M) (H : Heap 𝓤) (A : Atoms 𝓤) (W : Given
       let st = a .1 .1 .1 .1 .1 .0 in
       needs 𝓤 (TurnsPre nd (a .0 .now) (a .1 .0 .now) (y .now) st × (length (k .now) ≡ 2048)) _ (λ h.
       walk 𝓤 H A W mem run (κs .0) (κs .1 .0) (κs .1 .1 .0) (κs .1 .1 .1 .0) (qs .0) (qs .1 .0) (qs .1 .1 .0) (qs .1 .1 .1 .0) (a .0)
-          (a .1 .0) (k .ptr .0) (k .ptr .1) (k .name) (k .now) (y .ptr .0) (y .ptr .1) (y .name) (y .now) nd st
+      (a .1 .0) (k .ptr .0) (k .ptr .1) (k .name) (k .now) (y .ptr .0) (y .ptr .1) (y .name) (y .now) nd st
       𝓣 known known-push known-pop (h .0) (h .1) (are .0 .0 .1) (are .1 .1 .0 .0 .1) (are .1 .1 .1 .0 .0 .1) (are .1 .1 .1 .1 .0)
-          (are .1 .1 .1 .1 .1 .0)))
+      (are .1 .1 .1 .1 .1 .0)))
 
   turns-meets : Meets 𝓤 H A turns.signature (WpFn 𝓤 H (𝓣 .C) (𝓣 .Λ) code.function) (turns.spec 𝓤 H A mem run)
   turns-meets =
       walk-meets 𝓤 H A turns.ended stayed W (
         goes-none-slice 𝓤 H A W 4 (0 ∷ []) tt (plain (λ _. u8)) yes,
-        (goes-none-ref 𝓤 H A W 4 (1 ∷ []) tt (ArrayOf (plain (λ _. u16)) (λ _. tt) 2048) yes,
-              (goes-slice 𝓤 H A W 4 2 tt (plain (λ _. TO.the-row)),
-                (goes-slice 𝓤 H A W 4 3 tt (plain (λ _. u8)), (goes-none 𝓤 H A W 4 (λ _. TO.the-row) yes (λ κs x f. refl),
-                    (goes-none 𝓤 H A W 4 (λ _. TS.the-row) yes (λ κs x f. refl), tt))))),
+        (
+          goes-none-ref 𝓤 H A W 4 (1 ∷ []) tt (ArrayOf (plain (λ _. u16)) (λ _. tt) 2048) yes,
+          (
+            goes-slice 𝓤 H A W 4 2 tt (plain (λ _. TO.the-row)),
+            (
+              goes-slice 𝓤 H A W 4 3 tt (plain (λ _. u8)),
+              (
+                goes-none 𝓤 H A W 4 (λ _. TO.the-row) yes (λ κs x f. refl),
+                (goes-none 𝓤 H A W 4 (λ _. TS.the-row) yes (λ κs x f. refl), tt),
+              ),
+            ),
+          ),
+        ),
       ) (turns.clauses 𝓤 H A mem run)
       (WpFn 𝓤 H (𝓣 .C) (𝓣 .Λ) code.function) (WpFn-mono 𝓤 H (W .laws) 𝓣 code.function) turns-walks
 
@@ -85,6 +106,6 @@ turns-spec 𝓤 H 𝓜 𝓖 𝓡 =
     (tables 𝓤 H 𝓜 𝓡 code.env .C) (tables 𝓤 H 𝓜 𝓡 code.env .Λ) #turns code.function (code.unfolded 𝓤 H 𝓜 𝓡)
     (turns-meets 𝓤 H (𝓖 .A) (givenOf 𝓤 H 𝓜 𝓖) (𝓜 .mem) (𝓡 .run) (tablesOf 𝓤 H 𝓜 (tables 𝓤 H 𝓜 𝓡 code.env))
     (cited 𝓤 H (Turn 𝓤 H (𝓖 .A) (𝓜 .mem) (𝓡 .run)) 𝓜 𝓡 code.env #one-turn one-turn-def.routine code.calls-synthesis·one-turn
-          (one-turn-thm.met 𝓤 H 𝓜 𝓖 𝓡))
+    (one-turn-thm.met 𝓤 H 𝓜 𝓖 𝓡))
     (cited 𝓤 H (Push 𝓤 H (𝓖 .A) (𝓜 .mem) (𝓡 .run)) 𝓜 𝓡 code.env #push push-def.routine code.calls-synthesis·stack·push (push-thm.met 𝓤 H 𝓜 𝓖 𝓡))
     (cited 𝓤 H (Pop 𝓤 H (𝓖 .A) (𝓜 .mem) (𝓡 .run)) 𝓜 𝓡 code.env #pop pop-def.routine code.calls-synthesis·stack·pop (pop-thm.met 𝓤 H 𝓜 𝓖 𝓡)))

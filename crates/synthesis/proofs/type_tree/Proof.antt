@@ -34,7 +34,7 @@ returns c =
     let c₂ = c₁ .before .before in
     let c₃ = c₂ .before .before .before .before in
     tree-bad (c₃ .args .s .now) (c₃ .args .at) (c₃ .args .place) (c₃ .args .leaves .now) (c₃ .args .types .now) _ (c₂ .wide16 .ensures .0) _
-        (c₁ .open-node .result) (c₁ .open-node .ensures) (c .enum-told .given .1)
+    (c₁ .open-node .result) (c₁ .open-node .ensures) (c .enum-told .given .1)
 
 add-t12 : tie.Need-add-t12
 add-t12 c = search needs
@@ -45,8 +45,8 @@ all-turns-requires c κs =
     let c₂ = c₁ .before .before in
     let c₃ = c₂ .before .before .before .before in
     tree-turns (c₃ .args .s .now) (c₃ .args .at) (c₃ .args .place) (c₃ .args .leaves .now) (c₃ .args .types .now) _
-        (c₂ .wide16 .ensures .0) _ (c₁ .open-node .result) (c₁ .open-node .ensures) (c₃ .pre .frame) _ _ _
-        (c .before .before .o .given .1) (c₃ .pre)
+    (c₂ .wide16 .ensures .0) _ (c₁ .open-node .result) (c₁ .open-node .ensures) (c₃ .pre .frame) _ _ _
+    (c .before .before .o .given .1) (c₃ .pre)
 
 same-length-2 : tie.Need-same-length-2
 same-length-2 c = search needs
@@ -58,8 +58,8 @@ returns-2 c =
     let c₃ = c₂ .before .before in
     let c₄ = c₃ .before .before .before .before in
     tree-ends (c₄ .args .s .now) (c₄ .args .at) (c₄ .args .place) (c₄ .args .leaves .now) (c₄ .args .types .now) _
-        (c₃ .wide16 .ensures .0) _ (c₂ .open-node .result) (c₂ .open-node .ensures) (c₄ .pre .frame) _ _ _ (c₁ .o .given .1) _ _
-        (omega arith) (c .before .before .all-turns .ensures)
+    (c₃ .wide16 .ensures .0) _ (c₂ .open-node .result) (c₂ .open-node .ensures) (c₄ .pre .frame) _ _ _ (c₁ .o .given .1) _ _
+    (omega arith) (c .before .before .all-turns .ensures)
 
 pub type-tree-spec : {M : Type 1} → statement M
 type-tree-spec =

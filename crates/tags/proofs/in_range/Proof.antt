@@ -22,7 +22,7 @@ returns-2 c =
     let c₁ = c .before .before .before in
     let c₂ = c₁ .before in
     sym (range-low (layoutAt (c₂ .args .form)) (c₂ .args .x) (omega (arith, c₁ .layout-of .ensures))
-          (omega (arith, c .before .low-of .ensures)))
+    (omega (arith, c .before .low-of .ensures)))
 
 high-of-requires : tie.Need-high-of-requires
 high-of-requires c κs = search needs
@@ -32,8 +32,8 @@ returns-3 c =
     let c₁ = c .before .before .before .before in
     let c₂ = c₁ .before in
     ap (λ (i : ℕ). leb (c₂ .args .x) i) (c .high-of .ensures) ∙ sym
-        (range-high (layoutAt (c₂ .args .form)) (c₂ .args .x) (omega (arith, c₁ .layout-of .ensures))
-          (omega (arith, c .before .before .low-of .ensures)))
+    (range-high (layoutAt (c₂ .args .form)) (c₂ .args .x) (omega (arith, c₁ .layout-of .ensures))
+    (omega (arith, c .before .before .low-of .ensures)))
 
 pub in-range-spec : {M : Type 1} → statement M
 in-range-spec =

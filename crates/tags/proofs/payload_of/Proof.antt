@@ -14,7 +14,7 @@ returns c = sym (payload-own (layoutAt (c .before .before .args .form)) (c .befo
 
 returns-2 : tie.Need-returns-2
 returns-2 c = sym (payload-none (layoutAt (c .before .before .args .form)) (c .before .before .args .x)
-      (λ z. c .if1 .left (c .before .layout-of .ensures ∙ z)))
+    (λ z. c .if1 .left (c .before .layout-of .ensures ∙ z)))
 
 pub payload-of-spec : {M : Type 1} → statement M
 payload-of-spec = tie.close (tie.spec layout-of-requires returns returns-2)

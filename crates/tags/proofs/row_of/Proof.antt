@@ -21,7 +21,7 @@ returns-2 : tie.Need-returns-2
 returns-2 c =
     let c₁ = c .before .before .before in
     row-none (c₁ .args .tag) (c .before .before .if1 .left) _
-        (ap (λ (w : ℕ). w / 2 ^ (16 * (c₁ .args .tag / 50 % 4)) % 65536) (c .before .block-word .ensures)) (c .if2 .taken)
+    (ap (λ (w : ℕ). w / 2 ^ (16 * (c₁ .args .tag / 50 % 4)) % 65536) (c .before .block-word .ensures)) (c .if2 .taken)
 
 add-result : tie.Need-add-result
 add-result c = search needs
@@ -30,7 +30,7 @@ returns-3 : tie.Need-returns-3
 returns-3 c =
     let c₁ = c .before .before .before in
     row-some (c₁ .args .tag) (c .before .before .if1 .left) _
-        (ap (λ (w : ℕ). w / 2 ^ (16 * (c₁ .args .tag / 50 % 4)) % 65536) (c .before .block-word .ensures)) (c .if2 .left)
+    (ap (λ (w : ℕ). w / 2 ^ (16 * (c₁ .args .tag / 50 % 4)) % 65536) (c .before .block-word .ensures)) (c .if2 .left)
 
 pub row-of-spec : {M : Type 1} → statement M
 row-of-spec =

@@ -28,8 +28,11 @@ loop-less : tie.Need-loop-less Inv-loop μ-loop
 loop-less c = omega arith
 
 loop-again : tie.Need-loop-again Inv-loop μ-loop
-loop-again c = (omega arith, length-set (c .before .before .loop .out) (c .before .before .loop .i)
-      (c .pattern .result) ∙ c .before .before .loop .inv .1)
+loop-again c = (
+  omega arith,
+  length-set (c .before .before .loop .out) (c .before .before .loop .i)
+      (c .pattern .result) ∙ c .before .before .loop .inv .1,
+)
 
 same-length : tie.Need-same-length Inv-loop μ-loop
 same-length c = omega arith

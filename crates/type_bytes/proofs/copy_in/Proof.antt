@@ -45,7 +45,7 @@ same-length c = c .before .loop .inv .1 .long
 returns : tie.Need-returns Inv-loop μ-loop
 returns c = let z : c .before .loop .i ≡ c .before .before .args .e - c .before .before .args .a = omega arith in
     subst (λ (i : ℕ). Copied (c .before .before .args .s .now) (c .before .before .args .a) i (c .before .before .args .types .now)
-      (c .before .loop .types) (c .before .before .args .to)) z (c .before .loop .inv .1)
+    (c .before .loop .types) (c .before .before .args .to)) z (c .before .loop .inv .1)
 
 pub copy-in-spec : {M : Type 1} → statement M
 copy-in-spec =

@@ -38,10 +38,12 @@ loop-less c = omega arith
 
 loop-again : tie.Need-loop-again Inv-loop μ-loop
 loop-again c =
-    let c₁ = c .before .before .before in
-    (omega arith, copied-more _ _ _ _ (c .before .before .loop .i) _ _
+    let c₁ = c .before .before .before in (
+      omega arith,
+      copied-more _ _ _ _ (c .before .before .loop .i) _ _
           (copy-unread _ (c₁ .args .a) (c₁ .args .e) (c₁ .args .to) (c .before .before .loop .i) _ (c₁ .pre .3) (omega arith)
-            (c .before .before .loop .inv .1)) (omega arith) (c .before .before .loop .inv .1))
+          (c .before .before .loop .inv .1)) (omega arith) (c .before .before .loop .inv .1),
+    )
 
 same-length : tie.Need-same-length Inv-loop μ-loop
 same-length c = c .before .loop .inv .1 .long
@@ -49,7 +51,7 @@ same-length c = c .before .loop .inv .1 .long
 returns : tie.Need-returns Inv-loop μ-loop
 returns c = let z : c .before .loop .i ≡ c .before .before .args .e - c .before .before .args .a = omega arith in
     subst (λ (i : ℕ). Copied (c .before .before .args .types .now) (c .before .before .args .a) i (c .before .before .args .types .now)
-      (c .before .loop .types) (c .before .before .args .to)) z (c .before .loop .inv .1)
+    (c .before .loop .types) (c .before .before .args .to)) z (c .before .loop .inv .1)
 
 pub copy-within-spec : {M : Type 1} → statement M
 copy-within-spec =

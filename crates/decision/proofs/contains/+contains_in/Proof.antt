@@ -25,8 +25,14 @@ contains-in-below t =
 
 -- what the calls ask and answer
 abbrev calls-contains-in : ℕ → contains-in-lts.Claims
-calls-contains-in t = (matches-at-reads.Asked, matches-at-reads.Learnt, next-at-reads.Asked, next-at-reads.Learnt,
-      contains-in-below t, contains-in.Post)
+calls-contains-in t = (
+  matches-at-reads.Asked,
+  matches-at-reads.Learnt,
+  next-at-reads.Asked,
+  next-at-reads.Learnt,
+  contains-in-below t,
+  contains-in.Post,
+)
 
 contains-in-returns : (t : ℕ) → contains-in-lts.Need-returns (calls-contains-in t) (contains-in-at t) contains-in.Post
 contains-in-returns t c = contains-none _ _ _ _ _ _ _ (c .if1 .taken)
@@ -46,16 +52,18 @@ contains-in-sub-contains-in t c = let z = c .before .before .before .if1 .left i
 contains-in-contains-in-requires : (t : ℕ) → contains-in-lts.Need-contains-in-requires (calls-contains-in t) (contains-in-at t) contains-in.Post
 contains-in-contains-in-requires t c κs =
     let c₁ = c .before .before .before in
-    let c₂ = c₁ .before .before in
-    (let z = c₁ .if1 .left in let y = c₂ .pre .0 in omega arith, row-rest _ _ _ _ _ _ (c₁ .if1 .left) (c₂ .pre .1) _
-          (c .next-at .ensures .0))
+    let c₂ = c₁ .before .before in (
+      let z = c₁ .if1 .left in let y = c₂ .pre .0 in omega arith,
+      row-rest _ _ _ _ _ _ (c₁ .if1 .left) (c₂ .pre .1) _
+          (c .next-at .ensures .0),
+    )
 
 contains-in-returns-3 : (t : ℕ) → contains-in-lts.Need-returns-3 (calls-contains-in t) (contains-in-at t) contains-in.Post
 contains-in-returns-3 t c =
     let c₁ = c .before .before .before in
     let c₂ = c₁ .before in
     contains-more _ _ _ _ _ _ (c₂ .if1 .left) _ _ (c₁ .matches-at .ensures) (c .before .before .if2 .left) _
-        (c .before .next-at .ensures .0) _ (c .contains-in .ensures)
+    (c .before .next-at .ensures .0) _ (c .contains-in .ensures)
 
 pub +contains-in-spec : {M : Type 1} → statement M
 +contains-in-spec = close μ-contains-in λ t. contains-in-lts.spec (calls-contains-in t)

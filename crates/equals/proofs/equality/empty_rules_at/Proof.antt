@@ -24,7 +24,7 @@ returns-2 c =
     let c₁ = c .before .before .before in
     let c₂ = c₁ .before in
     empty-left _ _ _ _ _ _ (c₂ .tag-at .ensures) (c₁ .if1 .left) _ (c .before .before .tag-at2 .ensures) (c .before .if2 .taken) _
-        (c .rewrite-equals-empty-set2 .ensures)
+    (c .rewrite-equals-empty-set2 .ensures)
 
 returns-3 : tie.Need-returns-3
 returns-3 c =

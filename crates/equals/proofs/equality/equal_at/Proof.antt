@@ -26,7 +26,7 @@ returns-2 c =
     let c₂ = c₁ .before in
     let c₃ = c₂ .before in
     equal-right _ _ _ _ _ _ (c₃ .empty-rules-at .ensures) (sym (c₂ .rests .ensures) ∙ not-false _ (c₁ .if1 .left)) _
-        (c .before .before .type-rule-at .ensures) (sym (c .before .rests2 .ensures) ∙ not-true _ (c .if2 .taken))
+    (c .before .before .type-rule-at .ensures) (sym (c .before .rests2 .ensures) ∙ not-true _ (c .if2 .taken))
 
 type-rule-at-requires-2 : tie.Need-type-rule-at-requires-2
 type-rule-at-requires-2 c κs = search needs
@@ -38,8 +38,8 @@ returns-3 c =
     let c₃ = c₂ .before in
     let c₄ = c₃ .before in
     equal-left _ _ _ _ _ _ (c₄ .empty-rules-at .ensures) (sym (c₃ .rests .ensures) ∙ not-false _ (c₂ .if1 .left)) _
-        (c₁ .type-rule-at .ensures) (sym (c .before .before .rests2 .ensures) ∙ not-false _ (c .before .if2 .left)) _
-        (c .type-rule-at2 .ensures)
+    (c₁ .type-rule-at .ensures) (sym (c .before .before .rests2 .ensures) ∙ not-false _ (c .before .if2 .left)) _
+    (c .type-rule-at2 .ensures)
 
 pub equal-at-spec : {M : Type 1} → statement M
 equal-at-spec =

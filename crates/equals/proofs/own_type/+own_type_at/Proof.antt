@@ -31,8 +31,16 @@ own-type-at-below t =
 
 -- what the calls ask and answer
 abbrev calls-own-type-at : ℕ → own-type-at-lts.Claims
-calls-own-type-at t = (tag-at-reads.Asked, tag-at-reads.Learnt, is-given-at-reads.Asked, is-given-at-reads.Learnt, own-type-at-below t,
-      own-type-at.Post, next-at-reads.Asked, next-at-reads.Learnt)
+calls-own-type-at t = (
+  tag-at-reads.Asked,
+  tag-at-reads.Learnt,
+  is-given-at-reads.Asked,
+  is-given-at-reads.Learnt,
+  own-type-at-below t,
+  own-type-at.Post,
+  next-at-reads.Asked,
+  next-at-reads.Learnt,
+)
 
 own-type-at-tag-at-requires : (t : ℕ) → own-type-at-lts.Need-tag-at-requires (calls-own-type-at t) (own-type-at-at t) own-type-at.Post
 own-type-at-tag-at-requires t c κs = here-placed (c .before .pre .1)
@@ -62,7 +70,7 @@ own-type-at-own-type-at-requires t c κs =
     let c₁ = c .before .before .before .before in
     let c₂ = c₁ .before .before in
     let h = here-child _ _ _ _ _ (c₁ .tag-at .ensures) 752 (c .if4 .taken) expression (λ x. refl) (c₂ .pre .1) in let z = here-few h in
-        let y = c₂ .pre .0 in (omega arith, h)
+    let y = c₂ .pre .0 in (omega arith, h)
 
 own-type-at-returns-4 : (t : ℕ) → own-type-at-lts.Need-returns-4 (calls-own-type-at t) (own-type-at-at t) own-type-at.Post
 own-type-at-returns-4 t c =
@@ -75,7 +83,7 @@ own-type-at-returns-5 t c =
     let c₂ = c₁ .before in
     let c₃ = c₂ .before in
     out-other _ _ _ _ _ (c₃ .tag-at .ensures) (c₂ .if1 .left) (c₁ .if2 .left) (c .before .before .if3 .left)
-        (c .before .if4 .left) (c .if5 .taken)
+    (c .before .if4 .left) (c .if5 .taken)
 
 own-type-at-add-own-type-at-2 : (t : ℕ) → own-type-at-lts.Need-add-own-type-at-2 (calls-own-type-at t) (own-type-at-at t) own-type-at.Post
 own-type-at-add-own-type-at-2 t c = let z = here-few (c .before .before .before .before .before .before .before .pre .1) in omega arith
@@ -86,13 +94,13 @@ own-type-at-own-type-at-requires-2 t c κs =
     let c₁ = c .before .before .before .before .before in
     let c₂ = c₁ .before .before in
     let h = here-first (two-here _ _ _ _ _ (c₁ .tag-at .ensures) 214 (c .if5 .left) expression expression (λ x. refl) _ (λ z. refl)
-          (c₂ .pre .1)) in let z = here-few h in let y = c₂ .pre .0 in (omega arith, h)
+    (c₂ .pre .1)) in let z = here-few h in let y = c₂ .pre .0 in (omega arith, h)
 
 own-type-at-returns-6 : (t : ℕ) → own-type-at-lts.Need-returns-6 (calls-own-type-at t) (own-type-at-at t) own-type-at.Post
 own-type-at-returns-6 t c =
     let c₁ = c .before .before .before .before .before .before .before in
     out-first _ _ _ _ _ (c₁ .tag-at .ensures) (c .before .before .if5 .left) _ (c .before .own-type-at2 .ensures)
-        (not-true _ (c .if6 .taken))
+    (not-true _ (c .if6 .taken))
 
 own-type-at-add-next-at : (t : ℕ) → own-type-at-lts.Need-add-next-at (calls-own-type-at t) (own-type-at-at t) own-type-at.Post
 own-type-at-add-next-at t c = let z = here-few (c .before .before .before .before .before .before .before .before .before .pre .1) in omega arith
@@ -103,7 +111,7 @@ own-type-at-next-at-requires t c κs =
     let c₁ = c .before .before .before .before .before .before .before in
     let c₂ = c₁ .before .before in
     here-few (here-first (two-here _ _ _ _ _ (c₁ .tag-at .ensures) 214 (c .before .before .if5 .left) expression expression (λ x. refl) _
-            (λ z. refl) (c₂ .pre .1)))
+    (λ z. refl) (c₂ .pre .1)))
 
 own-type-at-own-type-at-requires-3 : (t : ℕ) → own-type-at-lts.Need-own-type-at-requires-3 (calls-own-type-at t) (own-type-at-at t) own-type-at.Post
 unfolding lookup classOf formAt
@@ -112,8 +120,8 @@ own-type-at-own-type-at-requires-3 t c κs =
     let c₂ = c₁ .before .before .before .before .before in
     let c₃ = c₂ .before .before in
     let w = two-here _ _ _ _ _ (c₂ .tag-at .ensures) 214 (c₁ .if5 .left) expression expression (λ x. refl) _ (λ z. c .next-at .ensures .0)
-        (c₃ .pre .1) in let h = here-second w in let z = here-few h in let y = c₃ .pre .0 in let x = after-first (here-first w) in
-        let q = c .next-at .ensures .0 in (omega arith, h)
+    (c₃ .pre .1) in let h = here-second w in let z = here-few h in let y = c₃ .pre .0 in let x = after-first (here-first w) in
+    let q = c .next-at .ensures .0 in (omega arith, h)
 
 own-type-at-returns-7 : (t : ℕ) → own-type-at-lts.Need-returns-7 (calls-own-type-at t) (own-type-at-at t) own-type-at.Post
 own-type-at-returns-7 t c =
@@ -121,7 +129,7 @@ own-type-at-returns-7 t c =
     let c₂ = c₁ .before in
     let c₃ = c₂ .before .before .before .before .before in
     out-both _ _ _ _ _ (c₃ .tag-at .ensures) (c₂ .if5 .left) _ (c₁ .own-type-at2 .ensures) (not-false _ (c .before .before .if6 .left)) _
-        (c .before .next-at .ensures .0) _ (c .own-type-at3 .ensures)
+    (c .before .next-at .ensures .0) _ (c .own-type-at3 .ensures)
 
 pub +own-type-at-spec : {M : Type 1} → statement M
 +own-type-at-spec = close μ-own-type-at λ t. own-type-at-lts.spec (calls-own-type-at t)

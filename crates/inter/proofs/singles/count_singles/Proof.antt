@@ -50,10 +50,13 @@ loop-again : tie.Need-loop-again Inv-loop μ-loop
 loop-again c =
     let c₁ = c .before .before .before in
     let c₂ = c₁ .before in
-    let c₃ = c₂ .before in
-    (omega arith, (let z = one-small (c .before .before .is-single .result) _ (c .before .one-if .ensures) in omega arith), count-next _ _ _
+    let c₃ = c₂ .before in (
+      omega arith,
+      (let z = one-small (c .before .before .is-single .result) _ (c .before .one-if .ensures) in omega arith),
+      count-next _ _ _
           _ _ (c₃ .arity-at .ensures) _ _ _ (c₂ .loop .inv .2) (c₁ .loop-test .taken) _ (c .before .before .is-single .ensures) _
-          (c .before .one-if .ensures) _ (c .next-at .ensures .0))
+          (c .before .one-if .ensures) _ (c .next-at .ensures .0),
+    )
 
 returns : tie.Need-returns Inv-loop μ-loop
 returns c = count-end _ _ _ _ _ (c .before .before .arity-at .ensures) _ _ _ (c .before .loop .inv .2) (c .loop-test .left)

@@ -25,7 +25,7 @@ returns-2 c =
     let c₁ = c .before .before .before in
     let c₂ = c₁ .before in
     out-86 _ _ _ _ _ (c₂ .tag-at .ensures) _ (c .before .before .tag-at2 .ensures) (c₁ .if1 .left)
-        (c .before .if2 .taken) _ (c .each-under .ensures)
+    (c .before .if2 .taken) _ (c .each-under .ensures)
 
 second-of-requires : tie.Need-second-of-requires
 second-of-requires c κs =
@@ -46,14 +46,14 @@ returns-3 c =
     let c₂ = c₁ .before in
     let c₃ = c₂ .before in
     out-87 _ _ _ _ _ (c₃ .tag-at .ensures) _ (c₁ .tag-at2 .ensures) (c₂ .if1 .left) (c .before .before .if3 .taken) _
-        (c .before .second-of .ensures) _ (c .fixed .ensures)
+    (c .before .second-of .ensures) _ (c .fixed .ensures)
 
 returns-4 : tie.Need-returns-4
 returns-4 c =
     let c₁ = c .before .before .before in
     let c₂ = c₁ .before in
     exists-none _ _ _ _ _ (c₂ .tag-at .ensures) _ (c .before .before .tag-at2 .ensures) (c₁ .if1 .left)
-        (c .before .if2 .left) (c .if3 .left)
+    (c .before .if2 .left) (c .if3 .left)
 
 pub exists-at-spec : {M : Type 1} → statement M
 exists-at-spec =

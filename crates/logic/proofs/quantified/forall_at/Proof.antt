@@ -25,7 +25,7 @@ returns-2 c =
     let c₁ = c .before .before .before in
     let c₂ = c₁ .before in
     out-85 _ _ _ _ _ (c₂ .tag-at .ensures) _ (c .before .before .tag-at2 .ensures) (c₁ .if1 .left)
-        (c .before .if2 .taken) _ (c .each-under .ensures)
+    (c .before .if2 .taken) _ (c .each-under .ensures)
 
 returns-3 : tie.Need-returns-3
 returns-3 c =

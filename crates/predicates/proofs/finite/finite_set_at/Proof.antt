@@ -26,9 +26,11 @@ functional-check-requires : tie.Need-functional-check-requires
 functional-check-requires c κs =
     let c₁ = c .before .before .before in
     let c₂ = c₁ .before in
-    let c₃ = c₂ .before .before in
-    (set-sides _ _ _ _ _ (c₂ .second-of .ensures) _ (c₁ .tag-at .ensures) (c .before .before .if1 .left) _ (c .before .second-of2 .ensures)
-          (c₃ .pre), c .binders-at .ensures .1)
+    let c₃ = c₂ .before .before in (
+      set-sides _ _ _ _ _ (c₂ .second-of .ensures) _ (c₁ .tag-at .ensures) (c .before .before .if1 .left) _ (c .before .second-of2 .ensures)
+          (c₃ .pre),
+      c .binders-at .ensures .1,
+    )
 
 add-fixed : tie.Need-add-fixed
 add-fixed c = let z = set-few _ _ _ _ (c .before .before .before .before .before .before .before .before .pre) in omega arith
@@ -44,7 +46,7 @@ returns-2 c =
     let c₄ = c₃ .before in
     let c₅ = c₄ .before in
     set-11 _ _ _ _ _ (c₅ .second-of .ensures) _ (c₄ .tag-at .ensures) (c₃ .if1 .left) _ (c₂ .second-of2 .ensures) _
-        (c₁ .binders-at .ensures .0) _ (c .before .before .functional-check .ensures) (c .before .if2 .taken) _ (c .fixed .ensures)
+    (c₁ .binders-at .ensures .0) _ (c .before .before .functional-check .ensures) (c .before .if2 .taken) _ (c .fixed .ensures)
 
 returns-3 : tie.Need-returns-3
 returns-3 c =
@@ -53,7 +55,7 @@ returns-3 c =
     let c₃ = c₂ .before in
     let c₄ = c₃ .before in
     set-none _ _ _ _ _ (c₄ .second-of .ensures) _ (c₃ .tag-at .ensures) (c₂ .if1 .left) _ (c₁ .second-of2 .ensures) _
-        (c .before .before .binders-at .ensures .0) _ (c .before .functional-check .ensures) (c .if2 .left)
+    (c .before .before .binders-at .ensures .0) _ (c .before .functional-check .ensures) (c .if2 .left)
 
 pub finite-set-at-spec : {M : Type 1} → statement M
 finite-set-at-spec =

@@ -2,7 +2,15 @@ use mathlib.Core.Path.{refl}
 use native.Mathlib.Omega.{arith}
 use Rattle.decision.proofs.Shapes.{here-few, here-placed}
 use Rattle.predicates.proofs.FiniteTurns.{
-  finite-node, finite-6, finite-child, finite-8, set-here, finite-set, restricted-here, finite-restricted, finite-none
+  finite-node,
+  finite-6,
+  finite-child,
+  finite-8,
+  set-here,
+  finite-set,
+  restricted-here,
+  finite-restricted,
+  finite-none,
 }
 use borrow.Author.Needs.{needs}
 use Rattle.predicates.proofs.finite.rewrite_finite.Statement.{statement}
@@ -112,7 +120,7 @@ returns-14 : tie.Need-returns-14
 returns-14 c =
     let c₁ = c .before .before .before in
     finite-restricted _ _ _ _ _ (c₁ .tag-at .ensures) (c .before .match .keys14) _ (c .before .before .second-of .ensures) _
-        (c .finite-restricted-at .ensures)
+    (c .finite-restricted-at .ensures)
 
 returns-15 : tie.Need-returns-15
 returns-15 c = finite-node _ _ _ _ _ (c .before .before .before .tag-at .ensures) 410 13 refl (c .before .match .keys15) _ (c .fixed12 .ensures)

@@ -46,7 +46,7 @@ unequal-at-requires c κs =
     let c₂ = c₁ .before in
     let c₃ = c₂ .before .before in
     equation-here _ _ _ _ _ (c .before .before .tag-at2 .ensures) _ (c .before .second-of .ensures) (c .match .keys5)
-        (inner-here _ _ _ _ _ (c₂ .tag-at .ensures) (c₁ .if1 .left) (c₃ .pre))
+    (inner-here _ _ _ _ _ (c₂ .tag-at .ensures) (c₁ .if1 .left) (c₃ .pre))
 
 returns-2 : tie.Need-returns-2
 returns-2 c =
@@ -54,8 +54,8 @@ returns-2 c =
     let c₂ = c₁ .before in
     let c₃ = c₂ .before in
     of-inner _ _ _ _ _ (c₃ .tag-at .ensures) (c₂ .if1 .left) _
-        (not-compared _ _ _ _ _ (c₁ .tag-at2 .ensures) 104 16 refl (c .before .match .keys1) _
-          (c .before .before .second-of .ensures) _ (c .fixed .ensures))
+    (not-compared _ _ _ _ _ (c₁ .tag-at2 .ensures) 104 16 refl (c .before .match .keys1) _
+    (c .before .before .second-of .ensures) _ (c .fixed .ensures))
 
 returns-3 : tie.Need-returns-3
 returns-3 c =
@@ -63,8 +63,8 @@ returns-3 c =
     let c₂ = c₁ .before in
     let c₃ = c₂ .before in
     of-inner _ _ _ _ _ (c₃ .tag-at .ensures) (c₂ .if1 .left) _
-        (not-compared _ _ _ _ _ (c₁ .tag-at2 .ensures) 106 17 refl (c .before .match .keys2) _
-          (c .before .before .second-of .ensures) _ (c .fixed2 .ensures))
+    (not-compared _ _ _ _ _ (c₁ .tag-at2 .ensures) 106 17 refl (c .before .match .keys2) _
+    (c .before .before .second-of .ensures) _ (c .fixed2 .ensures))
 
 returns-4 : tie.Need-returns-4
 returns-4 c =
@@ -72,8 +72,8 @@ returns-4 c =
     let c₂ = c₁ .before in
     let c₃ = c₂ .before in
     of-inner _ _ _ _ _ (c₃ .tag-at .ensures) (c₂ .if1 .left) _
-        (not-compared _ _ _ _ _ (c₁ .tag-at2 .ensures) 105 18 refl (c .before .match .keys3) _
-          (c .before .before .second-of .ensures) _ (c .fixed3 .ensures))
+    (not-compared _ _ _ _ _ (c₁ .tag-at2 .ensures) 105 18 refl (c .before .match .keys3) _
+    (c .before .before .second-of .ensures) _ (c .fixed3 .ensures))
 
 returns-5 : tie.Need-returns-5
 returns-5 c =
@@ -81,8 +81,8 @@ returns-5 c =
     let c₂ = c₁ .before in
     let c₃ = c₂ .before in
     of-inner _ _ _ _ _ (c₃ .tag-at .ensures) (c₂ .if1 .left) _
-        (not-compared _ _ _ _ _ (c₁ .tag-at2 .ensures) 103 19 refl (c .before .match .keys4) _
-          (c .before .before .second-of .ensures) _ (c .fixed4 .ensures))
+    (not-compared _ _ _ _ _ (c₁ .tag-at2 .ensures) 103 19 refl (c .before .match .keys4) _
+    (c .before .before .second-of .ensures) _ (c .fixed4 .ensures))
 
 returns-6 : tie.Need-returns-6
 returns-6 c =
@@ -90,8 +90,8 @@ returns-6 c =
     let c₂ = c₁ .before in
     let c₃ = c₂ .before in
     of-inner _ _ _ _ _ (c₃ .tag-at .ensures) (c₂ .if1 .left) _
-        (not-equal _ _ _ _ _ (c₁ .tag-at2 .ensures) _ (c .before .before .second-of .ensures) (c .before .match .keys5) _
-          (c .unequal-at .ensures))
+    (not-equal _ _ _ _ _ (c₁ .tag-at2 .ensures) _ (c .before .before .second-of .ensures) (c .before .match .keys5) _
+    (c .unequal-at .ensures))
 
 returns-7 : tie.Need-returns-7
 returns-7 c =

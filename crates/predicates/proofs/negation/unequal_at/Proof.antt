@@ -31,7 +31,7 @@ returns-3 c =
     let c₂ = c₁ .before in
     let c₃ = c₂ .before in
     unequal-22 _ _ _ _ _ _ (c₃ .tag-at .ensures) (c₂ .if1 .left) (c₁ .if2 .left) _ (c .before .before .tag-at2 .ensures)
-        (c .before .if3 .taken) _ (c .fixed3 .ensures)
+    (c .before .if3 .taken) _ (c .fixed3 .ensures)
 
 fixed-requires-4 : tie.Need-fixed-requires-4
 fixed-requires-4 c κs = search needs
@@ -43,7 +43,7 @@ returns-4 c =
     let c₃ = c₂ .before in
     let c₄ = c₃ .before in
     unequal-23 _ _ _ _ _ _ (c₄ .tag-at .ensures) (c₃ .if1 .left) (c₂ .if2 .left) _ (c₁ .tag-at2 .ensures)
-        (c .before .if4 .taken) _ (c .fixed4 .ensures)
+    (c .before .if4 .taken) _ (c .fixed4 .ensures)
 
 returns-5 : tie.Need-returns-5
 returns-5 c =
@@ -51,7 +51,7 @@ returns-5 c =
     let c₂ = c₁ .before in
     let c₃ = c₂ .before in
     unequal-none _ _ _ _ _ _ (c₃ .tag-at .ensures) (c₂ .if1 .left) (c₁ .if2 .left) _ (c .before .before .tag-at2 .ensures)
-        (c .before .if3 .left) (c .if4 .left)
+    (c .before .if3 .left) (c .if4 .left)
 
 pub unequal-at-spec : {M : Type 1} → statement M
 unequal-at-spec =

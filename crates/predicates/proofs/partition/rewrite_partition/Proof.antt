@@ -28,7 +28,7 @@ returns-2 c =
     let c₁ = c .before .before .before .before in
     let c₂ = c₁ .before in
     part-14 _ _ _ _ _ (c₂ .tag-at .ensures) (c₁ .if1 .left) _ (c .before .before .arity-at .ensures)
-        (c .before .if2 .taken) _ (c .fixed .ensures)
+    (c .before .if2 .taken) _ (c .fixed .ensures)
 
 fixed-requires-2 : tie.Need-fixed-requires-2
 fixed-requires-2 c κs = search needs
@@ -40,7 +40,7 @@ returns-3 c =
     let c₃ = c₂ .before in
     let c₄ = c₃ .before in
     part-15 _ _ _ _ _ (c₄ .tag-at .ensures) (c₃ .if1 .left) _ (c₁ .arity-at .ensures) (c .before .if3 .taken) _
-        (c₂ .second-of .ensures) _ (c .fixed2 .ensures)
+    (c₂ .second-of .ensures) _ (c .fixed2 .ensures)
 
 returns-4 : tie.Need-returns-4
 returns-4 c =

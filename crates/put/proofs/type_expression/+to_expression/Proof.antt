@@ -3,8 +3,18 @@ use native.Mathlib.Omega.{arith}
 use Prim.Native.Nat.{_-_, _<_}
 use lib.ListN.{length}
 use Rattle.put.proofs.TypeBytes.{
-  type-within, has-four, has-pow, has-left, has-right, right-further, given-within, write-bool, write-int, write-given, write-pow,
-  write-prod
+  type-within,
+  has-four,
+  has-pow,
+  has-left,
+  has-right,
+  right-further,
+  given-within,
+  write-bool,
+  write-int,
+  write-given,
+  write-pow,
+  write-prod,
 }
 use Prim.Native.Nat.{ℕ}
 use borrow.Fn.Kinds.{In}
@@ -34,8 +44,14 @@ to-expression-below t =
 
 -- what the calls ask and answer
 abbrev calls-to-expression : ℕ → to-expression-lts.Claims
-calls-to-expression t = (put-word-reads.Asked, put-word-reads.Learnt, given-expression-reads.Asked, given-expression-reads.Learnt,
-      to-expression-below t, to-expression.Post)
+calls-to-expression t = (
+  put-word-reads.Asked,
+  put-word-reads.Learnt,
+  given-expression-reads.Asked,
+  given-expression-reads.Learnt,
+  to-expression-below t,
+  to-expression.Post,
+)
 
 to-expression-shared-slice-read-b : (t : ℕ) → to-expression-lts.Need-shared-slice-read-b (calls-to-expression t)
     (to-expression-at t) to-expression.Post
@@ -89,7 +105,7 @@ to-expression-to-expression-requires-2 t c κs =
     let c₁ = c .before .before .before in
     let c₂ = c₁ .before .before .before in
     let four = has-four _ _ (c₂ .pre .1) (c₁ .match .rest .0 .0 .0 .1) (c₁ .match .rest .0 .0 .1) (c₁ .match .rest .0 .1)
-        (c₁ .match .rest .1) in (omega (arith, type-within _ _ (c₂ .pre .1)), has-left _ _ (c₂ .pre .1) four)
+    (c₁ .match .rest .1) in (omega (arith, type-within _ _ (c₂ .pre .1)), has-left _ _ (c₂ .pre .1) four)
 
 to-expression-to-expression-requires-3 : (t : ℕ) → to-expression-lts.Need-to-expression-requires-3 (calls-to-expression t)
     (to-expression-at t) to-expression.Post
@@ -97,8 +113,15 @@ to-expression-to-expression-requires-3 t c κs =
     let c₁ = c .before .before .before .before .before in
     let c₂ = c₁ .before .before .before in
     let four = has-four _ _ (c₂ .pre .1) (c₁ .match .rest .0 .0 .0 .1) (c₁ .match .rest .0 .0 .1) (c₁ .match .rest .0 .1)
-        (c₁ .match .rest .1) in (omega (arith, type-within _ _ (c₂ .pre .1), right-further _ _ _ (c₂ .pre .1) four
-            (c .before .to-expression2 .ensures .end) .0), has-right _ _ _ (c₂ .pre .1) four (c .before .to-expression2 .ensures .end))
+    (c₁ .match .rest .1) in (
+      omega (
+        arith,
+        type-within _ _ (c₂ .pre .1),
+        right-further _ _ _ (c₂ .pre .1) four
+            (c .before .to-expression2 .ensures .end) .0,
+      ),
+      has-right _ _ _ (c₂ .pre .1) four (c .before .to-expression2 .ensures .end),
+    )
 
 to-expression-returns : (t : ℕ) → to-expression-lts.Need-returns (calls-to-expression t) (to-expression-at t) to-expression.Post
 to-expression-returns t c = write-bool _ _ _ _ _ _ (c .before .before .match .keys1) (c .put-word .ensures)
@@ -120,8 +143,8 @@ to-expression-returns-5 t c =
     let c₂ = c₁ .before .before in
     let c₃ = c₂ .before .before .before in
     let four = has-four _ _ (c₃ .pre .1) (c₂ .match .rest .0 .0 .0 .1) (c₂ .match .rest .0 .0 .1) (c₂ .match .rest .0 .1)
-        (c₂ .match .rest .1) in write-prod _ _ _ _ _ _ _ _ _ _ four (c₁ .put-word4 .ensures) (c .before .before .to-expression2 .ensures)
-        (c .to-expression3 .ensures)
+    (c₂ .match .rest .1) in write-prod _ _ _ _ _ _ _ _ _ _ four (c₁ .put-word4 .ensures) (c .before .before .to-expression2 .ensures)
+    (c .to-expression3 .ensures)
 
 pub +to-expression-spec : {M : Type 1} → statement M
 +to-expression-spec = close μ-to-expression λ t. to-expression-lts.spec (calls-to-expression t)

@@ -29,7 +29,7 @@ returns c =
     let c₁ = c .before .before .before .before in
     let c₂ = c₁ .before .before in
     puts-then _ _ _ _ _ _ _ _ (puts-then _ _ _ _ _ _ _ _ (puts-then _ _ _ _ _ _ _ _ (c₂ .put-word .ensures) (c₁ .put-copy .ensures))
-          (c .before .before .put-byte .ensures)) (c .put-copy2 .ensures)
+    (c .before .before .put-byte .ensures)) (c .put-copy2 .ensures)
 
 pub given-expression-spec : {M : Type 1} → statement M
 given-expression-spec =

@@ -44,14 +44,14 @@ unfolding lookup classOf formAt
 equal-at-requires c κs =
     let c₁ = c .before .before .before .before .before .before .before .before in
     two-here _ _ _ _ _ (c .before .before .tag-at .ensures) 101 (c .match .keys4) expression expression (λ x. refl) _
-        (c .before .second-of .ensures) (c₁ .pre .here)
+    (c .before .second-of .ensures) (c₁ .pre .here)
 
 subset-at-requires : tie.Need-subset-at-requires
 unfolding lookup classOf formAt
 subset-at-requires c κs =
     let c₁ = c .before .before .before .before .before .before .before .before in
     two-here _ _ _ _ _ (c .before .before .tag-at .ensures) 111 (c .match .keys5) expression expression (λ x. refl) _
-        (c .before .second-of .ensures) (c₁ .pre .here)
+    (c .before .second-of .ensures) (c₁ .pre .here)
 
 returns-2 : tie.Need-returns-2
 returns-2 c =
@@ -60,7 +60,7 @@ returns-2 c =
     let c₃ = c₂ .before in
     let c₄ = c₃ .before in
     past-logic _ _ _ _ _ _ (c₄ .simplify-predicate-node .ensures) (sym (c₃ .rests .ensures) ∙ not-false _ (c₂ .if1 .left)) _
-        (to-rewrite-not _ _ _ _ _ (c₁ .tag-at .ensures) (c .before .match .keys1) _ (c .rewrite-not .ensures))
+    (to-rewrite-not _ _ _ _ _ (c₁ .tag-at .ensures) (c .before .match .keys1) _ (c .rewrite-not .ensures))
 
 returns-3 : tie.Need-returns-3
 returns-3 c =
@@ -69,7 +69,7 @@ returns-3 c =
     let c₃ = c₂ .before in
     let c₄ = c₃ .before in
     past-logic _ _ _ _ _ _ (c₄ .simplify-predicate-node .ensures) (sym (c₃ .rests .ensures) ∙ not-false _ (c₂ .if1 .left)) _
-        (to-finite _ _ _ _ _ (c₁ .tag-at .ensures) (c .before .match .keys2) _ (c .rewrite-finite .ensures))
+    (to-finite _ _ _ _ _ (c₁ .tag-at .ensures) (c .before .match .keys2) _ (c .rewrite-finite .ensures))
 
 returns-4 : tie.Need-returns-4
 returns-4 c =
@@ -78,7 +78,7 @@ returns-4 c =
     let c₃ = c₂ .before in
     let c₄ = c₃ .before in
     past-logic _ _ _ _ _ _ (c₄ .simplify-predicate-node .ensures) (sym (c₃ .rests .ensures) ∙ not-false _ (c₂ .if1 .left)) _
-        (to-partition _ _ _ _ _ (c₁ .tag-at .ensures) (c .before .match .keys3) _ (c .rewrite-partition .ensures))
+    (to-partition _ _ _ _ _ (c₁ .tag-at .ensures) (c .before .match .keys3) _ (c .rewrite-partition .ensures))
 
 returns-5 : tie.Need-returns-5
 returns-5 c =
@@ -87,8 +87,8 @@ returns-5 c =
     let c₃ = c₂ .before in
     let c₄ = c₃ .before in
     past-logic _ _ _ _ _ _ (c₄ .simplify-predicate-node .ensures) (sym (c₃ .rests .ensures) ∙ not-false _ (c₂ .if1 .left)) _
-        (to-equal _ _ _ _ _ (c₁ .tag-at .ensures) _ (c .before .before .second-of .ensures)
-          (c .before .match .keys4) _ (c .equal-at .ensures))
+    (to-equal _ _ _ _ _ (c₁ .tag-at .ensures) _ (c .before .before .second-of .ensures)
+    (c .before .match .keys4) _ (c .equal-at .ensures))
 
 returns-6 : tie.Need-returns-6
 returns-6 c =
@@ -97,8 +97,8 @@ returns-6 c =
     let c₃ = c₂ .before in
     let c₄ = c₃ .before in
     past-logic _ _ _ _ _ _ (c₄ .simplify-predicate-node .ensures) (sym (c₃ .rests .ensures) ∙ not-false _ (c₂ .if1 .left)) _
-        (to-subset _ _ _ _ _ (c₁ .tag-at .ensures) _ (c .before .before .second-of .ensures)
-          (c .before .match .keys5) _ (c .subset-at .ensures))
+    (to-subset _ _ _ _ _ (c₁ .tag-at .ensures) _ (c .before .before .second-of .ensures)
+    (c .before .match .keys5) _ (c .subset-at .ensures))
 
 returns-7 : tie.Need-returns-7
 returns-7 c =
@@ -106,7 +106,7 @@ returns-7 c =
     let c₂ = c₁ .before in
     let c₃ = c₂ .before in
     past-logic _ _ _ _ _ _ (c₃ .simplify-predicate-node .ensures) (sym (c₂ .rests .ensures) ∙ not-false _ (c₁ .if1 .left)) _
-        (to-none _ _ _ _ _ (c .before .before .tag-at .ensures) (c .match .rest))
+    (to-none _ _ _ _ _ (c .before .before .tag-at .ensures) (c .match .rest))
 
 pub decide-spec : {M : Type 1} → statement M
 decide-spec =

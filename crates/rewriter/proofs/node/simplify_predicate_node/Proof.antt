@@ -35,14 +35,14 @@ unfolding lookup classOf formAt
 implication-at-requires c κs =
     let c₁ = c .before .before .before .before in
     two-here _ _ _ _ _ (c .before .before .tag-at .ensures) 251 (c .match .keys3) predicate predicate (λ x. refl) _
-        (c .before .second-of .ensures) (c₁ .pre .here)
+    (c .before .second-of .ensures) (c₁ .pre .here)
 
 equivalence-at-requires : tie.Need-equivalence-at-requires
 unfolding lookup classOf formAt
 equivalence-at-requires c κs =
     let c₁ = c .before .before .before .before in
     two-here _ _ _ _ _ (c .before .before .tag-at .ensures) 252 (c .match .keys4) predicate predicate (λ x. refl) _
-        (c .before .second-of .ensures) (c₁ .pre .here)
+    (c .before .second-of .ensures) (c₁ .pre .here)
 
 negation-at-requires : tie.Need-negation-at-requires
 unfolding lookup classOf formAt
@@ -71,14 +71,14 @@ returns-3 c =
     let c₁ = c .before .before .before in
     let c₂ = c₁ .before .before in
     into _ _ _ _ _ _ (c₂ .pre .long) _ (to-imp _ _ _ _ _ (c₁ .tag-at .ensures) _ (c .before .before .second-of .ensures)
-          (c .before .match .keys3) _ (c .implication-at .ensures))
+    (c .before .match .keys3) _ (c .implication-at .ensures))
 
 returns-4 : tie.Need-returns-4
 returns-4 c =
     let c₁ = c .before .before .before in
     let c₂ = c₁ .before .before in
     into _ _ _ _ _ _ (c₂ .pre .long) _ (to-eqv _ _ _ _ _ (c₁ .tag-at .ensures) _ (c .before .before .second-of .ensures)
-          (c .before .match .keys4) _ (c .equivalence-at .ensures))
+    (c .before .match .keys4) _ (c .equivalence-at .ensures))
 
 returns-5 : tie.Need-returns-5
 returns-5 c =

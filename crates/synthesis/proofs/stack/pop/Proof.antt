@@ -19,8 +19,28 @@ use contract.Monad.{Fun}
 use contract.Running.{givenOf, tables, tablesOf}
 use types.Kit.{Given, ‵, _⊛_, ⋆, _$_, _∵_, !, qed, by, move, keep, drop, split, join, rewrite, fsplit, fjoin, suffices, frame, done}
 use types.Run.{
-  look, look-raw, init, forget, stop, hop, fld, from, load, lit, of-opd, bin, assigns, returns, enter, alloc1, alloc0, params1,
-  pass1, pass0, free1, free0
+  look,
+  look-raw,
+  init,
+  forget,
+  stop,
+  hop,
+  fld,
+  from,
+  load,
+  lit,
+  of-opd,
+  bin,
+  assigns,
+  returns,
+  enter,
+  alloc1,
+  alloc0,
+  params1,
+  pass1,
+  pass0,
+  free1,
+  free0,
 }
 use types.Part.{whole, sub, look-in}
 use sound.WpLaws.{WpFn-mono}
@@ -79,11 +99,11 @@ module _ {M : Type 1} (𝓤 : URA M) (H : Heap 𝓤) (A : Atoms 𝓤) (W : Given
 
   exits : Room T.the-row (length ys) → Is T.the-row h (mach ∷ [])
       → ent 𝓤 (⋆ 𝓤 H A (‵ (fobs γ (codedHoleys T.the-row .code (heres T.the-row ys))) ∷ ‵ (fbor κ (Held T.the-row (length ys) b o γ)) ∷ ‵
-          (flft κ q) ∷ [])) (Post mach)
+      (flft κ q) ∷ [])) (Post mach)
   exits room is =
       qed W (‵ (fobs γ (codedHoleys T.the-row .code (heres T.the-row ys))) ∷ ‵ (fbor κ (Held T.the-row (length ys) b o γ)) ∷ ‵ (flft κ q) ∷ []) ∵
       suffices ! _ (ends-at 𝓤 H A pop.ended stayed (pop.clauses 𝓤 H A mem run) W (((κ, tt), (q, tt), tt, a, vals), tt) mach h (ys, (tt, tt))
-            (refl, (tt, tt))) $ says ! (refl, refl) $
+      (refl, (tt, tt))) $ says ! (refl, refl) $
       nothing ! $ move ! (3 ∷ 0 ∷ []) $ join ! $ frame ! $
       -- [obs; the borrow]: with the fact on the machine value it is what the slice owns
       fjoin ! $ pureI ! (at-slice T.the-row x (s ∷ [])) (tt, (tt, tt)) (refl, room) $ fjoin ! $
@@ -96,19 +116,19 @@ module _ {M : Type 1} (𝓤 : URA M) (H : Heap 𝓤) (A : Atoms 𝓤) (W : Given
     walk room within =
         let far : n * 8 < 2 ^ 64 = omega (arith, room .1, within) in
         qed W ((‵ (flft κ q) ⊛ ‵ ftrue) ∷ ‵ (owns (MutSlice (named 0) κ T.the-row ∷ usize ∷ []) a vals) ∷ []) ∵ enter ! C Λ code.function
-            (s ∷ vint w64 n ∷ []) _ $
+        (s ∷ vint w64 n ∷ []) _ $
         alloc1 ! (λ l₀. alloc1 ! (λ l₁. alloc1 ! (λ l₂. alloc1 ! (λ l₃. alloc1 ! (λ l₄. alloc1 ! (λ l₅. alloc0 ! $ params1 ! $
         pass1 ! (init ! 8 refl (tt, (tt, (record { fits = room .0 }, tt)))) $ pass1 ! (init ! 6 refl (tt, record { fits = n-fits })) $ pass0 ! $
         -- [_5; …; _4; …; _3; …; _2; …; _1; …; room for _0; …; the token; what the parameters own]
         assigns ! (bin ! (load ! (from ! (stop !)) (look ! 6 refl)) (lit ! tt) (record { fits = far })) (from ! (stop !))
-            (init ! 4 refl (tt, record { fits = far })) $
+        (init ! 4 refl (tt, record { fits = far })) $
         assigns ! (bin ! (load ! (from ! (fld ! refl (stop !))) (look-in ! 8 (sub ! 0 refl (whole !))))
-              (load ! (from ! (stop !)) (look ! 4 refl)) tt) (from ! (stop !)) (init ! 2 refl (tt, tt)) $
+        (load ! (from ! (stop !)) (look ! 4 refl)) tt) (from ! (stop !)) (init ! 2 refl (tt, tt)) $
         rewrite ! 2 (λ (p : ℕ). ‵ (fat fullShare tyPtr l₄ 0 (vptr b p))) (sym (place-is 8 o n)) refl $
         -- the borrow is opened
         move ! (13 ∷ []) $ fsplit ! $ fsplit ! $ drop ! $ fsplit ! $ move ! (15 ∷ []) $ split ! $ move ! (2 ∷ 3 ∷ 0 ∷ []) $
         opens-slice ! tt T.the-row ys b o $ elem-out ! T.the-row (Is T.the-row) (shows 𝓤 H A T.the-row) (LL.vals T.the-type T′.the-laws)
-            (LL.tells T.the-type T′.the-laws) fullShare ys n noNode b o within (λ is.
+        (LL.tells T.the-type T′.the-laws) fullShare ys n noNode b o within (λ is.
         let typed = LL.lawful T.the-type T′.the-laws 𝓤 H A W .typed h _ is .0 in
         -- [stack[top]; what it owns; the others; the open borrow; obs; auth; …; …; _5; …; _4; …; _3; …; _2; …; _1; …; room for _0; …]
         assigns ! (of-opd ! (load ! (from ! (hop ! (look ! 10 refl) (stop !))) (look-raw ! 0 refl))) (from ! (stop !)) (init ! 8 refl typed) $
@@ -116,7 +136,7 @@ module _ {M : Type 1} (𝓤 : URA M) (H : Heap 𝓤) (A : Atoms 𝓤) (W : Given
         elem-back ! T.the-row fullShare ys n noNode (mach ∷ []) b o within $ closes-slice ! tt T.the-row ys ys refl b o $
         returns ! (look ! 15 refl) $ forget ! 5 refl $ forget ! 7 refl $ forget ! 9 refl $ forget ! 11 refl $ forget ! 13 refl $ forget ! 15 refl $
         move ! (15 ∷ 16 ∷ []) $ free1 ! $ move ! (13 ∷ 14 ∷ []) $ free1 ! $ move ! (11 ∷ 12 ∷ []) $ free1 ! $ move !
-            (9 ∷ 10 ∷ []) $ free1 ! $ move ! (7 ∷ 8 ∷ []) $ free1 ! $ move ! (5 ∷ 6 ∷ []) $ free1 ! $ free0 ! $
+        (9 ∷ 10 ∷ []) $ free1 ! $ move ! (7 ∷ 8 ∷ []) $ free1 ! $ move ! (5 ∷ 6 ∷ []) $ free1 ! $ free0 ! $
         keep ! (0 ∷ 1 ∷ 2 ∷ []) $ by ! (exits room is))))))))
 
 module _ {M : Type 1} (𝓤 : URA M) (H : Heap 𝓤) (A : Atoms 𝓤) (W : Given 𝓤 H A) (mem : Memory → SProp 𝓤) (run : Routine → Fun 𝓤) where
@@ -129,8 +149,10 @@ module _ {M : Type 1} (𝓤 : URA M) (H : Heap 𝓤) (A : Atoms 𝓤) (W : Given
 pop-meets : {M : Type 1} (𝓤 : URA M) (H : Heap 𝓤) (A : Atoms 𝓤) → Given 𝓤 H A → (mem : Memory → SProp 𝓤) (run : Routine → Fun 𝓤) (𝓣 : Tables 𝓤 H)
     → Meets 𝓤 H A pop.signature (WpFn 𝓤 H (𝓣 .C) (𝓣 .Λ) code.function) (pop.spec 𝓤 H A mem run)
 pop-meets 𝓤 H A W mem run 𝓣 =
-    walk-meets 𝓤 H A pop.ended stayed W (goes-slice 𝓤 H A W 1 0 tt (plain (λ _. T.the-row)),
-          (goes-none 𝓤 H A W 1 (λ _. usize) yes (λ κs x f. refl), tt)) (pop.clauses 𝓤 H A mem run)
+    walk-meets 𝓤 H A pop.ended stayed W (
+      goes-slice 𝓤 H A W 1 0 tt (plain (λ _. T.the-row)),
+      (goes-none 𝓤 H A W 1 (λ _. usize) yes (λ κs x f. refl), tt),
+    ) (pop.clauses 𝓤 H A mem run)
     (WpFn 𝓤 H (𝓣 .C) (𝓣 .Λ) code.function) (WpFn-mono 𝓤 H (W .laws) 𝓣 code.function) (pop-walks 𝓤 H A W mem run (𝓣 .C) (𝓣 .Λ))
 
 pub pop-spec : {M : Type 1} → stated.statement M

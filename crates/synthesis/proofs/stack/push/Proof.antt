@@ -19,8 +19,29 @@ use contract.Monad.{Fun}
 use contract.Running.{givenOf, tables, tablesOf}
 use types.Kit.{Given, ‵, _⊛_, ⋆, _$_, _∵_, !, qed, by, move, keep, drop, split, join, rewrite, fsplit, fjoin, feqI, suffices, frame, done}
 use types.Run.{
-  look, init, store-raw, forget, stop, hop, fld, from, load, lit, unit-lit, of-opd, bin, assigns, returns, enter, alloc1, alloc0,
-  params1, pass1, pass0, free1, free0
+  look,
+  init,
+  store-raw,
+  forget,
+  stop,
+  hop,
+  fld,
+  from,
+  load,
+  lit,
+  unit-lit,
+  of-opd,
+  bin,
+  assigns,
+  returns,
+  enter,
+  alloc1,
+  alloc0,
+  params1,
+  pass1,
+  pass0,
+  free1,
+  free0,
 }
 use types.Part.{whole, sub, look-in}
 use sound.WpLaws.{WpFn-mono}
@@ -80,18 +101,20 @@ module _ {M : Type 1} (𝓤 : URA M) (H : Heap 𝓤) (A : Atoms 𝓤) (W : Given
 
   exits : Room T.the-row (length ys) → Is T.the-row h (mach ∷ [])
       → ent 𝓤 (⋆ 𝓤 H A (‵ (fobs γ (codedHoleys T.the-row .code (heres T.the-row zs))) ∷ ‵ (fbor κ (Held T.the-row (length zs) b o γ)) ∷ ‵
-          (flft κ q) ∷ [])) (Post vunit)
+      (flft κ q) ∷ [])) (Post vunit)
   exits room is =
       qed W (‵ (fobs γ (codedHoleys T.the-row .code (heres T.the-row zs))) ∷ ‵ (fbor κ (Held T.the-row (length zs) b o γ)) ∷ ‵ (flft κ q) ∷ []) ∵
       suffices ! _ (ends-at 𝓤 H A push.ended stayed (push.clauses 𝓤 H A mem run) W (((κ, tt), (q, tt), tt, a, vals), tt) vunit tt
-            (zs, (tt, (tt, tt))) (length-set ys n h, (tt, (tt, tt)))) $ says ! refl $
+      (zs, (tt, (tt, tt))) (length-set ys n h, (tt, (tt, tt)))) $ says ! refl $
       nothing ! $ move ! (3 ∷ 0 ∷ []) $ join ! $ frame ! $
       -- [obs; the borrow]: with the fact on the machine value it is what the slice owns
-      fjoin ! $ pureI ! (at-slice T.the-row (x zs) (s ∷ [])) (tt, (tt, tt))
-          (ap (λ (m : ℕ). sliceVal (b, o) m ∷ []) (sym (length-set ys n h)), subst (Room T.the-row)
-            (sym (length-set ys n h)) room) $ fjoin ! $
+      fjoin ! $ pureI ! (at-slice T.the-row (x zs) (s ∷ [])) (tt, (tt, tt)) (
+        ap (λ (m : ℕ). sliceVal (b, o) m ∷ []) (sym (length-set ys n h)),
+        subst (Room T.the-row)
+            (sym (length-set ys n h)) room,
+      ) $ fjoin ! $
       nothing ! $ owned ! T.the-row (Is T.the-row) (LL.makes T.the-type T′.the-plain 𝓤 H A) h _ is $ fjoin ! $ owned ! usize (Is usize)
-          (uint-makes 𝓤 H A W w64) n _ (refl, n-fits) $ fjoin ! $ move ! (1 ∷ 0 ∷ []) $ fjoin ! $
+      (uint-makes 𝓤 H A W w64) n _ (refl, n-fits) $ fjoin ! $ move ! (1 ∷ 0 ∷ []) $ fjoin ! $
       feqI ! (List Val) (vunit ∷ []) (vunit ∷ []) refl $ move ! (1 ∷ 0 ∷ []) $ done !
 
   module _ (C : Calls 𝓤 H) (Λ : Loops 𝓤 H) where
@@ -101,46 +124,48 @@ module _ {M : Type 1} (𝓤 : URA M) (H : Heap 𝓤) (A : Atoms 𝓤) (W : Given
         let typed = LL.lawful T.the-type T′.the-laws 𝓤 H A W .typed h _ is .0 in
         let far : n * 8 < 2 ^ 64 = omega (arith, room .1, within) in
         qed W ((‵ (flft κ q) ⊛ ‵ ftrue) ∷ ‵ (owns (MutSlice (named 0) κ T.the-row ∷ usize ∷ T.the-row ∷ []) a vals) ∷ []) ∵ enter ! C Λ
-            code.function (s ∷ vint w64 n ∷ mach ∷ []) _ $
+        code.function (s ∷ vint w64 n ∷ mach ∷ []) _ $
         alloc1 ! (λ l₀. alloc1 ! (λ l₁. alloc1 ! (λ l₂. alloc1 ! (λ l₃. alloc1 ! (λ l₄. alloc1 ! (λ l₅. alloc0 ! $ params1 ! $
         pass1 ! (init ! 8 refl (tt, (tt, (record { fits = room .0 }, tt)))) $ pass1 !
-            (init ! 6 refl (tt, record { fits = n-fits })) $ pass1 ! (init ! 4 refl typed) $ pass0 ! $
+        (init ! 6 refl (tt, record { fits = n-fits })) $ pass1 ! (init ! 4 refl typed) $ pass0 ! $
         -- [_5; …; _4; …; _3; …; _2; …; _1; …; room for _0; …; the token; what the parameters own]
         assigns ! (bin ! (load ! (from ! (stop !)) (look ! 6 refl)) (lit ! tt) (record { fits = far })) (from ! (stop !))
-            (init ! 2 refl (tt, record { fits = far })) $
+        (init ! 2 refl (tt, record { fits = far })) $
         assigns ! (bin ! (load ! (from ! (fld ! refl (stop !))) (look-in ! 8 (sub ! 0 refl (whole !))))
-              (load ! (from ! (stop !)) (look ! 2 refl)) tt) (from ! (stop !)) (init ! 0 refl (tt, tt)) $
+        (load ! (from ! (stop !)) (look ! 2 refl)) tt) (from ! (stop !)) (init ! 0 refl (tt, tt)) $
         rewrite ! 0 (λ (p : ℕ). ‵ (fat fullShare tyPtr l₅ 0 (vptr b p))) (sym (place-is 8 o n)) refl $
         -- the borrow is opened
         move ! (13 ∷ []) $ fsplit ! $ fsplit ! $ drop ! $ fsplit ! $ move ! (15 ∷ []) $ split ! $ move ! (2 ∷ 3 ∷ 0 ∷ []) $
         opens-slice ! tt T.the-row ys b o $ elem-out ! T.the-row (Is T.the-row) (shows 𝓤 H A T.the-row) (LL.vals T.the-type T′.the-laws)
-            (LL.tells T.the-type T′.the-laws) fullShare ys n noNode b o within (λ _.
+        (LL.tells T.the-type T′.the-laws) fullShare ys n noNode b o within (λ _.
         -- [stack[top]; what it owns; the others; the open borrow; obs; auth; …; …; _5; …; _4; …; _3; …; _2; …; _1; …; room for _0; …]
         assigns ! (of-opd ! (load ! (from ! (stop !)) (look ! 12 refl))) (from ! (hop ! (look ! 8 refl) (stop !))) (store-raw ! 0 refl typed) $
         move ! (1 ∷ []) $ drop ! $ owned ! T.the-row (Is T.the-row) (LL.makes T.the-type T′.the-plain 𝓤 H A) h _ is $ move !
-            (1 ∷ 0 ∷ []) $ elem-put ! T.the-row fullShare ys n h (mach ∷ []) b o within $
+        (1 ∷ 0 ∷ []) $ elem-put ! T.the-row fullShare ys n h (mach ∷ []) b o within $
         closes-slice ! tt T.the-row ys zs (length-set ys n h) b o $
         assigns ! (of-opd ! (unit-lit !)) (from ! (stop !)) (init ! 15 refl (tt, tt)) $
         returns ! (look ! 15 refl) $ forget ! 5 refl $ forget ! 7 refl $ forget ! 9 refl $ forget ! 11 refl $ forget ! 13 refl $ forget ! 15 refl $
         move ! (15 ∷ 16 ∷ []) $ free1 ! $ move ! (13 ∷ 14 ∷ []) $ free1 ! $ move ! (11 ∷ 12 ∷ []) $ free1 ! $ move !
-            (9 ∷ 10 ∷ []) $ free1 ! $ move ! (7 ∷ 8 ∷ []) $ free1 ! $ move ! (5 ∷ 6 ∷ []) $ free1 ! $ free0 ! $
+        (9 ∷ 10 ∷ []) $ free1 ! $ move ! (7 ∷ 8 ∷ []) $ free1 ! $ move ! (5 ∷ 6 ∷ []) $ free1 ! $ free0 ! $
         keep ! (0 ∷ 1 ∷ 2 ∷ []) $ by ! (exits room is))))))))
 
 module _ {M : Type 1} (𝓤 : URA M) (H : Heap 𝓤) (A : Atoms 𝓤) (W : Given 𝓤 H A) (mem : Memory → SProp 𝓤) (run : Routine → Fun 𝓤) where
   push-walks : (C : Calls 𝓤 H) (Λ : Loops 𝓤 H) → Walks 𝓤 H A push.ended stayed (WpFn 𝓤 H C Λ code.function) (push.clauses 𝓤 H A mem run)
   push-walks C Λ = walked 𝓤 H A push.ended stayed (push.clauses 𝓤 H A mem run) (WpFn 𝓤 H C Λ code.function)
       (λ κs. (slice-vals, (uint-vals w64, (LL.vals T.the-type T′.the-laws, tt))))
-          (λ κs. (mut-slice-tells (named 0) (κs .0) T.the-row, (uint-tells w64, (LL.tells T.the-type T′.the-laws, tt))))
+      (λ κs. (mut-slice-tells (named 0) (κs .0) T.the-row, (uint-tells w64, (LL.tells T.the-type T′.the-laws, tt))))
       (λ κs qs bounds a g are. needs 𝓤 (a .1 .0 < length (a .0 .now)) _ (λ within.
       walk 𝓤 H A W mem run (κs .0) (qs .0) (a .0 .ptr .0) (a .0 .ptr .1) (a .0 .name) (a .0 .now) (a .1 .0) (a .1 .1 .0) (are .1 .0 .1) C Λ
-          (are .1 .1 .0) (are .0 .0 .1) within))
+      (are .1 .1 .0) (are .0 .0 .1) within))
 
 push-meets : {M : Type 1} (𝓤 : URA M) (H : Heap 𝓤) (A : Atoms 𝓤) → Given 𝓤 H A → (mem : Memory → SProp 𝓤) (run : Routine → Fun 𝓤) (𝓣 : Tables 𝓤 H)
     → Meets 𝓤 H A push.signature (WpFn 𝓤 H (𝓣 .C) (𝓣 .Λ) code.function) (push.spec 𝓤 H A mem run)
 push-meets 𝓤 H A W mem run 𝓣 =
-    walk-meets 𝓤 H A push.ended stayed W (goes-slice 𝓤 H A W 1 0 tt (plain (λ _. T.the-row)),
-          (goes-none 𝓤 H A W 1 (λ _. usize) yes (λ κs x f. refl), (goes-none 𝓤 H A W 1 (λ _. T.the-row) yes (λ κs x f. refl), tt)))
-        (push.clauses 𝓤 H A mem run)
+    walk-meets 𝓤 H A push.ended stayed W (
+      goes-slice 𝓤 H A W 1 0 tt (plain (λ _. T.the-row)),
+      (goes-none 𝓤 H A W 1 (λ _. usize) yes (λ κs x f. refl), (goes-none 𝓤 H A W 1 (λ _. T.the-row) yes (λ κs x f. refl), tt)),
+    )
+    (push.clauses 𝓤 H A mem run)
     (WpFn 𝓤 H (𝓣 .C) (𝓣 .Λ) code.function) (WpFn-mono 𝓤 H (W .laws) 𝓣 code.function) (push-walks 𝓤 H A W mem run (𝓣 .C) (𝓣 .Λ))
 
 pub push-spec : {M : Type 1} → stated.statement M

@@ -33,9 +33,16 @@ use Rattle.synthesis.proofs.turns.Code.Mir as mir
 abbrev pub stayed : Stays (turns.ended .signature .params) (turns.ended .kept)
 stayed = (
   stay-none-slice (0 ∷ []) tt (plain (λ _. u8)) yes,
-  (stay-none-ref (1 ∷ []) tt (ArrayOf (plain (λ _. u16)) (λ _. tt) 2048) yes,
-        (stay-slice (2 ∷ []) tt (plain (λ _. TO.the-row)), (stay-slice (3 ∷ []) tt (plain (λ _. u8)),
-            (stay-none (λ _. TO.the-row) yes, (stay-none (λ _. TS.the-row) yes, tt))))),
+  (
+    stay-none-ref (1 ∷ []) tt (ArrayOf (plain (λ _. u16)) (λ _. tt) 2048) yes,
+    (
+      stay-slice (2 ∷ []) tt (plain (λ _. TO.the-row)),
+      (
+        stay-slice (3 ∷ []) tt (plain (λ _. u8)),
+        (stay-none (λ _. TO.the-row) yes, (stay-none (λ _. TS.the-row) yes, tt)),
+      ),
+    ),
+  ),
 )
 
 -- ---- its own pieces of the MIR

@@ -22,8 +22,38 @@ use ghost.Atoms.{Atoms, sem}
 use contract.Monad.{Fun, fact}
 use types.Kit.{Given, Item, Sq, runs, anyQ, ‵, raw, _⊛_, ⋆, some, later, _$_, _∵_, !, qed, by, move, drop, use1, use2, use3, rewrite, split, join, pick, fsplit, fjoin, feqL, suffices, frame, await, done}
 use types.Run.{
-  look, init, store, forget, stop, hop, fld, from, load, addr, of-opd, and-then, no-more, assigns, assigns-last, land, first, blocks, switches-on, exec,
-  returns-within, enter, alloc1, alloc0, params1, pass1, pass0, free1, free0, Below, again, loops
+  look,
+  init,
+  store,
+  forget,
+  stop,
+  hop,
+  fld,
+  from,
+  load,
+  addr,
+  of-opd,
+  and-then,
+  no-more,
+  assigns,
+  assigns-last,
+  land,
+  first,
+  blocks,
+  switches-on,
+  exec,
+  returns-within,
+  enter,
+  alloc1,
+  alloc0,
+  params1,
+  pass1,
+  pass0,
+  free1,
+  free0,
+  Below,
+  again,
+  loops,
 }
 use types.Part.{agg, whole, sub, look-in}
 use types.Match.{vrt, look-tag, in-variant}
@@ -190,8 +220,8 @@ module _ {M : Type 1} (𝓤 : URA M) (H : Heap 𝓤) (A : Atoms 𝓤) (W : Given
       -- after the call: what it answered lies in `_9`
       abbrev Answered : Now → Turned → List ℕ → List (Item 𝓤)
       Answered x r ts = with-refs (x .os) ts (no 21 l₂₁ (no 20 l₂₀ (no 19 l₁₉
-                (no 18 l₁₈ (no 17 l₁₇ (has 16 l₁₆ yV (has 15 l₁₅ (vptr b₃ o₃) (no 14 l₁₄
-                    (no 13 l₁₃ (no 12 l₁₂ (no 11 l₁₁ (no 10 l₁₀ (has 9 l₉ (TT′.lowered r) (low-locals (x .nd) (x .st)))))))))))))))
+          (no 18 l₁₈ (no 17 l₁₇ (has 16 l₁₆ yV (has 15 l₁₅ (vptr b₃ o₃) (no 14 l₁₄
+          (no 13 l₁₃ (no 12 l₁₂ (no 11 l₁₁ (no 10 l₁₀ (has 9 l₉ (TT′.lowered r) (low-locals (x .nd) (x .st)))))))))))))))
 
       room-at : (x : Now) → x .st .top < 2048
       room-at x = going-room nd₀ (s .now) (lv .now) ts₀ st₀ pre (x .os) (x .ts) (x .nd) (x .st) (x .going)
@@ -214,7 +244,7 @@ module _ {M : Type 1} (𝓤 : URA M) (H : Heap 𝓤) (A : Atoms 𝓤) (W : Given
           let within : x .st .top < length (x .os) = omega (arith, room-at x, x .k-long, long) in
           qed W (‵ (flft (ν ∷ []) fullShare) ∷ ‵ (Kδ x ν δ) ∷ []) ∵ says ! within $ nothing ! $ move ! (1 ∷ 0 ∷ []) $ join ! $ frame ! $
           nothing ! $ owned ! TO.the-row (Is TO.the-row) (LL.makes TO.the-type TO′.the-plain 𝓤 H A) u _ is $ fjoin ! $ owned ! usize (Is usize) (uint-makes 𝓤 H A W w64)
-              (x .st .top) _ (refl, omega (arith, room-at x)) $ fjoin ! $ move ! (1 ∷ 0 ∷ []) $ fjoin ! $ done !
+          (x .st .top) _ (refl, omega (arith, room-at x)) $ fjoin ! $ move ! (1 ∷ 0 ∷ []) $ fjoin ! $ done !
 
       abbrev to-pop : Now → ℕ → ℕ → GName → Pop 𝓤 H A mem run .Ghost
       to-pop x i ν δ = (((ν ∷ [], tt), (fullShare, tt), tt, (kx δ (x .os), (i, tt)), (kV ∷ [], (vint w64 i ∷ [], tt))), tt)
@@ -231,7 +261,7 @@ module _ {M : Type 1} (𝓤 : URA M) (H : Heap 𝓤) (A : Atoms 𝓤) (W : Given
       exits os ts v lo l is post =
           qed W (with-refs os ts []) ∵
           suffices ! _ (ends-at 𝓤 H A turns.ended stayed (turns.clauses 𝓤 H A mem run) W (((κ₀, (κ₁, (κ₂, (κ₃, tt)))), (q₀, (q₁, (q₂, (q₃, tt)))), tt, a, vals), tt)
-                (TR′.lowered v) v (tt, (tt, (os, (ts, (tt, (tt, tt)))))) (tt, (tt, (lo, (l, (tt, (tt, tt))))))) $ says ! post $
+          (TR′.lowered v) v (tt, (tt, (os, (ts, (tt, (tt, tt)))))) (tt, (tt, (lo, (l, (tt, (tt, tt))))))) $ says ! post $
           nothing ! $ move ! (4 ∷ 0 ∷ []) $ join ! $ move ! (3 ∷ 0 ∷ []) $ join ! $ move ! (2 ∷ 0 ∷ []) $ join ! $ move ! (1 ∷ 0 ∷ []) $ join ! $ frame ! $
           nothing ! $ owned ! TS.the-row (Is TS.the-row) (LL.makes TS.the-type TS′.the-plain 𝓤 H A) st₀ _ st₀-is $ fjoin ! $ owned ! TO.the-row (Is TO.the-row) (LL.makes TO.the-type TO′.the-plain 𝓤 H A) nd₀ _ nd₀-is $ fjoin ! $
           move ! (4 ∷ 0 ∷ []) $ fjoin ! $ move ! (3 ∷ 0 ∷ []) $ fjoin ! $ move ! (2 ∷ 0 ∷ []) $ fjoin ! $ move ! (1 ∷ 0 ∷ []) $ fjoin ! $
@@ -252,20 +282,20 @@ module _ {M : Type 1} (𝓤 : URA M) (H : Heap 𝓤) (A : Atoms 𝓤) (W : Given
           assigns ! (of-opd ! (load ! (from ! (vrt ! refl (fld ! refl (stop !)))) (look-in ! 32 (in-variant ! 0 2 refl refl (whole !))))) (from ! (stop !)) (init ! 26 refl (state-typed st′ st-is)) $
           assigns ! (addr ! (from ! (fld ! refl (hop ! (look-in ! 44 (sub ! 0 refl (whole !))) (stop !))))) (from ! (stop !)) (init ! 14 refl (tt, tt)) $
           assigns ! (agg ! (and-then ! (load ! (from ! (stop !)) (look ! 14 refl))
-                  (and-then ! (load ! (from ! (fld ! refl (stop !))) (look-in ! 44 (sub ! 1 refl (whole !)))) (no-more !)))) (from ! (stop !))
-              (init ! 12 refl (tt, (tt, (record { fits = k-room .0 }, tt)))) $
+          (and-then ! (load ! (from ! (fld ! refl (stop !))) (look-in ! 44 (sub ! 1 refl (whole !)))) (no-more !)))) (from ! (stop !))
+          (init ! 12 refl (tt, (tt, (record { fits = k-room .0 }, tt)))) $
           -- `push`: the stack is lent again
           lft-new ! tt (λ ν. move ! (7 ∷ 3 ∷ []) $
           use2 W (later (some (λ (δ : GName). ‵ (Kδ x ν δ) ⊛ ‵ (LentAgain TO.the-row κ₂ (ν ∷ []) q₂ γ₂ b₂ o₂ δ (x .os)))))
-              (lends-at TO.the-row κ₂ (ν ∷ []) q₂ γ₂ b₂ o₂ 𝓤 H A W (named 2) (named 0) (x .os) (length os₀) (x .k-long)) $ await ! tt $ pick ! (λ δ. split ! $
+          (lends-at TO.the-row κ₂ (ν ∷ []) q₂ γ₂ b₂ o₂ 𝓤 H A W (named 2) (named 0) (x .os) (length os₀) (x .k-long)) $ await ! tt $ pick ! (λ δ. split ! $
           move ! (2 ∷ 0 ∷ []) $ use2 W (raw (Push 𝓤 H A mem run .pre (to-push x u ν δ))) (goes-push x u ν δ u-is) $
           calls-at ! fm (Push 𝓤 H A mem run) known-push (to-push x u ν δ) (and-then ! (load ! (from ! (stop !)) (look ! 12 refl))
-                (and-then ! (load ! (from ! (fld ! refl (stop !))) (look-in ! 34 (sub ! 3 refl (whole !))))
-                  (and-then ! (load ! (from ! (stop !)) (look ! 30 refl)) (no-more !)))) (λ w.
+          (and-then ! (load ! (from ! (fld ! refl (stop !))) (look-in ! 34 (sub ! 3 refl (whole !))))
+          (and-then ! (load ! (from ! (stop !)) (look ! 30 refl)) (no-more !)))) (λ w.
           use1 W (later (some (λ (r : Unit {0}). ((‵ (flft (ν ∷ []) fullShare) ⊛ ‵ ftrue) ⊛ ‵ (unit .own r (w ∷ []))) ⊛ raw
-                    (ensured 𝓤 H A push.ended (push.clauses 𝓤 H A mem run) (ν ∷ [], tt) (kx δ (x .os), (x .st .top, (u, tt))) tt r)))) (id⊢ 𝓤 _) $ await ! tt $ pick ! (λ r.
+          (ensured 𝓤 H A push.ended (push.clauses 𝓤 H A mem run) (ν ∷ [], tt) (kx δ (x .os), (x .st .top, (u, tt))) tt r)))) (id⊢ 𝓤 _) $ await ! tt $ pick ! (λ r.
           split ! $ move ! (1 ∷ []) $ use1 W (some (λ (zs : List OpenNode × (Unit {0} × (Unit {0} × Unit {0}))). ‵
-                  (lasts push.ended (ν ∷ [], tt) (kx δ (x .os), (x .st .top, (u, tt))) zs) ⊛ raw (fact 𝓤 (zs .0 ≡ set (x .os) (x .st .top) u)))) (id⊢ 𝓤 _) $ pick ! (λ zs.
+          (lasts push.ended (ν ∷ [], tt) (kx δ (x .os), (x .st .top, (u, tt))) zs) ⊛ raw (fact 𝓤 (zs .0 ≡ set (x .os) (x .st .top) u)))) (id⊢ 𝓤 _) $ pick ! (λ zs.
           split ! $ move ! (1 ∷ []) $ heard ! (zs .0 ≡ set (x .os) (x .st .top) u) (λ e. fsplit ! $ fsplit ! $ move ! (1 ∷ []) $ feqL ! (λ lz.
           move ! (2 ∷ []) $ split ! $ move ! (1 ∷ []) $ feqL ! (λ ew.
           land ! (from ! (stop !)) (init ! 18 refl (subst (λ (v : Val). Holds (hasTy tyUnit v) × WT v) (sym (ap only ew)) (tt, tt))) $ split ! $
@@ -294,16 +324,16 @@ module _ {M : Type 1} (𝓤 : URA M) (H : Heap 𝓤) (A : Atoms 𝓤) (W : Given
           assigns ! (of-opd ! (load ! (from ! (vrt ! refl (fld ! refl (stop !)))) (look-in ! 32 (in-variant ! 1 0 refl refl (whole !))))) (from ! (stop !)) (init ! 24 refl (state-typed st′ st-is)) $
           assigns ! (addr ! (from ! (fld ! refl (hop ! (look-in ! 44 (sub ! 0 refl (whole !))) (stop !))))) (from ! (stop !)) (init ! 10 refl (tt, tt)) $
           assigns ! (agg ! (and-then ! (load ! (from ! (stop !)) (look ! 10 refl))
-                  (and-then ! (load ! (from ! (fld ! refl (stop !))) (look-in ! 44 (sub ! 1 refl (whole !)))) (no-more !)))) (from ! (stop !))
-              (init ! 8 refl (tt, (tt, (record { fits = k-room .0 }, tt)))) $
+          (and-then ! (load ! (from ! (fld ! refl (stop !))) (look-in ! 44 (sub ! 1 refl (whole !)))) (no-more !)))) (from ! (stop !))
+          (init ! 8 refl (tt, (tt, (record { fits = k-room .0 }, tt)))) $
           -- `pop`: the stack is lent again
           lft-new ! tt (λ ν. move ! (7 ∷ 3 ∷ []) $
           use2 W (later (some (λ (δ : GName). ‵ (Kδ x ν δ) ⊛ ‵ (LentAgain TO.the-row κ₂ (ν ∷ []) q₂ γ₂ b₂ o₂ δ (x .os)))))
-              (lends-at TO.the-row κ₂ (ν ∷ []) q₂ γ₂ b₂ o₂ 𝓤 H A W (named 2) (named 0) (x .os) (length os₀) (x .k-long)) $ await ! tt $ pick ! (λ δ. split ! $
+          (lends-at TO.the-row κ₂ (ν ∷ []) q₂ γ₂ b₂ o₂ 𝓤 H A W (named 2) (named 0) (x .os) (length os₀) (x .k-long)) $ await ! tt $ pick ! (λ δ. split ! $
           move ! (2 ∷ 0 ∷ []) $ use2 W (raw (Pop 𝓤 H A mem run .pre (to-pop x i ν δ))) (goes-pop x i ν δ (up-room nd₀ (s .now) (lv .now) ts₀ st₀ pre (x .os) (x .ts) (x .nd) (x .st) (x .going) ts (U.Up st′) sp st′ refl)) $
           calls-at ! fm (Pop 𝓤 H A mem run) known-pop (to-pop x i ν δ) (and-then ! (load ! (from ! (stop !)) (look ! 8 refl)) (and-then ! (load ! (from ! (fld ! refl (stop !))) (look-in ! 24 (sub ! 3 refl (whole !)))) (no-more !))) (λ w.
           use1 W (later (some (λ (r : OpenNode). ((‵ (flft (ν ∷ []) fullShare) ⊛ ‵ ftrue) ⊛ ‵ (TO.the-row .own r (w ∷ []))) ⊛ raw
-                    (ensured 𝓤 H A pop.ended (pop.clauses 𝓤 H A mem run) (ν ∷ [], tt) (kx δ (x .os), (i, tt)) tt r)))) (id⊢ 𝓤 _) $ await ! tt $ pick ! (λ r.
+          (ensured 𝓤 H A pop.ended (pop.clauses 𝓤 H A mem run) (ν ∷ [], tt) (kx δ (x .os), (i, tt)) tt r)))) (id⊢ 𝓤 _) $ await ! tt $ pick ! (λ r.
           split ! $ move ! (1 ∷ []) $ use1 W (some (λ (zs : List OpenNode × (Unit {0} × Unit {0})). ‵ (lasts pop.ended (ν ∷ [], tt) (kx δ (x .os), (i, tt)) zs) ⊛ raw (fact 𝓤 ((r ≡ getD (x .os) i noNode) × (zs .0 ≡ x .os))))) (id⊢ 𝓤 _) $ pick ! (λ zs.
           split ! $ move ! (1 ∷ []) $ heard ! ((r ≡ getD (x .os) i noNode) × (zs .0 ≡ x .os)) (λ e. fsplit ! $ fsplit ! $ move ! (1 ∷ []) $ feqL ! (λ lz.
           move ! (2 ∷ []) $ split ! $ move ! (1 ∷ []) $ peeks ! TO.the-row (Is TO.the-row) (shows 𝓤 H A TO.the-row) r (w ∷ []) (λ pis.
@@ -337,11 +367,11 @@ module _ {M : Type 1} (𝓤 : URA M) (H : Heap 𝓤) (A : Atoms 𝓤) (W : Given
           returns-within ! Post refl (look ! 50 refl) $
           forget ! 18 refl $ forget ! 20 refl $ forget ! 22 refl $ forget ! 32 refl $ forget ! 34 refl $ forget ! 36 refl $ forget ! 38 refl $ forget ! 40 refl $ forget ! 42 refl $ forget ! 44 refl $ forget ! 46 refl $ forget ! 48 refl $ forget ! 50 refl $
           move ! (50 ∷ 51 ∷ []) $ free1 ! $ move ! (48 ∷ 49 ∷ []) $ free1 ! $ move ! (46 ∷ 47 ∷ []) $ free1 ! $ move ! (44 ∷ 45 ∷ []) $ free1 ! $ move !
-              (42 ∷ 43 ∷ []) $ free1 ! $ move ! (40 ∷ 41 ∷ []) $ free1 ! $ move ! (38 ∷ 39 ∷ []) $ free1 ! $ move ! (36 ∷ 37 ∷ []) $ free1 ! $ move !
-              (34 ∷ 35 ∷ []) $ free1 ! $ move ! (32 ∷ 33 ∷ []) $ free1 ! $ move ! (30 ∷ 31 ∷ []) $ free1 ! $ move ! (28 ∷ 29 ∷ []) $ free1 ! $ move !
-              (26 ∷ 27 ∷ []) $ free1 ! $ move ! (24 ∷ 25 ∷ []) $ free1 ! $ move ! (22 ∷ 23 ∷ []) $ free1 ! $ move ! (20 ∷ 21 ∷ []) $ free1 ! $ move !
-              (18 ∷ 19 ∷ []) $ free1 ! $ move ! (16 ∷ 17 ∷ []) $ free1 ! $ move ! (14 ∷ 15 ∷ []) $ free1 ! $ move ! (12 ∷ 13 ∷ []) $ free1 ! $ move !
-              (10 ∷ 11 ∷ []) $ free1 ! $ move ! (8 ∷ 9 ∷ []) $ free1 ! $ free0 ! $
+          (42 ∷ 43 ∷ []) $ free1 ! $ move ! (40 ∷ 41 ∷ []) $ free1 ! $ move ! (38 ∷ 39 ∷ []) $ free1 ! $ move ! (36 ∷ 37 ∷ []) $ free1 ! $ move !
+          (34 ∷ 35 ∷ []) $ free1 ! $ move ! (32 ∷ 33 ∷ []) $ free1 ! $ move ! (30 ∷ 31 ∷ []) $ free1 ! $ move ! (28 ∷ 29 ∷ []) $ free1 ! $ move !
+          (26 ∷ 27 ∷ []) $ free1 ! $ move ! (24 ∷ 25 ∷ []) $ free1 ! $ move ! (22 ∷ 23 ∷ []) $ free1 ! $ move ! (20 ∷ 21 ∷ []) $ free1 ! $ move !
+          (18 ∷ 19 ∷ []) $ free1 ! $ move ! (16 ∷ 17 ∷ []) $ free1 ! $ move ! (14 ∷ 15 ∷ []) $ free1 ! $ move ! (12 ∷ 13 ∷ []) $ free1 ! $ move !
+          (10 ∷ 11 ∷ []) $ free1 ! $ move ! (8 ∷ 9 ∷ []) $ free1 ! $ free0 ! $
           by ! (exits (x .os) ts v (x .k-long) l v-is (going-done nd₀ (s .now) (lv .now) ts₀ st₀ pre (x .os) (x .ts) (x .nd) (x .st) (x .going) ts (U.Done v) sp v refl))
 
       turn : (x : Now) → Sq W (I x) (runs C Λ E mir.turn-1 (anyQ (Next x)))
@@ -349,8 +379,8 @@ module _ {M : Type 1} (𝓤 : URA M) (H : Heap 𝓤) (A : Atoms 𝓤) (W : Given
       turn x =
           assigns ! (addr ! (from ! (fld ! refl (hop ! (look-in ! 42 (sub ! 0 refl (whole !))) (stop !))))) (from ! (stop !)) (init ! 20 refl (tt, tt)) $
           assigns ! (agg ! (and-then ! (load ! (from ! (stop !)) (look ! 20 refl))
-                  (and-then ! (load ! (from ! (fld ! refl (stop !))) (look-in ! 42 (sub ! 1 refl (whole !)))) (no-more !)))) (from ! (stop !))
-              (init ! 18 refl (tt, (tt, (record { fits = y-room .0 }, tt)))) $
+          (and-then ! (load ! (from ! (fld ! refl (stop !))) (look-in ! 42 (sub ! 1 refl (whole !)))) (no-more !)))) (from ! (stop !))
+          (init ! 18 refl (tt, (tt, (record { fits = y-room .0 }, tt)))) $
           -- `one_turn`: the shared references are copied, and the buffer is lent again
           move ! (4 ∷ []) $ use1 W (‵ S ⊛ ‵ S) (shr-slice-copy 𝓤 H A W (named 0) κ₀ u8 .twice s (sV ∷ [])) $ split ! $
           move ! (6 ∷ []) $ use1 W (‵ L ⊛ ‵ L) (shr-copy 𝓤 H A W (named 1) κ₁ (Array u16 tt 2048) .twice lv (lV ∷ [])) $ split ! $
@@ -361,8 +391,8 @@ module _ {M : Type 1} (𝓤 : URA M) (H : Heap 𝓤) (A : Atoms 𝓤) (W : Given
           move ! (7 ∷ 8 ∷ 2 ∷ 5 ∷ 3 ∷ 0 ∷ []) $ join ! $ join ! $ join ! $ join ! $ join ! $ use1 W (raw (Turn 𝓤 H A mem run .pre (to-turn x ν δ))) (goes-turn x ν δ) $
           -- [what is asked; what is kept of the buffer; L; S; token 2; K; the locals]
           calls-at ! fm (Turn 𝓤 H A mem run) known (to-turn x ν δ) (and-then ! (load ! (from ! (stop !)) (look ! 46 refl))
-                (and-then ! (load ! (from ! (stop !)) (look ! 44 refl)) (and-then ! (load ! (from ! (stop !)) (look ! 16 refl))
-                    (and-then ! (load ! (from ! (stop !)) (look ! 34 refl)) (and-then ! (load ! (from ! (stop !)) (look ! 32 refl)) (no-more !)))))) (λ w.
+          (and-then ! (load ! (from ! (stop !)) (look ! 44 refl)) (and-then ! (load ! (from ! (stop !)) (look ! 16 refl))
+          (and-then ! (load ! (from ! (stop !)) (look ! 34 refl)) (and-then ! (load ! (from ! (stop !)) (look ! 32 refl)) (no-more !)))))) (λ w.
           use1 W (later (some (λ (r : Turned). ((‵ (flft κ₀ q₀) ⊛ ‵ (flft κ₁ q₁) ⊛ ‵ (flft (ν ∷ []) fullShare) ⊛ ‵ ftrue) ⊛ ‵ (TT.the-row .own r (w ∷ [])))
           ⊛ raw (ensured 𝓤 H A one-turn.ended (one-turn.clauses 𝓤 H A mem run) (κ₀, (κ₁, (ν ∷ [], tt))) (s, (lv, (yx δ (x .ts), (x .nd, (x .st, tt))))) tt r)))) (id⊢ 𝓤 _) $ await ! tt $ pick ! (λ r.
           -- what it ensures, at some last list of the buffer
@@ -392,12 +422,12 @@ module _ {M : Type 1} (𝓤 : URA M) (H : Heap 𝓤) (A : Atoms 𝓤) (W : Given
         ∷ ‵ (owns (ShrSlice (named 0) κ₀ u8 ∷ ShrRef (named 1) κ₁ (Array u16 tt 2048) ∷ MutSlice (named 2) κ₂ TO.the-row ∷ MutSlice (named 3) κ₃ u8 ∷ TO.the-row ∷ TS.the-row ∷ []) a vals) ∷ []) ∵
         enter ! (𝓣 .C) (𝓣 .Λ) code.function (sV ∷ lV ∷ kV ∷ yV ∷ nodeV nd₀ ∷ stateV st₀ ∷ []) _ $
         alloc1 ! (λ l₀. alloc1 ! (λ l₁. alloc1 ! (λ l₂. alloc1 ! (λ l₃. alloc1 !
-                    (λ l₄. alloc1 ! (λ l₅. alloc1 ! (λ l₆. alloc1 ! (λ l₇. alloc1 !
-                      (λ l₈. alloc1 ! (λ l₉. alloc1 ! (λ l₁₀. alloc1 ! (λ l₁₁. alloc1 !
-                      (λ l₁₂. alloc1 ! (λ l₁₃. alloc1 ! (λ l₁₄. alloc1 ! (λ l₁₅. alloc1 !
-                      (λ l₁₆. alloc1 ! (λ l₁₇. alloc1 ! (λ l₁₈. alloc1 ! (λ l₁₉. alloc1 ! (λ l₂₀. alloc1 ! (λ l₂₁. alloc0 ! $ params1 ! $
+        (λ l₄. alloc1 ! (λ l₅. alloc1 ! (λ l₆. alloc1 ! (λ l₇. alloc1 !
+        (λ l₈. alloc1 ! (λ l₉. alloc1 ! (λ l₁₀. alloc1 ! (λ l₁₁. alloc1 !
+        (λ l₁₂. alloc1 ! (λ l₁₃. alloc1 ! (λ l₁₄. alloc1 ! (λ l₁₅. alloc1 !
+        (λ l₁₆. alloc1 ! (λ l₁₇. alloc1 ! (λ l₁₈. alloc1 ! (λ l₁₉. alloc1 ! (λ l₂₀. alloc1 ! (λ l₂₁. alloc0 ! $ params1 ! $
         pass1 ! (init ! 40 refl (tt, (tt, (record { fits = s-room .0 }, tt)))) $ pass1 ! (init ! 38 refl (tt, tt)) $ pass1 !
-            (init ! 36 refl (tt, (tt, (record { fits = k-room .0 }, tt)))) $ pass1 ! (init ! 34 refl (tt, (tt, (record { fits = y-room .0 }, tt)))) $
+        (init ! 36 refl (tt, (tt, (record { fits = k-room .0 }, tt)))) $ pass1 ! (init ! 34 refl (tt, (tt, (record { fits = y-room .0 }, tt)))) $
         pass1 ! (init ! 32 refl nd-typed) $ pass1 ! (init ! 30 refl st-typed) $ pass0 ! $
         assigns ! (of-opd ! (load ! (from ! (stop !)) (look ! 32 refl))) (from ! (stop !)) (init ! 28 refl nd-typed) $
         assigns ! (of-opd ! (load ! (from ! (stop !)) (look ! 30 refl))) (from ! (stop !)) (init ! 26 refl st-typed) $
