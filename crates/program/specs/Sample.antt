@@ -1,6 +1,7 @@
--- Document 01's own example of the program, by one evaluation of `simplified`: "Input 026C012D02000501019501970300, 02BD0262, 02, an
--- empty line. Output, whole: [..]"
+-- Document 01's own example of the program, a line that is none and a last line without an end, by one evaluation of `simplified`.
 use mathlib.Core.Path.{_≡_, refl}
+use mathlib.Core.List.{List, [], _∷_, map}
+use Prim.Native.Nat.{ℕ}
 use Prim.Native.String.{String}
 use Rattle.frame.specs.Trees.{nodes}
 use Rattle.frame.specs.Tags.{lookup, classOf, formAt}
@@ -27,18 +28,32 @@ use Rattle.run.specs.Run.{firstFrom, firstStep, runTree, run}
 use Rattle.program.specs.Text.{decimalIn, decimal, endedText, refusedText, answerText, lineText}
 use Rattle.program.specs.Stream.{answers, lastLine, simplified}
 
-abbrev input : String
-input = "026C012D02000501019501970300\n02BD0262\n02\n\n"
+data Case : Type 0 where
+  -- an input, and the whole output
+  prints : String → String → Case
 
-abbrev output : String
-output = "REST 4 0262\nREST 1 0263\nREFUSED 3\nREFUSED 2\n"
+cases : List Case
+cases =
+    -- "Input 026C012D02000501019501970300, 02BD0262, 02, an empty line. Output, whole"
+    prints "026C012D02000501019501970300\n02BD0262\n02\n\n" "REST 4 0262\nREST 1 0263\nREFUSED 3\nREFUSED 2\n"
+    -- "1. A text line has an odd count of characters or one outside 0-9, A-F."
+    ∷ prints "026\n02G2\n02bd0262\n" "REFUSED 1\nREFUSED 1\nREFUSED 1\n"
+    -- "bytes after the last 0A are a line too, if there are any"
+    ∷ prints "02BD0262\n0262" "REST 1 0263\nREST 0 0262\n"
+    ∷ []
 
-sample : simplified (codes input) ≡ codes output
+abbrev printed : Case → List ℕ
+printed (prints i o) = simplified (codes i)
+
+abbrev expected : Case → List ℕ
+expected (prints i o) = codes o
+
+sample : map printed cases ≡ map expected cases
 unfolding digitOf readLine digitFor writeLine nodes lookup classOf formAt encNumber encTy encTys encHead enc numberAt tyCase readTy
     readTys
     withNumber withForm readHead readMany readNode parse find replace sameTy sameTys sameTree typeAt typeOf nodeTyped typedTree closedTree
     givensTy givensTys idents givens agrees agreesWithGivens consistent namesAgree checkTree check toExpression onTag contains makeNeg verdict scan
     simplifyAssocPred simplifyPredicateNode rewriteNot rewritePartition uses recovers functionalCheck rewriteFinite anySingle firstSingle
     anyMinus minuends subtrahends interEmpty rewriteEqualsEmptySet rewriteEqualsType dispatch stepTree firstFrom firstStep runTree run
-    decimalIn decimal endedText refusedText answerText lineText answers lastLine simplified
+    decimalIn decimal endedText refusedText answerText lineText answers lastLine simplified cases
 sample = refl
