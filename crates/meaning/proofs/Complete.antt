@@ -3,17 +3,18 @@
 -- as-type-refl (a value at its own type).
 use mathlib.Core.Path.{_≡_, refl, ap, subst-refl, fun-ext}
 use mathlib.Core.Logic.{_↔_, _⊎_, inl, inr}
-use mathlib.Core.Bool.{Bool, true, false, So, false≢true, cond, decide-iff}
+use mathlib.Core.Bool.{Bool, true, false, So, false≢true, cond}
 use mathlib.Core.List.{List, [], _∷_, _++_, map}
 use mathlib.Core.HLevel.{hedberg}
 use mathlib.Core.Option.{some, none}
 use Prim.Native.Nat.{ℕ, zero, suc}
 use native.Mathlib.Decide.{ℕ-discrete}
-use lib.IntN.{ℤ-discrete}
+use lib.IntN.{ℤ, pos, negsuc}
+use borrow.Author.Tests.{eqb-true, eq-eqb}
 use Rattle.frame.specs.Types.{Ty, bool, int, given, pow, prod, Ty-discrete}
 use Rattle.typing.specs.Members.{In}
 use Rattle.typing.proofs.Members.{in-left, in-right}
-use Rattle.meaning.specs.Values.{Elements, listOf, sameElement, pairs, including, subsets, Value, values, same, someOf, everyOf, cast, asType}
+use Rattle.meaning.specs.Values.{Elements, listOf, sameElement, sameInt, pairs, including, subsets, Value, values, same, someOf, everyOf, cast, asType}
 use Rattle.meaning.specs.Premises.{NoInt, Single}
 use Rattle.meaning.proofs.Lists.{iff, so-and, so-or, so-any, so-all, so-beq, In-map}
 
@@ -31,6 +32,14 @@ so-element (suc n) none none = (λ _. refl, λ _. refl)
 so-element (suc n) none (some b) = (λ h. cc, λ e. cc)
 so-element (suc n) (some a) none = (λ h. cc, λ e. cc)
 so-element (suc n) (some a) (some b) = (λ h. ap some (so-element n a b .0 h), λ e. so-element n a b .1 (cc))
+
+-- ---- whole numbers
+so-int : (a b : ℤ) → So (sameInt a b) ↔ (a ≡ b)
+unfolding sameInt
+so-int (pos m) (pos n) = (λ h. ap pos (eqb-true m n h), λ e. eq-eqb m n (cc))
+so-int (pos m) (negsuc n) = (λ h. cc, λ e. cc)
+so-int (negsuc m) (pos n) = (λ h. cc, λ e. cc)
+so-int (negsuc m) (negsuc n) = (λ h. ap negsuc (eqb-true m n h), λ e. eq-eqb m n (cc))
 
 -- ---- pairs
 all-pairs : {A B : Type 0} (a : A) (b : B) (l : List A) (m : List B) → In a l → In b m → In (a, b) (pairs l m)
@@ -108,7 +117,7 @@ module _ (size : ℕ → ℕ) where
   pub so-same : (t : Ty) → Single t → (a b : Value size t) → So (same size t a b) ↔ (a ≡ b)
   unfolding same
   so-same bool n a b = so-eq bool n a b
-  so-same int n a b = decide-iff (ℤ-discrete a b)
+  so-same int n a b = so-int a b
   so-same (given k) n a b = so-eq (given k) n a b
   so-same (pow t) n a b = so-eq (pow t) n a b
   so-same (prod t u) n a b = so-eq (prod t u) n a b

@@ -1,7 +1,7 @@
 -- The meaning of trees tells predicates apart: small trees whose truth is known.
 -- Main results: by-interpretation, by-size (predicates that are true here and false there), whole-carrier ({x · ⊤ ∣ x} is
 -- everything), inter-single (inter({S}) = S), over-nothing (inter(∅) breaks the premise), over-one (inter({S}) meets it),
--- premise-needed (an equation that fails without it), not-all-TRUE, some-TRUE (quantifiers), no-sets-of-integers,
+-- premise-needed (an equation that fails without it), not-all-TRUE, some-TRUE (quantifiers), no-sets-of-integers, single-numbers,
 -- not-le-slip, surjective-slip, minus-slip (equations with a slip fail in some interpretation), samples-accepted (`check`
 -- accepts these trees).
 use mathlib.Core.Path.{_≡_, refl, ap, _∙_}
@@ -184,6 +184,11 @@ by-size = (refl, simp as-type-refl)
 pub no-sets-of-integers : SingleIntegers (leaf #Natural ≐ leaf #Integer) [] → ⊥
 unfolding SingleIntegers typeOf classOf lookup formAt
 no-sets-of-integers s = s .3 .0 .1
+
+-- single numbers are not: ¬(a ≤ b) meets it
+pub single-numbers : SingleIntegers (¬ᵖ (two #Le (identifier 1 int) (identifier 2 int))) []
+unfolding SingleIntegers typeOf classOf lookup formAt
+single-numbers = (tt, tt, tt, ((tt, tt, tt, (((tt, tt), tt, tt, tt), (((tt, tt), tt, tt, tt), tt))), tt))
 
 -- ---- equations with a slip: the two sides differ in some interpretation
 -- ¬(a ≤ b) is not a ≥ b: both are 0

@@ -3,3 +3,4 @@ pub mod Values
 pub mod Operations
 pub mod Meaning
 pub mod Premises
+pub mod Cases

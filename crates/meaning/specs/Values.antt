@@ -1,12 +1,13 @@
 -- Carriers and values (document 01, "Meaning": "Carriers: BOOL two elements, each given set any finite number from 1 up,
 -- products all pairs, powers all subsets." "integers are the whole numbers with sign").
 use mathlib.Core.Path.{_≡_, subst}
-use mathlib.Core.Bool.{Bool, true, false, _&&_, _||_, Bool·beq, decide}
+use mathlib.Core.Bool.{Bool, true, false, _&&_, _||_, Bool·beq}
 use mathlib.Core.List.{List, [], _∷_, _++_, map}
 use mathlib.Core.Option.{Option, some, none}
 use Prim.Native.Nat.{ℕ, zero, suc}
 use native.Mathlib.Decide.{ℕ-discrete}
-use lib.IntN.{ℤ, pos, ℤ-discrete}
+use lib.IntN.{ℤ, pos, negsuc}
+use lib.Dec.{eqb}
 use Rattle.frame.specs.Types.{Ty, bool, int, given, pow, prod, Ty-discrete}
 use Rattle.meaning.specs.Lists.{any, all}
 
@@ -29,6 +30,12 @@ sameElement (suc n) none none = true
 sameElement (suc n) none (some b) = false
 sameElement (suc n) (some a) none = false
 sameElement (suc n) (some a) (some b) = sameElement n a b
+
+unfoldable pub sameInt : ℤ → ℤ → Bool
+sameInt (pos m) (pos n) = eqb m n
+sameInt (pos m) (negsuc n) = false
+sameInt (negsuc m) (pos n) = false
+sameInt (negsuc m) (negsuc n) = eqb m n
 
 module _ {A B : Type 0} where
   unfoldable pub pairs : List A → List B → List (A × B)
@@ -74,7 +81,7 @@ module _ (size : ℕ → ℕ) where
 
     pub same : (t : Ty) → Value t → Value t → Bool
     same bool a b = Bool·beq a b
-    same int a b = decide (ℤ-discrete a b)
+    same int a b = sameInt a b
     same (given n) a b = sameElement (size n) a b
     same (pow t) a b = all (λ x. Bool·beq (a x) (b x)) (values t)
     same (prod t u) a b = same t (a .0) (b .0) && same u (a .1) (b .1)

@@ -2,3 +2,4 @@ pub mod Run
 pub mod Steps
 pub mod UnionFigure
 pub mod Series
+pub mod Cases

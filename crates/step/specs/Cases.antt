@@ -1,5 +1,6 @@
 -- "The starred cases form one table, proved by one evaluation of the definitions": those of document 01, "Frames to try", each by
--- the whole step on bytes, at place 0, with an output of 4,096 bytes. Frames stand here as document 01 writes them.
+-- the whole step on bytes, at place 0, with an output of 4,096 bytes. Frames stand here as document 01 writes them. Then what a step
+-- answers, and what it leaves in the lent output, for each way in which it ends.
 use mathlib.Core.Path.{_≡_, refl}
 use mathlib.Core.List.{List, [], _∷_, map}
 use Prim.Native.Nat.{ℕ}
@@ -24,7 +25,9 @@ use Rattle.rules.specs.Finite.{uses, recovers, functionalCheck, rewriteFinite}
 use Rattle.rules.specs.EqualsEmptySet.{anySingle, firstSingle, anyMinus, minuends, subtrahends, interEmpty, rewriteEqualsEmptySet}
 use Rattle.rules.specs.EqualsType.{rewriteEqualsType}
 use Rattle.rules.specs.Dispatch.{dispatch}
-use Rattle.step.specs.Step.{Outcome, wrote, kept, stepTree, fit, step}
+use Rattle.step.specs.Step.{Outcome, wrote, kept, turnedDown, stepTree, fit, step, stepAnswer, stepOutput}
+use Rattle.step.specs.declared.StepAnswer.{StepAnswer}
+use Rattle.step.specs.declared.StepAnswer.the-variants.{Changed, Unchanged, Refused}
 
 data Case : Type 0 where
   -- a frame, and the frame that it is changed to
@@ -115,3 +118,30 @@ unfolding digitOf readLine bytes nodes lookup classOf formAt encNumber encTy enc
     simplifyAssocPred simplifyPredicateNode rewriteNot rewritePartition uses recovers functionalCheck rewriteFinite anySingle firstSingle
     anyMinus minuends subtrahends interEmpty rewriteEqualsEmptySet rewriteEqualsType dispatch stepTree fit step starred
 starred-cases = refl
+
+-- ---- answers and outputs
+data Lent : Type 0 where
+  -- how a step ends, and the bytes of the lent output; what it answers, and the bytes afterwards
+  lent : Outcome → String → StepAnswer → String → Lent
+
+outputs : List Lent
+outputs =
+    -- "A changed step writes the whole new frame from byte 0; later bytes are kept. Its answer, and a run's, gives the frame's length."
+    lent (wrote (bytes "0263")) "A1A2A3A4" (Changed 2) "0263A3A4"
+    ∷ lent (wrote (bytes "0263")) "A1A2" (Changed 2) "0263"
+    -- "Unchanged writes nothing."
+    ∷ lent kept "A1A2A3A4" Unchanged "A1A2A3A4"
+    -- "Each answers its number alone and leaves the output's old bytes."
+    ∷ lent (turnedDown 3) "A1A2A3A4" (Refused 3) "A1A2A3A4"
+    ∷ lent (turnedDown 12) "A1" (Refused 12) "A1"
+    ∷ []
+
+abbrev answeredFor : Lent → StepAnswer × List ℕ
+answeredFor (lent o d a e) = (stepAnswer o, stepOutput o (bytes d))
+
+abbrev afterwards : Lent → StepAnswer × List ℕ
+afterwards (lent o d a e) = (a, bytes e)
+
+output-cases : map answeredFor outputs ≡ map afterwards outputs
+unfolding digitOf readLine bytes outputs
+output-cases = refl
