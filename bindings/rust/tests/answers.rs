@@ -111,7 +111,7 @@ fn steps_as_the_program() {
 /// Lines and the answers that `simplify` prints.
 #[test]
 fn runs_as_the_program() {
-    let (input, output) = (file("simplify_test", "stdin"), file("simplify_test", "stdout"));
+    let (input, output) = (file("simplify", "stdin"), file("simplify", "stdout"));
     assert_eq!(input.split('\n').count(), output.lines().count());
     let old = lent(FRAME_LIMIT);
     for (line, answer) in input.split('\n').zip(output.lines()) {

@@ -1,8 +1,8 @@
 use lib.Seq.{length-take-le}
 use mathlib.Core.Path.{sym}
 use borrow.Author.Needs.{needs}
-use Rattle.console.proofs.simplify.Statement.{statement}
-use Rattle.console.proofs.simplify.Tie as tie
+use Rattle.simplify.proofs.main.Statement.{statement}
+use Rattle.simplify.proofs.main.Tie as tie
 
 large-buffer-requires : tie.Need-large-buffer-requires
 large-buffer-requires c κs = search needs
@@ -40,8 +40,8 @@ write-all-requires c κs = search needs
 returns : tie.Need-returns
 returns c = search needs
 
-pub simplify-spec : {M : Type 1} → statement M
-simplify-spec =
+pub main-spec : {M : Type 1} → statement M
+main-spec =
     tie.close
     (tie.spec
     large-buffer-requires

@@ -1,6 +1,6 @@
 use borrow.Author.Needs.{needs}
-use Rattle.console.specs.Posts.{Carried}
-use Rattle.console.proofs.Pieces.{part-long, carried-none, carried-more, carried-all}
+use Rattle.simplify.specs.Posts.{Carried}
+use Rattle.simplify.proofs.Pieces.{part-long, carried-none, carried-more, carried-all}
 use native.Mathlib.Omega.{arith}
 use lib.Seq.{length-take-le}
 use Rattle.frame.proofs.Inversion.{true-not}
@@ -8,8 +8,8 @@ use lib.ListN.{length, take}
 use mathlib.Core.Path.{_≡_, refl, sym}
 use denote.Ref.{now}
 use Prim.Native.Nat.{_-_, _≤_}
-use Rattle.console.proofs.write_answers.Statement.{statement}
-use Rattle.console.proofs.write_answers.Tie as tie
+use Rattle.simplify.proofs.write_answers.Statement.{statement}
+use Rattle.simplify.proofs.write_answers.Tie as tie
 
 abbrev Inv-loop : tie.InvT-loop
 Inv-loop piece buf₀ out₀ line₀ at₀ buf out line at = (at ≤ length piece) × (length out ≡ length out₀) × Carried (take at piece) line₀ buf₀ line buf

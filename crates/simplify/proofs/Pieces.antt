@@ -11,7 +11,7 @@ use Rattle.program.specs.Stream.{lastLine}
 use Rattle.answers.specs.Posts.{Holds}
 use Rattle.streaming.specs.StreamPosts.{FeedPost}
 use Rattle.streaming.proofs.Streams.{last-join}
-use Rattle.console.specs.Posts.{Carried}
+use Rattle.simplify.specs.Posts.{Carried}
 
 -- the part of a list from a place on
 abbrev pub part : List ℕ → ℕ → List ℕ

@@ -1,8 +1,8 @@
 use native.Mathlib.Omega.{arith}
 use lib.ListN.{length}
 use mathlib.Core.Path.{_≡_, refl}
-use Rattle.console.proofs.read_all.Statement.{statement}
-use Rattle.console.proofs.read_all.Tie as tie
+use Rattle.simplify.proofs.read_all.Statement.{statement}
+use Rattle.simplify.proofs.read_all.Tie as tie
 
 abbrev Inv-loop : tie.InvT-loop
 Inv-loop input₀ buf₀ out₀ line₀ turns₀ input buf out line turns = (length input ≡ length input₀) × (length out ≡ length out₀)

@@ -1,8 +1,8 @@
 use native.Mathlib.Omega.{arith}
 use borrow.Author.Needs.{needs}
 use Rattle.frame.proofs.Inversion.{true-not}
-use Rattle.console.proofs.read_piece.Statement.{statement}
-use Rattle.console.proofs.read_piece.Tie as tie
+use Rattle.simplify.proofs.read_piece.Statement.{statement}
+use Rattle.simplify.proofs.read_piece.Tie as tie
 
 read-requires : tie.Need-read-requires
 read-requires c κs = search needs
