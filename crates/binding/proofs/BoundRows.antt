@@ -1,163 +1,310 @@
--- Number 8: the ways out of bind_kids and binding_ok.
--- Main results: kids-over, kids-no, kids-yes; frame-refused, frame-bound.
+-- Number 8: the turns of bind_trees and its ways out, and those of binding_ok.
+-- Main results: Going, the invariant of bind_trees; Turn, what a turn of its loop knows; turn-none, turn-leaf (a bound identifier), turn-plain
+-- (a node without binders), types-here, call-here, turn-stop, turn-over (a node with binders); frame-refused, frame-bound.
 use mathlib.Core.Path.{_≡_, refl, sym, ap, ap₂, _∙_, subst}
-use mathlib.Core.Logic.{_⊎_, inl, inr}
-use mathlib.Core.Bool.{Bool, true, false, _&&_}
-use mathlib.Core.List.{List, []}
+use mathlib.Core.Bool.{true, false, and-true}
+use mathlib.Core.List.{List, [], _∷_, append-nil}
 use Prim.Native.Nat.{ℕ, _+_, _-_, _≤_, _<_}
 use native.Mathlib.Omega.{arith}
-use lib.ListN.{length, replicate, length-replicate}
-use Rattle.frame.specs.Trees.{Tree, Forest, nil, cons, nodes, nodesIn}
+use lib.ListN.{length, getD, set, length-set, replicate, length-replicate}
+use Rattle.frame.specs.Trees.{head, Tree, node, Forest, nil, cons, append, count, nodes, nodesIn}
 use Rattle.frame.specs.Tags.{predicate}
-use Rattle.tags.specs.TagCodes.{sortFor, kindsFor}
+use Rattle.frame.specs.Encoding.{enc, encs}
 use Rattle.frame.specs.Reading.{frameLimit}
-use Rattle.frame.specs.Places.{Ctx}
-use Rattle.frame.specs.Spans.{Bytes}
-use Rattle.frame.specs.At.{IsAt, KidsAt}
+use Rattle.frame.specs.Places.{Ctx, under}
+use Rattle.frame.specs.Spans.{Bytes, Spans}
+use Rattle.frame.specs.At.{IsAt}
+use Rattle.heads.specs.HeadPost.{HeadStands}
 use Rattle.frame.proofs.Inversion.{true-not}
-use Rattle.frame.proofs.Extents.{nodes-enc}
-use Rattle.heads.proofs.View.{at-span, at-end, KidsView, kids-none, kids-some}
-use Rattle.typing.specs.Binding.{closedTree, closedForest}
-use Rattle.typing.specs.Leaves.{LeavesAt, LeavesIn}
-use Rattle.binding.specs.Bound.{Opened, Outside, Ready, boundAnswer, Walked, BoundPost, BoundKids, BindingPost}
+use Rattle.frame.proofs.ReadTypes.{tys-long}
+use Rattle.heads.proofs.View.{at-span, at-wf}
+use Rattle.typing.specs.Binding.{boundTag, closedTree, closedForest}
+use Rattle.typing.specs.Leaves.{LeavesAt}
+use Rattle.binding.specs.Bound.{Opened, Outside, Known, Ready, Row, RowHere, OpenPost, BoundRow, BindingPost}
 use Rattle.binding.specs.declared.Bound.{Bound}
 use Rattle.binding.specs.declared.Bound.the-variants.{Ends, Refused}
-use Rattle.binding.proofs.OpenBinders.{opened-below}
-use Rattle.binding.proofs.BinderTags.{leaves-same}
-use Rattle.binding.proofs.BoundWalk.{Walk, KidsHere, OneHere}
+use Rattle.binding.proofs.OpenBinders.{Binders, opened-below}
+use Rattle.binding.proofs.BinderTags.{under-plain, under-binding}
+use Rattle.binding.proofs.BoundWalk.{
+  Walk,
+  WalkAll,
+  answer-no,
+  answer-yes,
+  walk-nil,
+  walk-none,
+  walk-leaf,
+  walk-node,
+  walk-stop,
+  walk-cons,
+  walk-plain,
+}
+use Rattle.binding.proofs.RowNodes.{row-head, row-long, FirstNode, node-of, joined}
 
--- ---- answers
-answer-no : (c : Bool) (q j : ℕ) → Refused ≡ boundAnswer c q j → c ≡ false
-answer-no true q j e = let z : _≡_ {A = ℕ} 0 1 = cc in absurd (omega arith)
-answer-no false q j e = refl
+-- ---- bind_trees: the trees that are left, and what they say of all
+pub record Going (s : List ℕ) (at m depth k : ℕ) (b₀ l₀ : List ℕ) (p left j : ℕ) (b l : List ℕ) : Type 0 where
+  pub ready : Ready s p depth j b l
+  pub here : RowHere s p left depth b
+  pub from : at ≤ p
+  pub back : (b₂ l₂ : List ℕ) (r : Bound) → BoundRow s p left depth j b l b₂ l₂ r → BoundRow s at m depth k b₀ l₀ b₂ l₂ r
 
-answer-yes : (c : Bool) (q j p i : ℕ) → Ends p i ≡ boundAnswer c q j → (c ≡ true) × (p ≡ q) × (i ≡ j)
-answer-yes true q j p i e = (refl, cc, cc)
-answer-yes false q j p i e = let z : _≡_ {A = ℕ} 0 1 = cc in absurd (omega arith)
+pub going-begins : (s : List ℕ) (at m depth k : ℕ) (b l : List ℕ) → Ready s at depth k b l → RowHere s at m depth b
+    → Going s at m depth k b l at m k b l
+going-begins s at m depth k b l y h = record { ready = y; here = h; from = omega arith; back = λ b₂ l₂ r w. w }
 
--- ---- trees in a row
-abbrev WalkAll : List ℕ → Forest → Ctx → ℕ → ℕ → ℕ → List ℕ → List ℕ → List ℕ → List ℕ → Bound → Type 0
-WalkAll s ts Γ depth k q b₀ l₀ b₁ l₁ r = Walked (closedForest ts Γ) (LeavesIn ts Γ k s) depth k (k + nodesIn ts) q b₀ l₀ b₁ l₁ r
+pub going-done : (s : List ℕ) (at m depth k : ℕ) (b₀ l₀ : List ℕ) (p left j : ℕ) (b l : List ℕ)
+    → Going s at m depth k b₀ l₀ p left j b l → left ≤ 0 → BoundRow s at m depth k b₀ l₀ b l (Ends p j)
+unfolding enc
+going-done s at m depth k b₀ l₀ p left j b l w z = w .back b l (Ends p j) (record { by = λ ts Γ q a o. none ts Γ q a })
+  where
+    none : (ts : Forest) (Γ : Ctx) (q : ℕ) → Row s p left ts q → WalkAll s ts Γ depth j q b l b l (Ends p j)
+    none nil Γ q a =
+        let e : q ≡ p = omega (arith, a .span .long) in
+        rw e (walk-nil s Γ depth j p b l (w .ready .binders-size) (w .ready .leaves-size))
+    none (cons t ts) Γ q a = absurd (omega (arith, a .many))
 
-walk-nil : (s : List ℕ) (Γ : Ctx) (depth k q : ℕ) (b l : List ℕ) → length b ≡ 4096 → length l ≡ 2048 → WalkAll s nil Γ depth k q b l b l (Ends q k)
-unfolding closedTree LeavesAt nodes
-walk-nil s Γ depth k q b l bl ll =
-    let z : k ≡ k + 0 = omega arith in
-    record { answer = ap (Ends q) z; leaves = λ f. tt; others = λ i f. refl; kept = λ i f. refl; binders-size = bl; leaves-size = ll }
+-- a turn: the first of the trees that are left, with what the code knows of its head
+pub record Turn (s : List ℕ) (at m depth k : ℕ) (b₀ l₀ : List ℕ) (p left j : ℕ) (b l : List ℕ) (g x tp to c : ℕ) : Type 0 where
+  pub bytes : Bytes s
+  pub going : Going s at m depth k b₀ l₀ p left j b l
+  pub some : 0 < left
+  pub known : Known s p g x tp to c
 
-module _ (s : List ℕ) (t : Tree) (ts : Forest) (Γ : Ctx) (depth k q p : ℕ) (b₀ l₀ b₁ l₁ : List ℕ) where
-  -- what is not of the row is not of its first tree
-  sooner : (i : ℕ) → (i < k) ⊎ (k + (nodes t + nodesIn ts) ≤ i) → (i < k) ⊎ (k + nodes t ≤ i)
-  sooner i (inl h) = inl h
-  sooner i (inr h) = inr (omega arith)
+module _ {s : List ℕ} {at m depth k : ℕ} {b₀ l₀ : List ℕ} {p left j : ℕ} {b l : List ℕ} (w : Going s at m depth k b₀ l₀ p left j b l) (some : 0 < left) where
+  pub turn-head : HeadStands s p
+  turn-head = row-head s p left depth b some (w .here)
 
-  walk-stop : Walk s t Γ depth k p b₀ l₀ b₁ l₁ Refused → WalkAll s (cons t ts) Γ depth k q b₀ l₀ b₁ l₁ Refused
-  unfolding closedTree LeavesAt nodes
-  walk-stop w =
-      let c = answer-no (closedTree t Γ) p (k + nodes t) (w .answer) in
-      let d : (closedTree t Γ && closedForest ts Γ) ≡ false = rw c in
-      record {
-        answer = sym (ap (λ (x : Bool). boundAnswer x q (k + (nodes t + nodesIn ts))) d);
-        leaves = λ f. true-not (sym d ∙ f);
-        others = λ i f. w .others i (sooner i f);
-        kept = w .kept;
-        binders-size = w .binders-size;
-        leaves-size = w .leaves-size;
+  pub turn : Bytes s → {g x tp to c : ℕ} → Known s p g x tp to c → Turn s at m depth k b₀ l₀ p left j b l g x tp to c
+  turn bs kn = record { bytes = bs; going = w; some = some; known = kn }
+
+module _ {s : List ℕ} {at m depth k : ℕ} {b₀ l₀ : List ℕ} {p left j : ℕ} {b l : List ℕ} {g x tp to c : ℕ}
+    (u : Turn s at m depth k b₀ l₀ p left j b l g x tp to c) where
+  abbrev w : Going s at m depth k b₀ l₀ p left j b l
+  w = u .going
+
+  first : (ts : Forest) (q : ℕ) → Row s p left ts q → FirstNode s p left ts q g x tp to c
+  first = node-of s (u .bytes) p left (u .some) g x tp to c (u .known)
+
+  -- the one of the trees that are there
+  abbrev now : FirstNode s p left (w .here .0) (w .here .2) g x tp to c
+  now = first (w .here .0) (w .here .2) (w .here .3)
+
+  pub turn-room : (p + 2 ≤ tp) × (tp ≤ to) × (to ≤ length s) × (j < 2048)
+  turn-room =
+      let v = now .within in
+      let y = w .ready in
+      (v .0, v .1, omega arith, omega (arith, y .fits, y .place))
+
+  pub left-fits : left - 1 + c ≤ length s
+  left-fits = row-long s to (left - 1 + c) _ _ (joined s p left _ _ g x tp to c (u .some) now)
+
+  -- ---- a bound identifier
+  module _ (is : g ≡ boundTag) where
+    pub turn-none : depth ≤ x → BoundRow s at m depth k b₀ l₀ b l Refused
+    turn-none le = w .back b l Refused (record { by = by })
+      where
+        by : (ts : Forest) (Γ : Ctx) (q : ℕ) → Row s p left ts q → Opened s Γ b depth → WalkAll s ts Γ depth j q b l b l Refused
+        by ts Γ q a o =
+            let v = first ts q a in
+            let i = v .index is in
+            rw (v .is) (walk-stop s (node (head g (v .n) (v .us)) (v .ks)) (v .later) Γ depth j q (v .mid) b l b l
+            (walk-none s g (v .n) (v .us) Γ is depth j (v .mid) b l (w .ready .binders-size) (w .ready .leaves-size) o (v .ks) (omega arith)))
+
+    module _ (lt : x < depth) where
+      abbrev l₁ : List ℕ
+      l₁ = set l j (getD b (depth - 1 - x) 0)
+
+      -- it ends where its children would start
+      leaf-end : (ts : Forest) (q : ℕ) (v : FirstNode s p left ts q g x tp to c) → (v .ks ≡ nil) × (v .mid ≡ to)
+      unfolding enc
+      leaf-end ts q v = go (v .ks) refl
+        where
+          go : (ks : Forest) → v .ks ≡ ks → (v .ks ≡ nil) × (v .mid ≡ to)
+          go nil e =
+              let z : Spans s to (v .mid) (encs nil) = subst (λ (i : Forest). Spans s to (v .mid) (encs i)) e (v .kids .span) in
+              (e, omega (arith, z .long))
+          go (cons t ks) e =
+              let z : count (cons t ks) ≡ 0 = ap count (sym e) ∙ v .kids .many ∙ v .alone is in
+              absurd (omega arith)
+
+      after-leaf : (ts : Forest) (q : ℕ) (v : FirstNode s p left ts q g x tp to c) → Row s to (left - 1) (v .later) q
+      after-leaf ts q v = subst (λ (i : ℕ). Row s i (left - 1) (v .later) q) (leaf-end ts q v .1) (v .after)
+
+      leaf-back : (b₂ l₂ : List ℕ) (r : Bound) → BoundRow s to (left - 1) depth (j + 1) b l₁ b₂ l₂ r → BoundRow s p left depth j b l b₂ l₂ r
+      unfolding nodes
+      leaf-back b₂ l₂ r next = record { by = by }
+        where
+          by : (ts : Forest) (Γ : Ctx) (q : ℕ) → Row s p left ts q → Opened s Γ b depth → WalkAll s ts Γ depth j q b l b₂ l₂ r
+          by ts Γ q a o =
+              let v = first ts q a in
+              let i = v .index is in
+              let e = leaf-end ts q v in
+              let one : Walk s (node (head g (v .n) (v .us)) nil) Γ depth j to b l b (set l j (getD b (depth - 1 - v .n) 0)) (Ends to (j + 1))
+              = walk-leaf s g (v .n) (v .us) Γ is depth j to b l (w .ready .binders-size) (w .ready .leaves-size) o (omega arith) (turn-room .3) in
+              let here : Walk s (node (head g (v .n) (v .us)) nil) Γ depth j to b l b l₁ (Ends to (j + 1)) = subst
+              (λ (h : ℕ). Walk s (node (head g (v .n) (v .us)) nil) Γ depth j to b l b (set l j (getD b (depth - 1 - h) 0)) (Ends to (j + 1))) i one in
+              rw (v .is, e .0) (walk-cons s (node (head g (v .n) (v .us)) nil) (v .later) Γ depth j q to b l b l₁ b₂ l₂ r here
+              (next .by (v .later) Γ q (after-leaf ts q v) o))
+
+      pub turn-leaf : Going s at m depth k b₀ l₀ to (left - 1) (j + 1) b l₁
+      turn-leaf =
+          let y = w .ready in
+          let h = w .here in
+          let e = turn-room in
+          let f = w .from in
+          record {
+            ready = record {
+              fits = y .fits;
+              within = e .2;
+              opened = omega (arith, y .opened);
+              place = omega (arith, y .place);
+              binders-size = y .binders-size;
+              leaves-size = length-set l j (getD b (depth - 1 - x) 0) ∙ y .leaves-size;
+            };
+            here = (now .later, h .1, h .2, after-leaf (h .0) (h .2) now, h .4);
+            from = omega arith;
+            back = λ b₂ l₂ r next. w .back b₂ l₂ r (leaf-back b₂ l₂ r next);
+          }
+
+  -- ---- any other node
+  module _ (other : g ≡ boundTag → ⊥) where
+    -- without binders
+    module _ (plain : g < 801) where
+      plain-back : (b₂ l₂ : List ℕ) (r : Bound) → BoundRow s to (left - 1 + c) depth (j + 1) b l b₂ l₂ r → BoundRow s p left depth j b l b₂ l₂ r
+      plain-back b₂ l₂ r next = record {
+        by = λ ts Γ q a o. (let v = first ts q a in
+            rw (v .is) (walk-plain g (v .n) (v .us) (v .ks) (v .later) Γ other (under-plain g (v .us) Γ plain) s depth j q b l b₂ l₂ r
+            (next .by (append (v .ks) (v .later)) Γ q (joined s p left ts q g x tp to c (u .some) v) o)));
       }
 
-  walk-cons : (b₂ l₂ : List ℕ) (r : Bound) → Walk s t Γ depth k p b₀ l₀ b₁ l₁ (Ends p (k + nodes t))
-      → WalkAll s ts Γ depth (k + nodes t) q b₁ l₁ b₂ l₂ r → WalkAll s (cons t ts) Γ depth k q b₀ l₀ b₂ l₂ r
-  unfolding closedTree LeavesAt nodes
-  walk-cons b₂ l₂ r w v =
-      let c = answer-yes (closedTree t Γ) p (k + nodes t) p (k + nodes t) (w .answer) .0 in
-      let d : closedForest ts Γ ≡ (closedTree t Γ && closedForest ts Γ) = rw c in
-      let z : k + nodes t + nodesIn ts ≡ k + (nodes t + nodesIn ts) = omega arith in
-      record {
-        answer = v .answer ∙ ap₂ (λ (x : Bool) (j : ℕ). boundAnswer x q j) d z;
-        leaves = λ f. (leaves-same t Γ k s l₁ l₂ (k + nodes t) (omega arith) (λ i h. v .others i (inl h)) (w .leaves c), v .leaves (d ∙ f));
-        others = λ i f. v .others i (later i f) ∙ w .others i (sooner i f);
-        kept = λ i f. v .kept i f ∙ w .kept i f;
-        binders-size = v .binders-size;
-        leaves-size = v .leaves-size;
-      }
-    where
-      later : (i : ℕ) → (i < k) ⊎ (k + (nodes t + nodesIn ts) ≤ i) → (i < k + nodes t) ⊎ (k + nodes t + nodesIn ts ≤ i)
-      later i (inl h) = inl (omega arith)
-      later i (inr h) = inr (omega arith)
+      pub turn-plain : Going s at m depth k b₀ l₀ to (left - 1 + c) (j + 1) b l
+      turn-plain =
+          let y = w .ready in
+          let h = w .here in
+          let e = turn-room in
+          let f = w .from in
+          record {
+            ready = record {
+              fits = y .fits;
+              within = e .2;
+              opened = omega (arith, y .opened);
+              place = omega (arith, y .place);
+              binders-size = y .binders-size;
+              leaves-size = y .leaves-size;
+            };
+            here = (append (now .ks) (now .later), h .1, h .2, joined s p left (h .0) (h .2) g x tp to c (u .some) now, h .4);
+            from = omega arith;
+            back = λ b₂ l₂ r next. w .back b₂ l₂ r (plain-back b₂ l₂ r next);
+          }
 
--- ---- bind_kids
-module _ (s : List ℕ) (n : ℕ) (a b : Bool) (at depth k : ℕ) (b₀ l₀ : List ℕ) (y : Ready s at depth k b₀ l₀) where
-  pub kids-over : n ≡ 0 → BoundKids s (kindsFor n a b) at depth k b₀ l₀ b₀ l₀ (Ends at k)
-  kids-over z = record {
-    by = λ ts Γ q i o. (let v = kids-none s n a b at ts q i z in
-        rw (v .0, v .1) (walk-nil s Γ depth k q b₀ l₀ (y .binders-size) (y .leaves-size)));
-  }
+    -- with binders
+    module _ (bind : 801 ≤ g) where
+      pub types-here : Binders s tp to
+      types-here = (now .us, now .types, now .wf .types)
 
-  module _ (d : n ≡ 0 → ⊥) where
-    parts : (ts : Forest) (q : ℕ) → KidsAt s (kindsFor n a b) at ts q → KidsView s n a b at ts q
-    parts ts q i = kids-some s n a b at ts q i d
-
-    pub first-here : KidsHere s (kindsFor n a b) at depth b₀ → OneHere s (sortFor a) at depth b₀
-    first-here h = let v = parts (h .0) (h .2) (h .3) in (v .first, h .1, v .mid, v .one, h .4)
-
-    module _ (b₁ l₁ : List ℕ) (r₁ : Bound) (post : BoundPost s (sortFor a) at depth k b₀ l₀ b₁ l₁ r₁) where
-      pub kids-no : r₁ ≡ Refused → BoundKids s (kindsFor n a b) at depth k b₀ l₀ b₁ l₁ Refused
-      kids-no er = record {
-        by = λ ts Γ q i o. (let v = parts ts q i in
-            rw (v .is) (walk-stop s (v .first) (v .rest) Γ depth k q (v .mid) b₀ l₀ b₁ l₁
-            (subst (Walk s (v .first) Γ depth k (v .mid) b₀ l₀ b₁ l₁) er (post .by (v .first) Γ (v .mid) (v .one) o))));
-      }
-
-      module _ (p j : ℕ) (er : r₁ ≡ Ends p j) where
-        -- the first has been gone over
-        over : (ts : Forest) (Γ : Ctx) (q : ℕ) (v : KidsView s n a b at ts q) → Opened s Γ b₀ depth
-            → (v .mid ≡ p) × (k + nodes (v .first) ≡ j) × Walk s (v .first) Γ depth k (v .mid) b₀ l₀ b₁ l₁ (Ends (v .mid) (k + nodes (v .first)))
-        over ts Γ q v o =
-            let w = post .by (v .first) Γ (v .mid) (v .one) o in
-            let c = answer-yes (closedTree (v .first) Γ) (v .mid) (k + nodes (v .first)) p j (sym er ∙ w .answer) in
-            let z : r₁ ≡ Ends (v .mid) (k + nodes (v .first)) = er ∙ ap₂ (λ (x i : ℕ). Ends x i) (c .1) (c .2) in
-            (sym (c .1), sym (c .2), subst (Walk s (v .first) Γ depth k (v .mid) b₀ l₀ b₁ l₁) z w)
-
-        pub rest-next : Bytes s → KidsHere s (kindsFor n a b) at depth b₀
-            → (at + 2 ≤ p) × Ready s p depth j b₁ l₁ × KidsHere s (kindsFor (n - 1) b b) p depth b₁
-        rest-next bs h =
-            let v = parts (h .0) (h .2) (h .3) in
-            let w = over (h .0) (h .1) (h .2) v (h .4) in
-            let x = w .2 in
-            let c = at-end s bs (sortFor a) at (v .first) (v .mid) (v .one) in
-            let f = at-span s bs (sortFor a) at (v .first) (v .mid) (v .one) in
-            let z₀ = w .0 in
-            let z₁ = w .1 in
-            let g = y .opened in
-            let m = y .place in
-            let others : KidsAt s (kindsFor (n - 1) b b) p (v .rest) (h .2) = subst
-            (λ (i : ℕ). KidsAt s (kindsFor (n - 1) b b) i (v .rest) (h .2)) z₀ (v .others) in (
-              omega arith,
-              record {
-                fits = y .fits;
-                within = omega arith;
-                opened = omega arith;
-                place = omega (arith, nodes-enc (v .first), f .long);
-                binders-size = x .binders-size;
-                leaves-size = x .leaves-size;
-              },
-              (v .rest, h .1, h .2, others, opened-below s (h .1) b₀ b₁ depth (x .kept) (h .4)),
+      module _ (b₁ : List ℕ) (inside : ℕ) (op : OpenPost s tp to depth b b₁ inside) where
+        opened-in : (ts : Forest) (q : ℕ) (v : FirstNode s p left ts q g x tp to c)
+            → (inside ≡ depth + length (v .us)) × ((Γ : Ctx) → Opened s Γ b depth → Opened s (under g (v .us) Γ) b₁ inside)
+        opened-in ts q v =
+            let f = op .by (v .us) (v .types) (v .wf .types) in (
+              f .0,
+              λ Γ o. subst (λ (Δ : Ctx). Opened s Δ b₁ inside) (under-binding (v .e) g (v .n) (v .us) (count (v .ks)) Γ bind (v .wf)) (f .1 Γ o),
             )
 
-        pub kids-yes : (b₂ l₂ : List ℕ) (r : Bound) → BoundKids s (kindsFor (n - 1) b b) p depth j b₁ l₁ b₂ l₂ r
-            → BoundKids s (kindsFor n a b) at depth k b₀ l₀ b₂ l₂ r
-        kids-yes b₂ l₂ r rest = record { by = λ ts Γ q i o. at-cons ts Γ q (parts ts q i) o }
-          where
-            at-cons : (ts : Forest) (Γ : Ctx) (q : ℕ) → KidsView s n a b at ts q → Opened s Γ b₀ depth → WalkAll s ts Γ depth k q b₀ l₀ b₂ l₂ r
-            at-cons ts Γ q v o =
-                let w = over ts Γ q v o in
-                let x = w .2 in
-                let others : KidsAt s (kindsFor (n - 1) b b) p (v .rest) q = subst
-                (λ (i : ℕ). KidsAt s (kindsFor (n - 1) b b) i (v .rest) q) (w .0) (v .others) in
-                let u = rest .by (v .rest) Γ q others (opened-below s Γ b₀ b₁ depth (x .kept) o) in
-                let z : WalkAll s (v .rest) Γ depth (k + nodes (v .first)) q b₁ l₁ b₂ l₂ r = subst
-                (λ (i : ℕ). WalkAll s (v .rest) Γ depth i q b₁ l₁ b₂ l₂ r) (sym (w .1)) u in
-                rw (v .is) (walk-cons s (v .first) (v .rest) Γ depth k q (v .mid) b₀ l₀ b₁ l₁ b₂ l₂ r x z)
+        pub call-here : Ready s to inside (j + 1) b₁ l × RowHere s to c inside b₁
+        call-here =
+            let y = w .ready in
+            let h = w .here in
+            let e = turn-room in
+            let f = opened-in (h .0) (h .2) now in (
+              record {
+                fits = y .fits;
+                within = e .2;
+                opened = omega (arith, y .opened, f .0, tys-long (now .us), now .types .long);
+                place = omega (arith, y .place);
+                binders-size = op .size;
+                leaves-size = y .leaves-size;
+              },
+              (now .ks, under g (now .us) (h .1), now .mid, now .kids, f .1 (h .1) (h .4)),
+            )
+
+        module _ (b₂ l₂ : List ℕ) (r₂ : Bound) (post : BoundRow s to c inside (j + 1) b₁ l b₂ l₂ r₂) where
+          over : (ts : Forest) (Γ : Ctx) (q : ℕ) (v : FirstNode s p left ts q g x tp to c) → Opened s Γ b depth
+              → Walk s (node (head g (v .n) (v .us)) (v .ks)) Γ depth j (v .mid) b l b₂ l₂ r₂
+          over ts Γ q v o =
+              let f = opened-in ts q v in
+              walk-node g (v .n) (v .us) (v .ks) Γ other s depth inside j (v .mid) b l b₁ b₂ l₂ r₂ (omega (arith, f .0)) (op .kept)
+              (post .by (v .ks) (under g (v .us) Γ) (v .mid) (v .kids) (f .1 Γ o))
+
+          pub turn-stop : r₂ ≡ Refused → BoundRow s at m depth k b₀ l₀ b₂ l₂ Refused
+          turn-stop er = w .back b₂ l₂ Refused (record { by = by })
+            where
+              by : (ts : Forest) (Γ : Ctx) (q : ℕ) → Row s p left ts q → Opened s Γ b depth → WalkAll s ts Γ depth j q b l b₂ l₂ Refused
+              by ts Γ q a o =
+                  let v = first ts q a in
+                  let t : Tree = node (head g (v .n) (v .us)) (v .ks) in
+                  rw (v .is) (walk-stop s t (v .later) Γ depth j q (v .mid) b l b₂ l₂
+                  (subst (Walk s t Γ depth j (v .mid) b l b₂ l₂) er (over ts Γ q v o)))
+
+          module _ (e i : ℕ) (er : r₂ ≡ Ends e i) where
+            -- its tree has been gone over
+            past : (ts : Forest) (Γ : Ctx) (q : ℕ) (v : FirstNode s p left ts q g x tp to c) → Opened s Γ b depth
+                → (e ≡ v .mid) × (i ≡ j + nodes (node (head g (v .n) (v .us)) (v .ks)))
+                × Walk s (node (head g (v .n) (v .us)) (v .ks)) Γ depth j (v .mid) b l b₂ l₂
+                (Ends (v .mid) (j + nodes (node (head g (v .n) (v .us)) (v .ks))))
+            past ts Γ q v o =
+                let t : Tree = node (head g (v .n) (v .us)) (v .ks) in
+                let done = over ts Γ q v o in
+                let z = answer-yes (closedTree t Γ) (v .mid) (j + nodes t) e i (sym er ∙ done .answer) in
+                let y : r₂ ≡ Ends (v .mid) (j + nodes t) = er ∙ ap₂ (λ (d h : ℕ). Ends d h) (z .1) (z .2) in
+                (z .1, z .2, subst (Walk s t Γ depth j (v .mid) b l b₂ l₂) y done)
+
+            over-back : (b₃ l₃ : List ℕ) (r : Bound) → BoundRow s e (left - 1) depth i b₂ l₂ b₃ l₃ r → BoundRow s p left depth j b l b₃ l₃ r
+            over-back b₃ l₃ r next = record { by = by }
+              where
+                by : (ts : Forest) (Γ : Ctx) (q : ℕ) → Row s p left ts q → Opened s Γ b depth → WalkAll s ts Γ depth j q b l b₃ l₃ r
+                by ts Γ q a o =
+                    let v = first ts q a in
+                    let t : Tree = node (head g (v .n) (v .us)) (v .ks) in
+                    let z = past ts Γ q v o in
+                    let done = z .2 in
+                    let after : Row s e (left - 1) (v .later) q = subst (λ (d : ℕ). Row s d (left - 1) (v .later) q) (sym (z .0)) (v .after) in
+                    let n : WalkAll s (v .later) Γ depth i q b₂ l₂ b₃ l₃ r = next .by (v .later) Γ q after
+                    (opened-below s Γ b b₂ depth (done .kept) o) in
+                    rw (v .is) (walk-cons s t (v .later) Γ depth j q (v .mid) b l b₂ l₂ b₃ l₃ r done
+                    (subst (λ (h : ℕ). WalkAll s (v .later) Γ depth h q b₂ l₂ b₃ l₃ r) (z .1) n))
+
+            pub turn-over : (p + 2 ≤ e) × (e ≤ length s) × Going s at m depth k b₀ l₀ e (left - 1) i b₂ l₂
+            turn-over =
+                let y = w .ready in
+                let h = w .here in
+                let d = now .within in
+                let f = w .from in
+                let z = past (h .0) (h .1) (h .2) now (h .4) in
+                let done = z .2 in
+                let ee = z .0 in
+                let ei = z .1 in (
+                  omega arith,
+                  omega arith,
+                  record {
+                    ready = record {
+                      fits = y .fits;
+                      within = omega arith;
+                      opened = omega (arith, y .opened);
+                      place = omega (arith, y .place, now .places);
+                      binders-size = done .binders-size;
+                      leaves-size = done .leaves-size;
+                    };
+                    here = (
+                      now .later,
+                      h .1,
+                      h .2,
+                      subst (λ (o : ℕ). Row s o (left - 1) (now .later) (h .2)) (sym ee) (now .after),
+                      opened-below s (h .1) b b₂ depth (done .kept) (h .4),
+                    );
+                    from = omega arith;
+                    back = λ b₃ l₃ r next. w .back b₃ l₃ r (over-back b₃ l₃ r next);
+                  },
+                )
 
 -- ---- binding_ok
 pub ready-first : (s l₀ : List ℕ) → length s ≤ frameLimit → length l₀ ≡ 2048 → Ready s 0 0 0 (replicate 4096 0) l₀
@@ -170,29 +317,45 @@ ready-first s l₀ f z = record {
   leaves-size = z;
 }
 
-module _ (s : List ℕ) (l₀ : List ℕ) (b₀ b₁ l₁ : List ℕ) (r : Bound) (h : (t : Tree) × IsAt s predicate 0 t (length s))
-    (post : BoundPost s predicate 0 0 0 b₀ l₀ b₁ l₁ r) where
-  at-root : (t : Tree) → IsAt s predicate 0 t (length s) → Walk s t [] 0 0 (length s) b₀ l₀ b₁ l₁ r
-  at-root t i = post .by t [] (length s) i tt
+-- a frame is a row of one tree
+pub whole : (s : List ℕ) → Bytes s → (t : Tree) → IsAt s predicate 0 t (length s) → Row s 0 1 (cons t nil) (length s)
+unfolding enc
+whole s bs t a = record {
+  sorts = predicate ∷ [];
+  span = subst (Spans s 0 (length s)) (sym (append-nil (enc t))) (at-span s bs predicate 0 t (length s) a);
+  wf = (at-wf s bs predicate 0 t (length s) a, tt);
+  many = refl;
+}
+
+module _ (s : List ℕ) (bs : Bytes s) (l₀ b₀ b₁ l₁ : List ℕ) (r : Bound) (h : (t : Tree) × IsAt s predicate 0 t (length s))
+    (post : BoundRow s 0 1 0 0 b₀ l₀ b₁ l₁ r) where
+  at-root : (t : Tree) → IsAt s predicate 0 t (length s) → WalkAll s (cons t nil) [] 0 0 (length s) b₀ l₀ b₁ l₁ r
+  at-root t i = post .by (cons t nil) [] (length s) (whole s bs t i) tt
+
+  root-closed : (t : Tree) → closedForest (cons t nil) [] ≡ closedTree t []
+  unfolding closedTree
+  root-closed t = and-true (closedTree t [])
 
   root-others : (t : Tree) → IsAt s predicate 0 t (length s) → Outside 0 (nodes t) l₀ l₁
-  root-others t i = let z : 0 + nodes t ≡ nodes t = omega arith in subst (λ (j : ℕ). Outside 0 j l₀ l₁) z (at-root t i .others)
+  unfolding nodes
+  root-others t i = let z : 0 + (nodes t + 0) ≡ nodes t = omega arith in subst (λ (j : ℕ). Outside 0 j l₀ l₁) z (at-root t i .others)
 
   pub frame-refused : r ≡ Refused → BindingPost s l₀ l₁ false
   frame-refused er = record {
     size = at-root (h .0) (h .1) .leaves-size;
-    answer = λ t i. sym (answer-no (closedTree t []) (length s) (0 + nodes t) (sym er ∙ at-root t i .answer));
+    answer = λ t i. sym (answer-no (closedForest (cons t nil) []) (length s) (0 + nodesIn (cons t nil)) (sym er ∙ at-root t i .answer)) ∙ root-closed t;
     leaves = λ f. true-not f;
     others = root-others;
   }
 
   pub frame-bound : (p j : ℕ) → r ≡ Ends p j → BindingPost s l₀ l₁ true
+  unfolding LeavesAt
   frame-bound p j er = record {
     size = at-root (h .0) (h .1) .leaves-size;
-    answer = λ t i. sym (closed t i);
-    leaves = λ f t i. at-root t i .leaves (closed t i);
+    answer = λ t i. sym (closed t i) ∙ root-closed t;
+    leaves = λ f t i. at-root t i .leaves (closed t i) .0;
     others = root-others;
   }
     where
-      closed : (t : Tree) → IsAt s predicate 0 t (length s) → closedTree t [] ≡ true
-      closed t i = answer-yes (closedTree t []) (length s) (0 + nodes t) p j (sym er ∙ at-root t i .answer) .0
+      closed : (t : Tree) → IsAt s predicate 0 t (length s) → closedForest (cons t nil) [] ≡ true
+      closed t i = answer-yes (closedForest (cons t nil) []) (length s) (0 + nodesIn (cons t nil)) p j (sym er ∙ at-root t i .answer) .0

@@ -1,4 +1,5 @@
 pub mod OpenBinders
 pub mod BinderTags
 pub mod BoundWalk
+pub mod RowNodes
 pub mod BoundRows

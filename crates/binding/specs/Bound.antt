@@ -4,18 +4,20 @@ use mathlib.Core.Path.{_≡_}
 use mathlib.Core.Logic.{_⊎_}
 use mathlib.Core.Bool.{Bool, true, false}
 use mathlib.Core.List.{List, [], _∷_}
-use Prim.Native.Nat.{ℕ, zero, suc, _+_, _-_, _≤_, _<_}
-use lib.ListN.{length, getD, set}
+use Prim.Native.Nat.{ℕ, zero, suc, _+_, _≤_, _<_}
+use lib.ListN.{length, getD}
 use Rattle.frame.specs.Types.{Ty}
-use Rattle.frame.specs.Trees.{Tree, Forest, nodes, nodesIn}
+use Rattle.frame.specs.Trees.{Tree, Forest, count, nodes, nodesIn}
 use Rattle.frame.specs.Tags.{Sort, predicate}
-use Rattle.frame.specs.Encoding.{encTy, encTys}
+use Rattle.frame.specs.Encoding.{encTy, encTys, encs}
 use Rattle.frame.specs.Reading.{frameLimit}
-use Rattle.frame.specs.Places.{Ctx, push, under}
-use Rattle.frame.specs.WellFormed.{TysWf, HeadWf}
+use Rattle.frame.specs.Places.{Ctx, push}
+use Rattle.frame.specs.WellFormed.{TysWf, Wfs}
 use Rattle.frame.specs.Spans.{Spans}
-use Rattle.frame.specs.At.{IsAt, KidsAt}
-use Rattle.typing.specs.Binding.{closedTree, closedForest}
+use Rattle.frame.specs.At.{IsAt}
+use Rattle.heads.specs.HeadPost.{KnownPost}
+use Rattle.heads.specs.declared.HeadAnswer.the-variants.{Is}
+use Rattle.typing.specs.Binding.{boundTag, closedTree, closedForest}
 use Rattle.typing.specs.Leaves.{LeavesAt, LeavesIn}
 use Rattle.binding.specs.declared.Bound.{Bound}
 use Rattle.binding.specs.declared.Bound.the-variants.{Ends, Refused}
@@ -46,24 +48,34 @@ pub record Ready (s : List ℕ) (at depth k : ℕ) (binders leaves : List ℕ) :
   pub binders-size : length binders ≡ 4096
   pub leaves-size : length leaves ≡ 2048
 
+-- ---- trees that stand in a row
+-- what is known of the head at `at`: its tag, the number behind the tag, where its types and its children start, how many children
+-- there are. A bound identifier's number is its index, and it has no children
+pub record Known (s : List ℕ) (at g x tp p c : ℕ) : Type 0 where
+  pub n : ℕ
+  pub first : Bool
+  pub later : Bool
+  pub is : KnownPost s at (Is g n tp p c first later)
+  pub index : g ≡ boundTag → n ≡ x
+  pub alone : g ≡ boundTag → c ≡ 0
+
+-- m trees stand one after the other from `at` up to q
+pub record Row (s : List ℕ) (at m : ℕ) (ts : Forest) (q : ℕ) : Type 0 where
+  pub sorts : List Sort
+  pub span : Spans s at q (encs ts)
+  pub wf : Wfs ts sorts
+  pub many : count ts ≡ m
+
+-- such trees, in the context of the open binders
+abbrev pub RowHere : List ℕ → ℕ → ℕ → ℕ → List ℕ → Type 0
+RowHere s at m depth binders = (ts : Forest) × (Γ : Ctx) × (q : ℕ) × Row s at m ts q × Opened s Γ binders depth
+
 -- ---- binders are opened
 pub record OpenPost (s : List ℕ) (at end depth : ℕ) (old new : List ℕ) (r : ℕ) : Type 0 where
   pub size : length new ≡ 4096
   pub kept : Below depth old new
   pub by : (us : List Ty) → Spans s at end (encTys us) → TysWf us
       → (r ≡ depth + length us) × ((Γ : Ctx) → Opened s Γ old depth → Opened s (push us Γ) new r)
-
--- those of a node with the tag g, whose types stand from tp up to p
-pub record EnterPost (s : List ℕ) (g tp p depth : ℕ) (old new : List ℕ) (r : ℕ) : Type 0 where
-  pub size : length new ≡ 4096
-  pub kept : Below depth old new
-  pub by : (e : Sort) (n : ℕ) (us : List Ty) (k : ℕ) → Spans s tp p (encTys us) → HeadWf e g n us k
-      → (depth ≤ r) × (r ≤ depth + length us) × ((Γ : Ctx) → Opened s Γ old depth → Opened s (under g us Γ) new r)
-
--- ---- a bound identifier with the index n at the place k, up to q
-pub record LeafPost (depth n k q : ℕ) (binders l₀ l₁ : List ℕ) (r : Bound) : Type 0 where
-  pub none : depth ≤ n → (r ≡ Refused) × (l₁ ≡ l₀)
-  pub some : n < depth → (r ≡ Ends q (k + 1)) × (l₁ ≡ set l₀ k (getD binders (depth - 1 - n) 0))
 
 -- ---- trees are gone over
 abbrev pub boundAnswer : Bool → ℕ → ℕ → Bound
@@ -79,12 +91,8 @@ pub record Walked (closed : Bool) (typed : List ℕ → Type 0) (depth k j q : �
   pub binders-size : length b₁ ≡ 4096
   pub leaves-size : length l₁ ≡ 2048
 
-pub record BoundPost (s : List ℕ) (e : Sort) (at depth k : ℕ) (b₀ l₀ b₁ l₁ : List ℕ) (r : Bound) : Type 0 where
-  pub by : (t : Tree) (Γ : Ctx) (q : ℕ) → IsAt s e at t q → Opened s Γ b₀ depth
-      → Walked (closedTree t Γ) (LeavesAt t Γ k s) depth k (k + nodes t) q b₀ l₀ b₁ l₁ r
-
-pub record BoundKids (s : List ℕ) (es : List Sort) (at depth k : ℕ) (b₀ l₀ b₁ l₁ : List ℕ) (r : Bound) : Type 0 where
-  pub by : (ts : Forest) (Γ : Ctx) (q : ℕ) → KidsAt s es at ts q → Opened s Γ b₀ depth
+pub record BoundRow (s : List ℕ) (at m depth k : ℕ) (b₀ l₀ b₁ l₁ : List ℕ) (r : Bound) : Type 0 where
+  pub by : (ts : Forest) (Γ : Ctx) (q : ℕ) → Row s at m ts q → Opened s Γ b₀ depth
       → Walked (closedForest ts Γ) (LeavesIn ts Γ k s) depth k (k + nodesIn ts) q b₀ l₀ b₁ l₁ r
 
 -- a whole frame: whether every bound index has a binder, and then where its type stands

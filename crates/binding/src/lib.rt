@@ -1,22 +1,26 @@
-// Number 8 (document 01: "A bound index has no binder, anywhere in the tree."). The tree is gone over as the reader goes over
-// it, with a list of where the types of the open binders stand; so the types of bound identifiers are found on the way, and
-// go into a table by place for typing to read.
-use heads::HeadAnswer;
+// Number 8 (document 01: "A bound index has no binder, anywhere in the tree."). The nodes are gone over in the order
+// of the frame, with a list of where the types of the open binders stand; so the types of bound identifiers are found on the way,
+// and go into a table by place for typing to read.
+use heads::number;
+use heads::skip_types;
+use tags::children_of;
+use tags::form_of;
+use tags::types_of;
+use tags::width_of;
 ghost use mathlib.Core.Path.{_≡_};
 ghost use mathlib.Core.List.{List};
-ghost use Prim.Native.Nat.{ℕ, _+_, _-_, _≤_, _<_};
+ghost use Prim.Native.Nat.{_≤_};
 ghost use lib.ListN.{length};
 ghost use Rattle.frame.specs.Types.{Ty};
-ghost use Rattle.frame.specs.Trees.{Tree, Forest};
-ghost use Rattle.frame.specs.Tags.{Sort, predicate};
-ghost use Rattle.tags.specs.TagCodes.{sortFor, kindsFor};
+ghost use Rattle.frame.specs.Trees.{Tree};
+ghost use Rattle.frame.specs.Tags.{predicate};
 ghost use Rattle.frame.specs.Encoding.{encTys};
 ghost use Rattle.frame.specs.Reading.{frameLimit};
-ghost use Rattle.frame.specs.Places.{Ctx};
-ghost use Rattle.frame.specs.WellFormed.{TysWf, HeadWf};
+ghost use Rattle.frame.specs.WellFormed.{TysWf};
 ghost use Rattle.frame.specs.Spans.{Spans};
-ghost use Rattle.frame.specs.At.{IsAt, KidsAt};
-ghost use Rattle.binding.specs.Bound.{Opened, Ready, OpenPost, EnterPost, LeafPost, BoundPost, BoundKids, BindingPost};
+ghost use Rattle.frame.specs.At.{IsAt};
+ghost use Rattle.heads.specs.HeadPost.{HeadStands};
+ghost use Rattle.binding.specs.Bound.{Known, Ready, RowHere, OpenPost, BoundRow, BindingPost};
 
 const BOUND: usize = 3;
 
@@ -38,114 +42,89 @@ fn open_binders(s: &[u8], at: usize, end: usize, binders: &mut [u16; 4096], dept
         return depth;
     }
     binders[depth] = at as u16;
-    let p = heads::skip_types(s, at, 1);
+    let p = skip_types(s, at, 1);
     open_binders(s, p, end, binders, depth + 1)
 }
 
-// How many binders are open at the children of a node.
-fn enter(
-    s: &[u8],
+// The head of a tree that was read before: its tag, the number behind the tag, where its types and its children start, and how
+// many children there are.
+struct NodeHead {
     tag: usize,
+    number: usize,
     types: usize,
     children: usize,
-    binders: &mut [u16; 4096],
-    depth: usize,
-) -> usize
-    requires { ⌜ (length (now s) ≤ frameLimit) × (depth ≤ types) × (length (now binders) ≡ 4096) × ((e : Sort) × (n : ℕ) × (us : List Ty) × (k : ℕ) × Spans (now s) types children (encTys us) × HeadWf e tag n us k) ⌝ }
-    ensures { λ r. ⌜ EnterPost (now (s .entry)) tag types children depth (now (binders .entry)) (now (binders .exit)) r ⌝ }
-{
-    if tag < FIRST_BINDING {
-        return depth;
-    }
-    open_binders(s, types, children, binders, depth)
+    count: usize,
 }
 
-// A bound identifier at place k, which ends at `end`: index 0 is the binder that was opened last.
-fn bind_leaf(
-    binders: &[u16; 4096],
-    depth: usize,
-    index: usize,
-    leaves: &mut [u16; 2048],
-    k: usize,
-    end: usize,
-) -> Bound
-    requires { ⌜ (depth ≤ 4096) × (k < 2048) ⌝ }
-    ensures { λ r. ⌜ LeafPost depth index k end (now (binders .entry)) (now (leaves .entry)) (now (leaves .exit)) r ⌝ }
+fn head_at(s: &[u8], at: usize) -> NodeHead
+    requires { ⌜ HeadStands (now s) at ⌝ }
+    ensures { λ r. ⌜ Known (now (s .entry)) at (r .tag) (r .number) (r .types) (r .children) (r .count) ⌝ }
 {
-    if depth <= index {
-        return Bound::Refused;
+    let tag = number(s, at, 2);
+    let form = form_of(tag);
+    let w = width_of(form);
+    let x = number(s, at + 2, w);
+    let types = at + 2 + w;
+    NodeHead {
+        tag: tag,
+        number: x,
+        types: types,
+        children: skip_types(s, types, types_of(form, x)),
+        count: children_of(form, x),
     }
-    leaves[k] = binders[depth - 1 - index];
-    Bound::Ends(end, k + 1)
 }
 
-// The tree at `at`, an expression where e, whose place is k.
-fn bind_node(
+// m trees in a row at `at`, the first of them at place k. The children of a node without binders stand in the context of the
+// node, so they join the trees to come; those under binders are gone over by a call. Tag 901 is the one from FIRST_BINDING on
+// that has no binders: the call for its children opens none.
+fn bind_trees(
     s: &[u8],
     at: usize,
-    e: bool,
+    m: usize,
     binders: &mut [u16; 4096],
     depth: usize,
     leaves: &mut [u16; 2048],
     k: usize,
 ) -> Bound
-    requires { ⌜ Ready (now s) at depth k (now binders) (now leaves) × ((t : Tree) × (Γ : Ctx) × (q : ℕ) × IsAt (now s) (sortFor e) at t q × Opened (now s) Γ (now binders) depth) ⌝ }
-    ensures { λ r. ⌜ BoundPost (now (s .entry)) (sortFor e) at depth k (now (binders .entry)) (now (leaves .entry)) (now (binders .exit)) (now (leaves .exit)) r ⌝ }
+    requires { ⌜ Ready (now s) at depth k (now binders) (now leaves) × RowHere (now s) at m depth (now binders) ⌝ }
+    ensures { λ r. ⌜ BoundRow (now (s .entry)) at m depth k (now (binders .entry)) (now (leaves .entry)) (now (binders .exit)) (now (leaves .exit)) r ⌝ }
 {
-    let h = heads::known_head(s, at);
-    match h {
-        HeadAnswer::Refused(_c) => Bound::Refused,
-        HeadAnswer::Is {
-            tag,
-            payload,
-            types,
-            children,
-            count,
-            first,
-            later,
-        } => {
-            if tag == BOUND {
-                return bind_leaf(binders, depth, payload, leaves, k, children);
+    let mut p = at;
+    let mut left = m;
+    let mut j = k;
+    while 0 < left {
+        let h = head_at(s, p);
+        if h.tag == BOUND {
+            let index = h.number;
+            if depth <= index {
+                return Bound::Refused;
             }
-            let inside = enter(s, tag, types, children, binders, depth);
-            bind_kids(
-                s,
-                children,
-                count,
-                first,
-                later,
-                binders,
-                inside,
-                leaves,
-                k + 1,
-            )
+            leaves[j] = binders[depth - 1 - index];
+            p = h.children;
+            left -= 1;
+            j += 1;
+            continue;
+        }
+        if h.tag < FIRST_BINDING {
+            p = h.children;
+            left = left - 1 + h.count;
+            j += 1;
+            continue;
+        }
+        let inside = open_binders(s, h.types, h.children, binders, depth);
+        let a = bind_trees(s, h.children, h.count, binders, inside, leaves, j + 1);
+        match a {
+            Bound::Refused => {
+                return Bound::Refused;
+            }
+            Bound::Ends(q, i) => {
+                p = q;
+                left -= 1;
+                j = i;
+            }
         }
     }
-}
-
-// n trees in a row, the first and the later ones of these sorts.
-fn bind_kids(
-    s: &[u8],
-    at: usize,
-    n: usize,
-    first: bool,
-    later: bool,
-    binders: &mut [u16; 4096],
-    depth: usize,
-    leaves: &mut [u16; 2048],
-    k: usize,
-) -> Bound
-    requires { ⌜ Ready (now s) at depth k (now binders) (now leaves) × ((ts : Forest) × (Γ : Ctx) × (q : ℕ) × KidsAt (now s) (kindsFor n first later) at ts q × Opened (now s) Γ (now binders) depth) ⌝ }
-    ensures { λ r. ⌜ BoundKids (now (s .entry)) (kindsFor n first later) at depth k (now (binders .entry)) (now (leaves .entry)) (now (binders .exit)) (now (leaves .exit)) r ⌝ }
-{
-    if n == 0 {
-        return Bound::Ends(at, k);
-    }
-    let a = bind_node(s, at, first, binders, depth, leaves, k);
-    match a {
-        Bound::Refused => Bound::Refused,
-        Bound::Ends(p, j) => bind_kids(s, p, n - 1, later, later, binders, depth, leaves, j),
-    }
+    Bound::Ends(p, j)
 }
 
 // Whether every bound index of a frame's tree has a binder; if so the table has, by place, where their types stand.
@@ -154,7 +133,7 @@ pub fn binding_ok(s: &[u8], leaves: &mut [u16; 2048]) -> bool
     ensures { λ r. ⌜ BindingPost (now (s .entry)) (now (leaves .entry)) (now (leaves .exit)) r ⌝ }
 {
     let mut binders = [0u16; 4096];
-    let a = bind_node(s, 0, false, &mut binders, 0, leaves, 0);
+    let a = bind_trees(s, 0, 1, &mut binders, 0, leaves, 0);
     match a {
         Bound::Refused => false,
         Bound::Ends(_p, _j) => true,

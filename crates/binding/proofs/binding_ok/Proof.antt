@@ -1,14 +1,24 @@
+use Rattle.binding.proofs.BoundRows.{ready-first, whole, frame-refused, frame-bound}
+use Rattle.frame.specs.Trees.{nil, cons}
 use lib.ListN.{length}
 use mathlib.Core.List.{[]}
-use Rattle.binding.proofs.BoundRows.{ready-first, frame-refused, frame-bound}
 use borrow.Author.Needs.{needs}
 use Rattle.binding.proofs.binding_ok.Statement.{statement}
 use Rattle.binding.proofs.binding_ok.Tie as tie
 
-bind-node-requires : tie.Need-bind-node-requires
-bind-node-requires c κs =
-    let c₁ = c .before .before .before in
-    (ready-first _ _ (c₁ .pre .0) (c₁ .pre .1), (c₁ .pre .2 .0, [], length (c₁ .args .s .now), c₁ .pre .2 .1, tt))
+bind-trees-requires : tie.Need-bind-trees-requires
+bind-trees-requires c κs =
+    let c₁ = c .before .before .before in (
+      ready-first _ _ (c₁ .pre .0) (c₁ .pre .1),
+      (
+        cons (c₁ .pre .2 .0) nil,
+        [],
+        length (c₁ .args .s .now),
+        whole _
+            (λ i. c .before .before .shared-slice-known .given i .fits) _ (c₁ .pre .2 .1),
+        tt,
+      ),
+    )
 
 enum-told : tie.Need-enum-told
 enum-told c = search needs
@@ -18,14 +28,18 @@ enum-known-a c = search needs
 
 returns : tie.Need-returns
 returns c =
-    let c₁ = c .before .before .before .before .before .before in
-    frame-refused _ _ _ _ _ _ (c₁ .pre .2) (c .before .before .bind-node .ensures) (c .enum-told .given .1)
+    let c₁ = c .before .before .before .before .before in
+    let c₂ = c₁ .before in
+    frame-refused _ (λ i. c₁ .shared-slice-known .given i .fits) _ _ _ _ _ (c₂ .pre .2)
+    (c .before .before .bind-trees .ensures) (c .enum-told .given .1)
 
 returns-2 : tie.Need-returns-2
 returns-2 c =
     let c₁ = c .before .before .before in
-    let c₂ = c₁ .before .before .before .before in
-    frame-bound _ _ _ _ _ _ (c₂ .pre .2) (c₁ .bind-node .ensures) _ _ (c .before .a .given .1)
+    let c₂ = c₁ .before .before .before in
+    let c₃ = c₂ .before in
+    frame-bound _
+    (λ i. c₂ .shared-slice-known .given i .fits) _ _ _ _ _ (c₃ .pre .2) (c₁ .bind-trees .ensures) _ _ (c .before .a .given .1)
 
 pub binding-ok-spec : {M : Type 1} → statement M
-binding-ok-spec = tie.close (tie.spec bind-node-requires enum-told enum-known-a returns returns-2)
+binding-ok-spec = tie.close (tie.spec bind-trees-requires enum-told enum-known-a returns returns-2)
