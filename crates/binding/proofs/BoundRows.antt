@@ -6,7 +6,7 @@ use mathlib.Core.Bool.{true, false, and-true}
 use mathlib.Core.List.{List, [], _∷_, append-nil}
 use Prim.Native.Nat.{ℕ, _+_, _-_, _≤_, _<_}
 use native.Mathlib.Omega.{arith}
-use lib.ListN.{length, getD, set, length-set, replicate, length-replicate}
+use lib.ListN.{length, getD, set, length-set}
 use Rattle.frame.specs.Trees.{head, Tree, node, Forest, nil, cons, append, count, nodes, nodesIn}
 use Rattle.frame.specs.Tags.{predicate}
 use Rattle.frame.specs.Encoding.{enc, encs}
@@ -45,11 +45,12 @@ pub record Going (s : List ℕ) (at m depth k : ℕ) (b₀ l₀ : List ℕ) (p l
   pub ready : Ready s p depth j b l
   pub here : RowHere s p left depth b
   pub from : at ≤ p
+  pub size : length b ≡ length b₀
   pub back : (b₂ l₂ : List ℕ) (r : Bound) → BoundRow s p left depth j b l b₂ l₂ r → BoundRow s at m depth k b₀ l₀ b₂ l₂ r
 
 pub going-begins : (s : List ℕ) (at m depth k : ℕ) (b l : List ℕ) → Ready s at depth k b l → RowHere s at m depth b
     → Going s at m depth k b l at m k b l
-going-begins s at m depth k b l y h = record { ready = y; here = h; from = omega arith; back = λ b₂ l₂ r w. w }
+going-begins s at m depth k b l y h = record { ready = y; here = h; from = omega arith; size = refl; back = λ b₂ l₂ r w. w }
 
 pub going-done : (s : List ℕ) (at m depth k : ℕ) (b₀ l₀ : List ℕ) (p left j : ℕ) (b l : List ℕ)
     → Going s at m depth k b₀ l₀ p left j b l → left ≤ 0 → BoundRow s at m depth k b₀ l₀ b l (Ends p j)
@@ -59,7 +60,7 @@ going-done s at m depth k b₀ l₀ p left j b l w z = w .back b l (Ends p j) (r
     none : (ts : Forest) (Γ : Ctx) (q : ℕ) → Row s p left ts q → WalkAll s ts Γ depth j q b l b l (Ends p j)
     none nil Γ q a =
         let e : q ≡ p = omega (arith, a .span .long) in
-        rw e (walk-nil s Γ depth j p b l (w .ready .binders-size) (w .ready .leaves-size))
+        rw e (walk-nil s Γ depth j p b l (w .ready .leaves-size))
     none (cons t ts) Γ q a = absurd (omega (arith, a .many))
 
 -- a turn: the first of the trees that are left, with what the code knows of its head
@@ -69,7 +70,8 @@ pub record Turn (s : List ℕ) (at m depth k : ℕ) (b₀ l₀ : List ℕ) (p le
   pub some : 0 < left
   pub known : Known s p g x tp to c
 
-module _ {s : List ℕ} {at m depth k : ℕ} {b₀ l₀ : List ℕ} {p left j : ℕ} {b l : List ℕ} (w : Going s at m depth k b₀ l₀ p left j b l) (some : 0 < left) where
+module _ {s : List ℕ} {at m depth k : ℕ} {b₀ l₀ : List ℕ} {p left j : ℕ} {b l : List ℕ}
+    (w : Going s at m depth k b₀ l₀ p left j b l) (some : 0 < left) where
   pub turn-head : HeadStands s p
   turn-head = row-head s p left depth b some (w .here)
 
@@ -107,7 +109,7 @@ module _ {s : List ℕ} {at m depth k : ℕ} {b₀ l₀ : List ℕ} {p left j : 
             let v = first ts q a in
             let i = v .index is in
             rw (v .is) (walk-stop s (node (head g (v .n) (v .us)) (v .ks)) (v .later) Γ depth j q (v .mid) b l b l
-            (walk-none s g (v .n) (v .us) Γ is depth j (v .mid) b l (w .ready .binders-size) (w .ready .leaves-size) o (v .ks) (omega arith)))
+            (walk-none s g (v .n) (v .us) Γ is depth j (v .mid) b l (w .ready .leaves-size) o (v .ks) (omega arith)))
 
     module _ (lt : x < depth) where
       abbrev l₁ : List ℕ
@@ -139,7 +141,7 @@ module _ {s : List ℕ} {at m depth k : ℕ} {b₀ l₀ : List ℕ} {p left j : 
               let i = v .index is in
               let e = leaf-end ts q v in
               let one : Walk s (node (head g (v .n) (v .us)) nil) Γ depth j to b l b (set l j (getD b (depth - 1 - v .n) 0)) (Ends to (j + 1))
-              = walk-leaf s g (v .n) (v .us) Γ is depth j to b l (w .ready .binders-size) (w .ready .leaves-size) o (omega arith) (turn-room .3) in
+              = walk-leaf s g (v .n) (v .us) Γ is depth j to b l (w .ready .leaves-size) o (omega arith) (turn-room .3) in
               let here : Walk s (node (head g (v .n) (v .us)) nil) Γ depth j to b l b l₁ (Ends to (j + 1)) = subst
               (λ (h : ℕ). Walk s (node (head g (v .n) (v .us)) nil) Γ depth j to b l b (set l j (getD b (depth - 1 - h) 0)) (Ends to (j + 1))) i one in
               rw (v .is, e .0) (walk-cons s (node (head g (v .n) (v .us)) nil) (v .later) Γ depth j q to b l b l₁ b₂ l₂ r here
@@ -157,11 +159,12 @@ module _ {s : List ℕ} {at m depth k : ℕ} {b₀ l₀ : List ℕ} {p left j : 
               within = e .2;
               opened = omega (arith, y .opened);
               place = omega (arith, y .place);
-              binders-size = y .binders-size;
+              binders-room = y .binders-room;
               leaves-size = length-set l j (getD b (depth - 1 - x) 0) ∙ y .leaves-size;
             };
             here = (now .later, h .1, h .2, after-leaf (h .0) (h .2) now, h .4);
             from = omega arith;
+            size = w .size;
             back = λ b₂ l₂ r next. w .back b₂ l₂ r (leaf-back b₂ l₂ r next);
           }
 
@@ -188,11 +191,12 @@ module _ {s : List ℕ} {at m depth k : ℕ} {b₀ l₀ : List ℕ} {p left j : 
               within = e .2;
               opened = omega (arith, y .opened);
               place = omega (arith, y .place);
-              binders-size = y .binders-size;
+              binders-room = y .binders-room;
               leaves-size = y .leaves-size;
             };
             here = (append (now .ks) (now .later), h .1, h .2, joined s p left (h .0) (h .2) g x tp to c (u .some) now, h .4);
             from = omega arith;
+            size = w .size;
             back = λ b₂ l₂ r next. w .back b₂ l₂ r (plain-back b₂ l₂ r next);
           }
 
@@ -221,7 +225,7 @@ module _ {s : List ℕ} {at m depth k : ℕ} {b₀ l₀ : List ℕ} {p left j : 
                 within = e .2;
                 opened = omega (arith, y .opened, f .0, tys-long (now .us), now .types .long);
                 place = omega (arith, y .place);
-                binders-size = op .size;
+                binders-room = omega (arith, y .binders-room, op .size);
                 leaves-size = y .leaves-size;
               },
               (now .ks, under g (now .us) (h .1), now .mid, now .kids, f .1 (h .1) (h .4)),
@@ -232,8 +236,11 @@ module _ {s : List ℕ} {at m depth k : ℕ} {b₀ l₀ : List ℕ} {p left j : 
               → Walk s (node (head g (v .n) (v .us)) (v .ks)) Γ depth j (v .mid) b l b₂ l₂ r₂
           over ts Γ q v o =
               let f = opened-in ts q v in
-              walk-node g (v .n) (v .us) (v .ks) Γ other s depth inside j (v .mid) b l b₁ b₂ l₂ r₂ (omega (arith, f .0)) (op .kept)
+              walk-node g (v .n) (v .us) (v .ks) Γ other s depth inside j (v .mid) b l b₁ b₂ l₂ r₂ (omega (arith, f .0)) (op .kept) (op .size)
               (post .by (v .ks) (under g (v .us) Γ) (v .mid) (v .kids) (f .1 Γ o))
+
+          pub turn-size : length b₂ ≡ length b₀
+          turn-size = let h = w .here in over (h .0) (h .1) (h .2) now (h .4) .binders-size ∙ w .size
 
           pub turn-stop : r₂ ≡ Refused → BoundRow s at m depth k b₀ l₀ b₂ l₂ Refused
           turn-stop er = w .back b₂ l₂ Refused (record { by = by })
@@ -291,7 +298,7 @@ module _ {s : List ℕ} {at m depth k : ℕ} {b₀ l₀ : List ℕ} {p left j : 
                       within = omega arith;
                       opened = omega (arith, y .opened);
                       place = omega (arith, y .place, now .places);
-                      binders-size = done .binders-size;
+                      binders-room = omega (arith, y .binders-room, done .binders-size);
                       leaves-size = done .leaves-size;
                     };
                     here = (
@@ -302,18 +309,19 @@ module _ {s : List ℕ} {at m depth k : ℕ} {b₀ l₀ : List ℕ} {p left j : 
                       opened-below s (h .1) b b₂ depth (done .kept) (h .4),
                     );
                     from = omega arith;
+                    size = done .binders-size ∙ w .size;
                     back = λ b₃ l₃ r next. w .back b₃ l₃ r (over-back b₃ l₃ r next);
                   },
                 )
 
 -- ---- binding_ok
-pub ready-first : (s l₀ : List ℕ) → length s ≤ frameLimit → length l₀ ≡ 2048 → Ready s 0 0 0 (replicate 4096 0) l₀
-ready-first s l₀ f z = record {
+pub ready-first : (s b₀ l₀ : List ℕ) → length s ≤ frameLimit → length s ≤ length b₀ → length l₀ ≡ 2048 → Ready s 0 0 0 b₀ l₀
+ready-first s b₀ l₀ f h z = record {
   fits = f;
   within = omega arith;
   opened = omega arith;
   place = omega arith;
-  binders-size = length-replicate {A = ℕ} 4096 0;
+  binders-room = h;
   leaves-size = z;
 }
 

@@ -62,11 +62,11 @@ module _ (g n : ℕ) (us : List Ty) (ks : Forest) (Γ : Ctx) (d : g ≡ boundTag
   abbrev here : Tree
   here = node (head g n us) ks
 
-  pub walk-node : depth ≤ inside → Below depth b₀ b₁
+  pub walk-node : depth ≤ inside → Below depth b₀ b₁ → length b₁ ≡ length b₀
       → Walked (closedForest ks (under g us Γ)) (LeavesIn ks (under g us Γ) (k + 1) s) inside (k + 1) (k + 1 + nodesIn ks) q b₁ l₀ b₂ l₂ r
       → Walked (closedTree here Γ) (LeavesAt here Γ k s) depth k (k + nodes here) q b₀ l₀ b₂ l₂ r
   unfolding nodes
-  walk-node le h w =
+  walk-node le h e₁ w =
       let c = closed-other g n us ks Γ d in
       let z : k + 1 + nodesIn ks ≡ k + suc (nodesIn ks) = omega arith in
       let y : k + 1 ≡ suc k = omega arith in
@@ -75,7 +75,7 @@ module _ (g n : ℕ) (us : List Ty) (ks : Forest) (Γ : Ctx) (d : g ≡ boundTag
         leaves = λ e. leaves-other g n us ks Γ k s l₂ d (subst (λ (i : ℕ). LeavesIn ks (under g us Γ) i s l₂) y (w .leaves (c ∙ e)));
         others = λ i o. w .others i (wider i o);
         kept = λ i l. w .kept i (omega arith) ∙ h i l;
-        binders-size = w .binders-size;
+        binders-size = w .binders-size ∙ e₁;
         leaves-size = w .leaves-size;
       }
     where
@@ -100,7 +100,7 @@ leaves-some g n us Γ k s l a = (either (eqb g boundTag), tt)
     either true = a
     either false = tt
 
-module _ (s : List ℕ) (g n : ℕ) (us : List Ty) (Γ : Ctx) (is : g ≡ boundTag) (depth k q : ℕ) (b l : List ℕ) (bl : length b ≡ 4096)
+module _ (s : List ℕ) (g n : ℕ) (us : List Ty) (Γ : Ctx) (is : g ≡ boundTag) (depth k q : ℕ) (b l : List ℕ)
     (ll : length l ≡ 2048) (o : Opened s Γ b depth) where
   -- its index has no binder
   pub walk-none : (ks : Forest) → depth ≤ n → Walked (closedTree (node (head g n us) ks) Γ) (LeavesAt (node (head g n us) ks) Γ k s) depth k
@@ -113,7 +113,7 @@ module _ (s : List ℕ) (g n : ℕ) (us : List Ty) (Γ : Ctx) (is : g ≡ boundT
         leaves = λ f. true-not (sym c ∙ f);
         others = λ i f. refl;
         kept = λ i f. refl;
-        binders-size = bl;
+        binders-size = refl;
         leaves-size = ll;
       }
 
@@ -133,7 +133,7 @@ module _ (s : List ℕ) (g n : ℕ) (us : List Ty) (Γ : Ctx) (is : g ≡ boundT
         leaves = λ f. leaves-some g n us Γ k s (set l k v) w;
         others = λ i f. getD-set-other l k i v 0 (apart i f);
         kept = λ i f. refl;
-        binders-size = bl;
+        binders-size = refl;
         leaves-size = length-set l k v ∙ ll;
       }
     where
@@ -142,11 +142,11 @@ module _ (s : List ℕ) (g n : ℕ) (us : List Ty) (Γ : Ctx) (is : g ≡ boundT
       apart i (inr h) e = omega arith
 
 -- ---- trees in a row
-pub walk-nil : (s : List ℕ) (Γ : Ctx) (depth k q : ℕ) (b l : List ℕ) → length b ≡ 4096 → length l ≡ 2048 → WalkAll s nil Γ depth k q b l b l (Ends q k)
+pub walk-nil : (s : List ℕ) (Γ : Ctx) (depth k q : ℕ) (b l : List ℕ) → length l ≡ 2048 → WalkAll s nil Γ depth k q b l b l (Ends q k)
 unfolding closedTree LeavesAt nodes
-walk-nil s Γ depth k q b l bl ll =
+walk-nil s Γ depth k q b l ll =
     let z : k ≡ k + 0 = omega arith in
-    record { answer = ap (Ends q) z; leaves = λ f. tt; others = λ i f. refl; kept = λ i f. refl; binders-size = bl; leaves-size = ll }
+    record { answer = ap (Ends q) z; leaves = λ f. tt; others = λ i f. refl; kept = λ i f. refl; binders-size = refl; leaves-size = ll }
 
 module _ (s : List ℕ) (t : Tree) (ts : Forest) (Γ : Ctx) (depth k q p : ℕ) (b₀ l₀ b₁ l₁ : List ℕ) where
   -- what is not of the row is not of its first tree
@@ -180,7 +180,7 @@ module _ (s : List ℕ) (t : Tree) (ts : Forest) (Γ : Ctx) (depth k q p : ℕ) 
         leaves = λ f. (leaves-same t Γ k s l₁ l₂ (k + nodes t) (omega arith) (λ i h. v .others i (inl h)) (w .leaves c), v .leaves (d ∙ f));
         others = λ i f. v .others i (later i f) ∙ w .others i (sooner i f);
         kept = λ i f. v .kept i f ∙ w .kept i f;
-        binders-size = v .binders-size;
+        binders-size = v .binders-size ∙ w .binders-size;
         leaves-size = v .leaves-size;
       }
     where

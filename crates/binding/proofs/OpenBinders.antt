@@ -4,7 +4,7 @@ use mathlib.Core.Path.{_≡_, refl, sym, ap, _∙_, subst}
 use mathlib.Core.List.{List, [], _∷_, append-nil}
 use Prim.Native.Nat.{ℕ, zero, suc, _+_, _-_, _≤_, _<_}
 use native.Mathlib.Omega.{arith}
-use lib.ListN.{length, getD, set, length-append}
+use lib.ListN.{length, getD, set, length-set, length-append}
 use lib.Seq.{getD-set-same, getD-set-other}
 use Rattle.frame.specs.Types.{Ty}
 use Rattle.frame.specs.Encoding.{encTy, encTys}
@@ -107,7 +107,7 @@ module _ (s : List ℕ) (at end : ℕ) (l : at < end) where
 
     pub open-more : (b c : List ℕ) (depth m : ℕ) → depth < length b → OpenPost s p end (depth + 1) (set b depth at) c m
         → OpenPost s at end depth b c m
-    open-more b c depth m k o = record { size = o .size; kept = λ i j. o .kept i (omega arith) ∙ below-set b depth at i j; by = by }
+    open-more b c depth m k o = record { size = o .size ∙ length-set b depth at; kept = λ i j. o .kept i (omega arith) ∙ below-set b depth at i j; by = by }
       where
         by : (us : List Ty) → Spans s at end (encTys us) → TysWf us
             → (m ≡ depth + length us) × ((Γ : Ctx) → Opened s Γ b depth → Opened s (push us Γ) c m)
@@ -124,9 +124,9 @@ module _ (s : List ℕ) (at end : ℕ) (l : at < end) where
                   (opened-push s Γ b depth at (v .u) k (v .stands) q))),
             )
 
-pub open-none : (s : List ℕ) (at end depth : ℕ) (b : List ℕ) → end ≤ at → length b ≡ 4096 → OpenPost s at end depth b b depth
+pub open-none : (s : List ℕ) (at end depth : ℕ) (b : List ℕ) → end ≤ at → OpenPost s at end depth b b depth
 unfolding encTys
-open-none s at end depth b l k = record { size = k; kept = λ i j. refl; by = by }
+open-none s at end depth b l = record { size = refl; kept = λ i j. refl; by = by }
   where
     by : (us : List Ty) → Spans s at end (encTys us) → TysWf us
         → (depth ≡ depth + length us) × ((Γ : Ctx) → Opened s Γ b depth → Opened s (push us Γ) b depth)

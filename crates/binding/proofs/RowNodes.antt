@@ -75,8 +75,8 @@ bound-form : (x : ℕ) → (payloadOf (formOf 3 .layout) x ≡ x) × (length (so
 unfolding lookup classOf formAt
 bound-form x = (refl, refl)
 
-pub known : (s : List ℕ) → Bytes s → (at : ℕ) → HeadStands s at → (g : ℕ) → g ≡ numberAt 2 s at → (form : ℕ) → form ≡ formCode (classOf g) → form < 20
-    → (w : ℕ) → w ≡ width (layoutAt form) → (x : ℕ) → x ≡ numberAt w s (at + 2)
+pub known : (s : List ℕ) → Bytes s → (at : ℕ) → HeadStands s at → (g : ℕ) → g ≡ numberAt 2 s at
+    → (form : ℕ) → form ≡ formCode (classOf g) → form < 20 → (w : ℕ) → w ≡ width (layoutAt form) → (x : ℕ) → x ≡ numberAt w s (at + 2)
     → (m : ℕ) → m ≡ typesOf (layoutAt form) (formAtCode form .carried) x → (p : ℕ) → SkipPost s (at + 2 + w) m p
     → (c : ℕ) → c ≡ length (sortsOf (layoutAt form) x) → Known s at g x (at + 2 + w) p c
 known s bs at hs g eg form ef low w ew x ex m em p sk c ec = record {

@@ -39,13 +39,13 @@ Below n old new = (i : ℕ) → i < n → getD new i 0 ≡ getD old i 0
 abbrev pub Outside : ℕ → ℕ → List ℕ → List ℕ → Type 0
 Outside k j old new = (i : ℕ) → (i < k) ⊎ (j ≤ i) → getD new i 0 ≡ getD old i 0
 
--- the frame fits, each open binder has had a byte, and each place two
+-- the frame fits, each open binder has had a byte, each place two, and there is room for a binder to each byte
 pub record Ready (s : List ℕ) (at depth k : ℕ) (binders leaves : List ℕ) : Type 0 where
   pub fits : length s ≤ frameLimit
   pub within : at ≤ length s
   pub opened : depth ≤ at
   pub place : k + k ≤ at
-  pub binders-size : length binders ≡ 4096
+  pub binders-room : length s ≤ length binders
   pub leaves-size : length leaves ≡ 2048
 
 -- ---- trees that stand in a row
@@ -72,7 +72,7 @@ RowHere s at m depth binders = (ts : Forest) × (Γ : Ctx) × (q : ℕ) × Row s
 
 -- ---- binders are opened
 pub record OpenPost (s : List ℕ) (at end depth : ℕ) (old new : List ℕ) (r : ℕ) : Type 0 where
-  pub size : length new ≡ 4096
+  pub size : length new ≡ length old
   pub kept : Below depth old new
   pub by : (us : List Ty) → Spans s at end (encTys us) → TysWf us
       → (r ≡ depth + length us) × ((Γ : Ctx) → Opened s Γ old depth → Opened s (push us Γ) new r)
@@ -88,7 +88,7 @@ pub record Walked (closed : Bool) (typed : List ℕ → Type 0) (depth k j q : �
   pub leaves : closed ≡ true → typed l₁
   pub others : Outside k j l₀ l₁
   pub kept : Below depth b₀ b₁
-  pub binders-size : length b₁ ≡ 4096
+  pub binders-size : length b₁ ≡ length b₀
   pub leaves-size : length l₁ ≡ 2048
 
 pub record BoundRow (s : List ℕ) (at m depth k : ℕ) (b₀ l₀ b₁ l₁ : List ℕ) (r : Bound) : Type 0 where

@@ -27,6 +27,9 @@ const BOUND: usize = 3;
 // The tags from here on that carry types are those of binders.
 const FIRST_BINDING: usize = 801;
 
+// A frame of so many bytes has room for its binders in a small list.
+const SMALL: usize = 256;
+
 // What going over trees finds: where they end and the place of the next node, or an index that has no binder.
 enum Bound {
     Ends(usize, usize),
@@ -34,8 +37,8 @@ enum Bound {
 }
 
 // The binders whose types stand from `at` up to `end` are opened: how many are open then.
-fn open_binders(s: &[u8], at: usize, end: usize, binders: &mut [u16; 4096], depth: usize) -> usize
-    requires { ⌜ (length (now s) ≤ frameLimit) × (depth ≤ at) × (length (now binders) ≡ 4096) × ((us : List Ty) × Spans (now s) at end (encTys us) × TysWf us) ⌝ }
+fn open_binders(s: &[u8], at: usize, end: usize, binders: &mut [u16], depth: usize) -> usize
+    requires { ⌜ (length (now s) ≤ frameLimit) × (depth ≤ at) × (length (now s) ≤ length (now binders)) × ((us : List Ty) × Spans (now s) at end (encTys us) × TysWf us) ⌝ }
     ensures { λ r. ⌜ OpenPost (now (s .entry)) at end depth (now (binders .entry)) (now (binders .exit)) r ⌝ }
 {
     if end <= at {
@@ -81,7 +84,7 @@ fn bind_trees(
     s: &[u8],
     at: usize,
     m: usize,
-    binders: &mut [u16; 4096],
+    binders: &mut [u16],
     depth: usize,
     leaves: &mut [u16; 2048],
     k: usize,
@@ -127,15 +130,28 @@ fn bind_trees(
     Bound::Ends(p, j)
 }
 
-// Whether every bound index of a frame's tree has a binder; if so the table has, by place, where their types stand.
-pub fn binding_ok(s: &[u8], leaves: &mut [u16; 2048]) -> bool
-    requires { ⌜ (length (now s) ≤ frameLimit) × (length (now leaves) ≡ 2048) × ((t : Tree) × IsAt (now s) predicate 0 t (length (now s))) ⌝ }
+// Whether every bound index of a frame's tree has a binder; if so the table has, by place, where their types stand. The list of
+// open binders has room for one to each byte of the frame.
+fn bound_with(s: &[u8], binders: &mut [u16], leaves: &mut [u16; 2048]) -> bool
+    requires { ⌜ (length (now s) ≤ frameLimit) × (length (now s) ≤ length (now binders)) × (length (now leaves) ≡ 2048) × ((t : Tree) × IsAt (now s) predicate 0 t (length (now s))) ⌝ }
     ensures { λ r. ⌜ BindingPost (now (s .entry)) (now (leaves .entry)) (now (leaves .exit)) r ⌝ }
 {
-    let mut binders = [0u16; 4096];
-    let a = bind_trees(s, 0, 1, &mut binders, 0, leaves, 0);
+    let a = bind_trees(s, 0, 1, binders, 0, leaves, 0);
     match a {
         Bound::Refused => false,
         Bound::Ends(_p, _j) => true,
     }
+}
+
+// The same. A small frame doesn't pay for clearing a list that has room for the binders of the longest.
+pub fn binding_ok(s: &[u8], leaves: &mut [u16; 2048]) -> bool
+    requires { ⌜ (length (now s) ≤ frameLimit) × (length (now leaves) ≡ 2048) × ((t : Tree) × IsAt (now s) predicate 0 t (length (now s))) ⌝ }
+    ensures { λ r. ⌜ BindingPost (now (s .entry)) (now (leaves .entry)) (now (leaves .exit)) r ⌝ }
+{
+    if s.len() <= SMALL {
+        let mut few = [0u16; 256];
+        return bound_with(s, &mut few, leaves);
+    }
+    let mut binders = [0u16; 4096];
+    bound_with(s, &mut binders, leaves)
 }

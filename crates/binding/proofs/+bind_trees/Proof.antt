@@ -14,6 +14,7 @@ use Rattle.binding.proofs.BoundRows.{
   turn-plain,
   types-here,
   call-here,
+  turn-size,
   turn-stop,
   turn-over,
 }
@@ -57,17 +58,22 @@ abbrev μ-loop : lts.MeasureT-loop
 μ-loop s at m binders₀ depth leaves₀ k p₀ left₀ j₀ binders leaves p left j = length s - p
 
 loop-holds : (t : ℕ) → lts.Need-loop-holds (calls t) (from t) bind-trees.Post Inv-loop μ-loop
-loop-holds t c = going-begins _ _ _ _ _ _ _ (c .before .pre .1 .0) (c .before .pre .1 .1)
+loop-holds t c = going-begins _ _ _ _ _ _ _ (c .before .before .pre .1 .0) (c .before .before .pre .1 .1)
 
 head-at-requires : (t : ℕ) → lts.Need-head-at-requires (calls t) (from t) bind-trees.Post Inv-loop μ-loop
 head-at-requires t c κs = turn-head (c .before .loop .inv) (c .loop-test .taken)
+
+same-length : (t : ℕ) → lts.Need-same-length (calls t) (from t) bind-trees.Post Inv-loop μ-loop
+same-length t c =
+    let c₁ = c .before .before .before .before .before in
+    c₁ .loop .inv .size
 
 returns : (t : ℕ) → lts.Need-returns (calls t) (from t) bind-trees.Post Inv-loop μ-loop
 returns t c =
     let c₁ = c .before .before .before in
     let c₂ = c₁ .before in
     let c₃ = c₂ .before in
-    let c₄ = c₃ .before in
+    let c₄ = c₃ .before .before in
     turn-none (turn (c₃ .loop .inv) (c₂ .loop-test .taken) (λ i. c₄ .shared-slice-known .given i .fits) (c₁ .head-at .ensures))
     (c .before .if1 .taken) (c .if2 .taken)
 
@@ -83,18 +89,18 @@ mul-leaves t c =
     let y = c₁ .loop .inv .ready in
     omega (arith, y .opened, y .within, y .fits)
 
-element-copy-out-leaves : (t : ℕ) → lts.Need-element-copy-out-leaves (calls t) (from t) bind-trees.Post Inv-loop μ-loop
-element-copy-out-leaves t c =
-    let c₁ = c .before .before .before .before .before in
+slice-read-leaves : (t : ℕ) → lts.Need-slice-read-leaves (calls t) (from t) bind-trees.Post Inv-loop μ-loop
+slice-read-leaves t c =
+    let c₁ = c .before .before .before .before .before .before in
     let y = c₁ .loop .inv .ready in
-    omega (arith, y .opened, y .within, y .fits)
+    omega (arith, y .opened, y .within, y .binders-room)
 
 mul-leaves-2 : (t : ℕ) → lts.Need-mul-leaves-2 (calls t) (from t) bind-trees.Post Inv-loop μ-loop
 mul-leaves-2 t c =
     let c₁ = c .before .before .before .before in
     let c₂ = c₁ .before in
     let c₃ = c₂ .before in
-    let c₄ = c₃ .before in
+    let c₄ = c₃ .before .before in
     let r = turn-room (turn (c₃ .loop .inv) (c₂ .loop-test .taken) (λ i. c₄ .shared-slice-known .given i .fits) (c₁ .head-at .ensures)) in
     omega arith
 
@@ -103,7 +109,7 @@ element-write-leaves t c =
     let c₁ = c .before .before .before .before in
     let c₂ = c₁ .before in
     let c₃ = c₂ .before in
-    let c₄ = c₃ .before in
+    let c₄ = c₃ .before .before in
     let r = turn-room (turn (c₃ .loop .inv) (c₂ .loop-test .taken) (λ i. c₄ .shared-slice-known .given i .fits) (c₁ .head-at .ensures)) in
     omega arith
 
@@ -115,7 +121,7 @@ add-j t c =
     let c₁ = c .before .before .before .before in
     let c₂ = c₁ .before in
     let c₃ = c₂ .before in
-    let c₄ = c₃ .before in
+    let c₄ = c₃ .before .before in
     let r = turn-room (turn (c₃ .loop .inv) (c₂ .loop-test .taken) (λ i. c₄ .shared-slice-known .given i .fits) (c₁ .head-at .ensures)) in
     omega arith
 
@@ -124,7 +130,7 @@ loop-less t c =
     let c₁ = c .before .before .before .before in
     let c₂ = c₁ .before in
     let c₃ = c₂ .before in
-    let c₄ = c₃ .before in
+    let c₄ = c₃ .before .before in
     let r = turn-room (turn (c₃ .loop .inv) (c₂ .loop-test .taken) (λ i. c₄ .shared-slice-known .given i .fits) (c₁ .head-at .ensures)) in
     omega arith
 
@@ -133,7 +139,7 @@ loop-again t c =
     let c₁ = c .before .before .before .before in
     let c₂ = c₁ .before in
     let c₃ = c₂ .before in
-    let c₄ = c₃ .before in
+    let c₄ = c₃ .before .before in
     turn-leaf (turn (c₃ .loop .inv) (c₂ .loop-test .taken) (λ i. c₄ .shared-slice-known .given i .fits) (c₁ .head-at .ensures))
     (c .before .before .if1 .taken) (omega arith)
 
@@ -145,7 +151,7 @@ add-left t c =
     let c₁ = c .before .before .before .before .before in
     let c₂ = c₁ .before in
     let c₃ = c₂ .before in
-    let c₄ = c₃ .before in
+    let c₄ = c₃ .before .before in
     omega (arith, left-fits (turn (c₃ .loop .inv) (c₂ .loop-test .taken) (λ i. c₄ .shared-slice-known .given i .fits) (c₁ .head-at .ensures)))
 
 add-j-2 : (t : ℕ) → lts.Need-add-j-2 (calls t) (from t) bind-trees.Post Inv-loop μ-loop
@@ -153,7 +159,7 @@ add-j-2 t c =
     let c₁ = c .before .before .before .before .before in
     let c₂ = c₁ .before in
     let c₃ = c₂ .before in
-    let c₄ = c₃ .before in
+    let c₄ = c₃ .before .before in
     let r = turn-room (turn (c₃ .loop .inv) (c₂ .loop-test .taken) (λ i. c₄ .shared-slice-known .given i .fits) (c₁ .head-at .ensures)) in
     omega arith
 
@@ -162,7 +168,7 @@ loop-less-2 t c =
     let c₁ = c .before .before .before .before .before in
     let c₂ = c₁ .before in
     let c₃ = c₂ .before in
-    let c₄ = c₃ .before in
+    let c₄ = c₃ .before .before in
     let r = turn-room (turn (c₃ .loop .inv) (c₂ .loop-test .taken) (λ i. c₄ .shared-slice-known .given i .fits) (c₁ .head-at .ensures)) in
     omega arith
 
@@ -172,7 +178,7 @@ loop-again-2 t c =
     let c₂ = c₁ .before .before in
     let c₃ = c₂ .before in
     let c₄ = c₃ .before in
-    let c₅ = c₄ .before in
+    let c₅ = c₄ .before .before in
     turn-plain (turn (c₄ .loop .inv) (c₃ .loop-test .taken) (λ i. c₅ .shared-slice-known .given i .fits) (c₂ .head-at .ensures)) (c₁ .if1 .left)
     (c .before .if3 .taken)
 
@@ -182,18 +188,18 @@ open-binders-requires t c κs =
     let c₂ = c₁ .before .before in
     let c₃ = c₂ .before in
     let c₄ = c₃ .before in
-    let c₅ = c₄ .before in
+    let c₅ = c₄ .before .before in
     let y = c₄ .loop .inv .ready in
     let u = turn (c₄ .loop .inv) (c₃ .loop-test .taken) (λ i. c₅ .shared-slice-known .given i .fits) (c₂ .head-at .ensures) in
     let r = turn-room u in
-    (y .fits, omega (arith, y .opened), y .binders-size, types-here u (c₁ .if1 .left) (c .before .if3 .left))
+    (y .fits, omega (arith, y .opened), y .binders-room, types-here u (c₁ .if1 .left) (c .before .if3 .left))
 
 add-bind-trees : (t : ℕ) → lts.Need-add-bind-trees (calls t) (from t) bind-trees.Post Inv-loop μ-loop
 add-bind-trees t c =
-    let c₁ = c .before .before .before .before .before .before .before .before in
+    let c₁ = c .before .before .before .before .before .before .before .before .before .before in
     let c₂ = c₁ .before in
     let c₃ = c₂ .before in
-    let c₄ = c₃ .before in
+    let c₄ = c₃ .before .before in
     let r = turn-room (turn (c₃ .loop .inv) (c₂ .loop-test .taken) (λ i. c₄ .shared-slice-known .given i .fits) (c₁ .head-at .ensures)) in
     omega arith
 
@@ -202,28 +208,43 @@ bind-trees-requires t c κs =
     let c₁ = c .before .before .before .before in
     let c₂ = c₁ .before .before in
     let c₃ = c₂ .before .before in
-    let c₄ = c₃ .before in
+    let c₄ = c₃ .before .before in
     let c₅ = c₄ .before in
     let c₆ = c₅ .before in
-    let f = c₅ .loop .inv .from in
-    let u = turn (c₅ .loop .inv) (c₄ .loop-test .taken) (λ i. c₆ .shared-slice-known .given i .fits) (c₃ .head-at .ensures) in
+    let c₇ = c₆ .before .before in
+    let f = c₆ .loop .inv .from in
+    let u = turn (c₆ .loop .inv) (c₅ .loop-test .taken) (λ i. c₇ .shared-slice-known .given i .fits) (c₄ .head-at .ensures) in
     let r = turn-room u in
-    (omega arith, call-here u (c₂ .if1 .left) (c₁ .if3 .left) _ _ (c .before .before .open-binders .ensures))
+    (omega arith, call-here u (c₃ .if1 .left) (c₂ .if3 .left) _ _ (c₁ .open-binders .ensures))
 
 enum-told : (t : ℕ) → lts.Need-enum-told (calls t) (from t) bind-trees.Post Inv-loop μ-loop
 enum-told t c = search needs
 
-returns-2 : (t : ℕ) → lts.Need-returns-2 (calls t) (from t) bind-trees.Post Inv-loop μ-loop
-returns-2 t c =
-    let c₁ = c .before .before .before .before .before in
-    let c₂ = c₁ .before .before in
+same-length-2 : (t : ℕ) → lts.Need-same-length-2 (calls t) (from t) bind-trees.Post Inv-loop μ-loop
+same-length-2 t c =
+    let c₁ = c .before .before .before .before in
+    let c₂ = c₁ .before .before .before .before .before in
     let c₃ = c₂ .before .before in
     let c₄ = c₃ .before .before in
-    let c₅ = c₄ .before in
+    let c₅ = c₄ .before .before in
     let c₆ = c₅ .before in
     let c₇ = c₆ .before in
-    turn-stop (turn (c₆ .loop .inv) (c₅ .loop-test .taken) (λ i. c₇ .shared-slice-known .given i .fits) (c₄ .head-at .ensures)) (c₃ .if1 .left)
-    (c₂ .if3 .left) _ _ (c₁ .open-binders .ensures) _ _ _ (c .before .before .bind-trees .ensures) (c .enum-told .given .1)
+    let c₈ = c₇ .before .before in
+    turn-size (turn (c₇ .loop .inv) (c₆ .loop-test .taken) (λ i. c₈ .shared-slice-known .given i .fits) (c₅ .head-at .ensures)) (c₄ .if1 .left)
+    (c₃ .if3 .left) _ _ (c₂ .open-binders .ensures) _ _ _ (c₁ .bind-trees .ensures)
+
+returns-2 : (t : ℕ) → lts.Need-returns-2 (calls t) (from t) bind-trees.Post Inv-loop μ-loop
+returns-2 t c =
+    let c₁ = c .before .before .before .before in
+    let c₂ = c₁ .before .before .before .before .before in
+    let c₃ = c₂ .before .before in
+    let c₄ = c₃ .before .before in
+    let c₅ = c₄ .before .before in
+    let c₆ = c₅ .before in
+    let c₇ = c₆ .before in
+    let c₈ = c₇ .before .before in
+    turn-stop (turn (c₇ .loop .inv) (c₆ .loop-test .taken) (λ i. c₈ .shared-slice-known .given i .fits) (c₅ .head-at .ensures)) (c₄ .if1 .left)
+    (c₃ .if3 .left) _ _ (c₂ .open-binders .ensures) _ _ _ (c₁ .bind-trees .ensures) (c .enum-told .given .1)
 
 enum-known-a : (t : ℕ) → lts.Need-enum-known-a (calls t) (from t) bind-trees.Post Inv-loop μ-loop
 enum-known-a t c = search needs
@@ -233,30 +254,33 @@ sub-left-3 t c = search needs
 
 loop-less-3 : (t : ℕ) → lts.Need-loop-less-3 (calls t) (from t) bind-trees.Post Inv-loop μ-loop
 loop-less-3 t c =
-    let c₁ = c .before .before .before in
-    let c₂ = c₁ .before .before .before in
+    let c₁ = c .before .before .before .before .before in
+    let c₂ = c₁ .before .before .before .before .before in
     let c₃ = c₂ .before .before in
     let c₄ = c₃ .before .before in
     let c₅ = c₄ .before .before in
     let c₆ = c₅ .before in
     let c₇ = c₆ .before in
-    let c₈ = c₇ .before in
+    let c₈ = c₇ .before .before in
     let f = turn-over (turn (c₇ .loop .inv) (c₆ .loop-test .taken) (λ i. c₈ .shared-slice-known .given i .fits) (c₅ .head-at .ensures))
     (c₄ .if1 .left) (c₃ .if3 .left) _ _ (c₂ .open-binders .ensures) _ _ _ (c₁ .bind-trees .ensures) _ _ (c .before .a .given .1) in
     omega arith
 
 loop-again-3 : (t : ℕ) → lts.Need-loop-again-3 (calls t) (from t) bind-trees.Post Inv-loop μ-loop
 loop-again-3 t c =
-    let c₁ = c .before .before .before in
-    let c₂ = c₁ .before .before .before in
+    let c₁ = c .before .before .before .before .before in
+    let c₂ = c₁ .before .before .before .before .before in
     let c₃ = c₂ .before .before in
     let c₄ = c₃ .before .before in
     let c₅ = c₄ .before .before in
     let c₆ = c₅ .before in
     let c₇ = c₆ .before in
-    let c₈ = c₇ .before in
+    let c₈ = c₇ .before .before in
     turn-over (turn (c₇ .loop .inv) (c₆ .loop-test .taken) (λ i. c₈ .shared-slice-known .given i .fits) (c₅ .head-at .ensures)) (c₄ .if1 .left)
     (c₃ .if3 .left) _ _ (c₂ .open-binders .ensures) _ _ _ (c₁ .bind-trees .ensures) _ _ (c .before .a .given .1) .2
+
+same-length-3 : (t : ℕ) → lts.Need-same-length-3 (calls t) (from t) bind-trees.Post Inv-loop μ-loop
+same-length-3 t c = c .before .loop .inv .size
 
 returns-3 : (t : ℕ) → lts.Need-returns-3 (calls t) (from t) bind-trees.Post Inv-loop μ-loop
 returns-3 t c = going-done _ _ _ _ _ _ _ _ _ _ _ _ (c .before .loop .inv) (omega arith)
@@ -269,11 +293,12 @@ pub +bind-trees-spec : {M : Type 1} → statement M
     μ-loop
     (loop-holds t)
     (head-at-requires t)
+    (same-length t)
     (returns t)
     (sub-leaves t)
     (sub-leaves-2 t)
     (mul-leaves t)
-    (element-copy-out-leaves t)
+    (slice-read-leaves t)
     (mul-leaves-2 t)
     (element-write-leaves t)
     (sub-left t)
@@ -289,9 +314,11 @@ pub +bind-trees-spec : {M : Type 1} → statement M
     (add-bind-trees t)
     (bind-trees-requires t)
     (enum-told t)
+    (same-length-2 t)
     (returns-2 t)
     (enum-known-a t)
     (sub-left-3 t)
     (loop-less-3 t)
     (loop-again-3 t)
+    (same-length-3 t)
     (returns-3 t)
