@@ -35,6 +35,10 @@ fn typing_ok(s: &[u8], leaves: &[u16; 2048]) -> bool
         let mut small = [0u8; 8192];
         return typed_with(s, leaves, &mut small);
     }
+    if s.len() <= 1022 {
+        let mut medium = [0u8; 32768];
+        return typed_with(s, leaves, &mut medium);
+    }
     let mut types = [0u8; 131136];
     typed_with(s, leaves, &mut types)
 }

@@ -68,6 +68,11 @@ fn type_of_place(
         type_with(s, starts, leaves, k, &mut small, types, to);
         return;
     }
+    if s.len() <= 1022 {
+        let mut medium = [0u8; 32768];
+        type_with(s, starts, leaves, k, &mut medium, types, to);
+        return;
+    }
     let mut work = [0u8; 131136];
     type_with(s, starts, leaves, k, &mut work, types, to)
 }

@@ -16,10 +16,19 @@ slice-aggregate-typed-with-2 : tie.Need-slice-aggregate-typed-with-2
 slice-aggregate-typed-with-2 c = search needs
 
 typed-with-requires-2 : tie.Need-typed-with-requires-2
-typed-with-requires-2 c κs = (c .before .before .before .pre, let f = c .before .before .before .pre .fits in omega arith)
+typed-with-requires-2 c κs = (c .before .before .before .before .pre, omega arith)
 
 returns-2 : tie.Need-returns-2
 returns-2 c = search needs
+
+slice-aggregate-typed-with-3 : tie.Need-slice-aggregate-typed-with-3
+slice-aggregate-typed-with-3 c = search needs
+
+typed-with-requires-3 : tie.Need-typed-with-requires-3
+typed-with-requires-3 c κs = let p = c .before .before .before .before .pre in (p, let f = p .fits in omega arith)
+
+returns-3 : tie.Need-returns-3
+returns-3 c = search needs
 
 pub typing-ok-spec : {M : Type 1} → statement M
 typing-ok-spec =
@@ -30,4 +39,7 @@ typing-ok-spec =
     returns
     slice-aggregate-typed-with-2
     typed-with-requires-2
-    returns-2)
+    returns-2
+    slice-aggregate-typed-with-3
+    typed-with-requires-3
+    returns-3)

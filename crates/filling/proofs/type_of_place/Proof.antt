@@ -39,15 +39,27 @@ slice-aggregate-type-with-3 : tie.Need-slice-aggregate-type-with-3
 slice-aggregate-type-with-3 c = search needs
 
 type-with-requires-3 : tie.Need-type-with-requires-3
-type-with-requires-3 c κs =
-    let c₁ = c .before .before .before .before .before .before .before in
-    (c₁ .pre, work-all _ _ _ _ _ (let f = c₁ .pre .held .framed .short in omega arith))
+type-with-requires-3 c κs = (c .before .before .before .before .before .before .before .before .pre, work-all _ _ _ _ _ (omega arith))
 
 same-length-3 : tie.Need-same-length-3
 same-length-3 c = search needs
 
 returns-3 : tie.Need-returns-3
 returns-3 c = search needs
+
+slice-aggregate-type-with-4 : tie.Need-slice-aggregate-type-with-4
+slice-aggregate-type-with-4 c = search needs
+
+type-with-requires-4 : tie.Need-type-with-requires-4
+type-with-requires-4 c κs =
+    let c₁ = c .before .before .before .before .before .before .before .before in
+    (c₁ .pre, work-all _ _ _ _ _ (let f = c₁ .pre .held .framed .short in omega arith))
+
+same-length-4 : tie.Need-same-length-4
+same-length-4 c = search needs
+
+returns-4 : tie.Need-returns-4
+returns-4 c = search needs
 
 pub type-of-place-spec : {M : Type 1} → statement M
 type-of-place-spec =
@@ -65,4 +77,8 @@ type-of-place-spec =
     slice-aggregate-type-with-3
     type-with-requires-3
     same-length-3
-    returns-3)
+    returns-3
+    slice-aggregate-type-with-4
+    type-with-requires-4
+    same-length-4
+    returns-4)
