@@ -1,31 +1,30 @@
--- The claims of the nodes of a frame, noted from left to right: note_node, note_nodes and names_ok.
+-- The claims of the nodes of a frame, noted from left to right: note_node and note_nodes.
 -- Main results: left-tag, left-room, left-types, own-asks (what note_node asks for), node-beyond, node-clash, node-other, node-past, node-differs,
--- node-named (its ways out); the laws of Over, the invariant of note_nodes; names-agree, names-differ, names-decided.
+-- node-named (its ways out); NamesPost (what the nodes from a place on say), the laws of Over, the invariant of note_nodes.
 use mathlib.Core.Path.{_≡_, refl, sym, ap, _∙_, subst}
 use mathlib.Core.Bool.{Bool, true, false}
 use mathlib.Core.List.{List, [], _∷_, _++_, append-assoc, append-nil}
 use Prim.Native.Nat.{ℕ, _+_, _≤_, _<_}
 use native.Mathlib.Omega.{arith}
-use lib.ListN.{length, length-append, replicate, length-replicate}
+use lib.ListN.{length, length-append}
 use borrow.Author.Tests.{ne-eqb, eq-eqb}
 use Rattle.frame.specs.Types.{Ty}
-use Rattle.frame.specs.Trees.{Head, head, Tree, node, Forest, nil, cons, count, append}
-use Rattle.frame.specs.Tags.{Sort, predicate, formOf, formAt, classOf, lookup, width, typesOf, sortsOf, Form}
+use Rattle.frame.specs.Trees.{Head, head, node, Forest, nil, cons, count, append}
+use Rattle.frame.specs.Tags.{Sort, formOf, formAt, classOf, lookup, width, typesOf, sortsOf, Form}
 use Rattle.tags.specs.TagCodes.{formCode, formAtCode}
 use Rattle.frame.specs.Encoding.{encNumber, encTy, encTys, encHead, enc, encs}
 use Rattle.frame.specs.Reading.{numberAt}
 use Rattle.frame.specs.WellFormed.{TyWf, TysWf, numberIn, HeadWf}
-use Rattle.frame.specs.Spans.{Bytes, Spans}
-use Rattle.frame.specs.At.{IsAt, Rest}
+use Rattle.frame.specs.Spans.{Spans}
+use Rattle.frame.specs.At.{Rest}
 use Rattle.frame.proofs.Spans.{span-left, span-right}
 use Rattle.frame.proofs.Numbers.{number-length, number-back}
 use Rattle.frame.proofs.ReadBack.{enc-long}
 use Rattle.frame.proofs.Forests.{encs-append, wfs-append}
 use Rattle.tags.proofs.TagTables.{code-form}
-use Rattle.reading.proofs.AgainTurns.{frame-rest}
 use Rattle.typing.specs.Typing.{carriedTy}
 use Rattle.typing.specs.Members.{All}
-use Rattle.typing.specs.Identifiers.{identTag, Named, named, givensTys, identOf, namesAgree}
+use Rattle.typing.specs.Identifiers.{identTag, Named, named, givensTys, identOf}
 use Rattle.identifiers.specs.Claims.{
   powers,
   claimsOf,
@@ -39,16 +38,13 @@ use Rattle.identifiers.specs.Claims.{
   TypesPost,
   NodePost,
   NamePost,
-  NamesAnswer,
-  NamesPost,
+  Unlisted,
 }
 use Rattle.identifiers.specs.declared.Noting.{Noting}
 use Rattle.identifiers.specs.declared.Noting.the-variants.{Ends, Clashed, Beyond}
 use Rattle.identifiers.specs.declared.Names.{Names}
 use Rattle.identifiers.specs.declared.Names.the-variants.{Agree, Differ, Undecided}
-use Rattle.identifiers.proofs.Claims.{agree-told, clash-disagree}
 use Rattle.identifiers.proofs.NotedClaims.{
-  told-none,
   noted-nil,
   noted-then,
   noted-early,
@@ -297,6 +293,15 @@ module _ (s : List ℕ) (at tag form w x m : ℕ) (d : Seen s at tag form w x m)
         node-named f = node-by t₂ (Ends q) (both true f)
 
 -- ---- the loop of note_nodes: what is left, and what its end says of all
+-- how claims were noted
+abbrev pub NamesAnswer : List ℕ → List ℕ → List ℕ → List Named → Names → Type 0
+NamesAnswer s before after new Agree = Noted s before after new true
+NamesAnswer s before after new Differ = Noted s before after new false
+NamesAnswer s before after new Undecided = Unlisted before new
+
+pub record NamesPost (s : List ℕ) (at : ℕ) (before after : List ℕ) (r : Names) : Type 0 where
+  pub by : (ts : Forest) (es : List Sort) → Rest s at ts es → NamesAnswer s before after (claimsIn ts) r
+
 claims-now : (h : Head) (ks later : Forest) → claimsIn (cons (node h ks) later) ≡ claimsOf h ++ claimsIn (append ks later)
 unfolding claims
 claims-now h ks later = rw claims-append (append-assoc (claimsOf h) (claimsIn ks) (claimsIn later))
@@ -382,23 +387,3 @@ module _ (s : List ℕ) (t₀ : List ℕ) where
               answer-then s t₁ t₂ t₃ (claimsOf h) (claimsIn (append ks later)) b (c .1)
               (x .by (append ks later) es (subst (λ (j : ℕ). Rest s j (append ks later) es) (sym (c .0)) a))));
         }
-
--- ---- names_ok
--- a table with no claims at first
-module _ (s : List ℕ) (bs : Bytes s) (m : ℕ) (table : List ℕ) (r : Names) (p : NamesPost s 0 (replicate m 0) table r) (t : Tree)
-    (a : IsAt s predicate 0 t (length s)) where
-  answer : NamesAnswer s (replicate m 0) table (claims t) r
-  unfolding claims
-  answer = subst (λ (l : List Named). NamesAnswer s (replicate m 0) table l r) (append-nil (claims t))
-      (p .by (cons t nil) (predicate ∷ []) (frame-rest s bs t a))
-
-  pub names-agree : r ≡ Agree → true ≡ namesAgree t
-  names-agree e = let n = subst (NamesAnswer s (replicate m 0) table (claims t)) e answer in sym (agree-told s table t (n .by [] (told-none s m)))
-
-  pub names-differ : r ≡ Differ → false ≡ namesAgree t
-  names-differ e = let n = subst (NamesAnswer s (replicate m 0) table (claims t)) e answer in sym (clash-disagree t (n .by [] (told-none s m)))
-
-  pub names-decided : 65536 ≤ m → r ≡ Undecided → ⊥
-  names-decided l e =
-      let n = subst (NamesAnswer s (replicate m 0) table (claims t)) e answer in
-      omega (arith, n .beyond, n .low, length-replicate {A = ℕ} m 0)

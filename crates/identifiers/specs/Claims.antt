@@ -4,7 +4,7 @@ use mathlib.Core.Path.{_≡_}
 use mathlib.Core.Bool.{Bool, true, false}
 use mathlib.Core.List.{List, [], _∷_, _++_}
 use Prim.Native.Nat.{ℕ, suc, _+_, _-_, _≤_, _<_}
-use lib.ListN.{length, getD}
+use lib.ListN.{length, getD, replicate}
 use Rattle.frame.specs.Types.{Ty, given, pow}
 use Rattle.frame.specs.Trees.{Head, head, Tree, node, Forest, nil, cons, count}
 use Rattle.frame.specs.Tags.{pick, Sort}
@@ -14,7 +14,7 @@ use Rattle.frame.specs.WellFormed.{TyWf}
 use Rattle.frame.specs.At.{Rest}
 use Rattle.frame.specs.Spans.{Spans}
 use Rattle.typing.specs.Members.{In, All}
-use Rattle.typing.specs.Identifiers.{Named, named, givensTys, identOf}
+use Rattle.typing.specs.Identifiers.{Named, named, givensTys, identOf, namesAgree}
 use Rattle.identifiers.specs.declared.Noting.{Noting}
 use Rattle.identifiers.specs.declared.Noting.the-variants.{Ends, Clashed, Beyond}
 use Rattle.identifiers.specs.declared.Names.{Names}
@@ -123,11 +123,12 @@ pub record NodePost (s : List ℕ) (at : ℕ) (before after : List ℕ) (r : Not
 abbrev pub GivenPost : List ℕ → ℕ → List ℕ → List ℕ → Bool → Type 0
 GivenPost s n before after r = Noted s before after (named n (pow (given n)) ∷ []) r
 
--- how claims were noted
-abbrev pub NamesAnswer : List ℕ → List ℕ → List ℕ → List Named → Names → Type 0
-NamesAnswer s before after new Agree = Noted s before after new true
-NamesAnswer s before after new Differ = Noted s before after new false
-NamesAnswer s before after new Undecided = Unlisted before new
+-- a table with no claims
+abbrev pub Clear : List ℕ → Type 0
+Clear table = (m : ℕ) × (table ≡ replicate m 0)
 
-pub record NamesPost (s : List ℕ) (at : ℕ) (before after : List ℕ) (r : Names) : Type 0 where
-  pub by : (ts : Forest) (es : List Sort) → Rest s at ts es → NamesAnswer s before after (claimsIn ts) r
+-- what is answered of the names of a tree; a table of all two-byte numbers leaves none undecided
+abbrev pub Decides : List ℕ → Tree → Names → Type 0
+Decides table t Agree = true ≡ namesAgree t
+Decides table t Differ = false ≡ namesAgree t
+Decides table t Undecided = length table < 65536

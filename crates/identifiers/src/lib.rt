@@ -1,7 +1,7 @@
 // Number 9 (document 01: "One identifier number has two types, or is the number of a given set in some type of the tree and
 // its type isn't the power of that set."). Nodes stand in prefix order, and so do the parts of a type: the frame is gone
 // through once from left to right, and a table holds what has been claimed of each identifier number. A frame with a number
-// beyond the table is gone through again with a table of all numbers.
+// beyond the table is gone through again with a longer one, and at last with a table of all numbers.
 use heads::number;
 use heads::type_bytes;
 use heads::type_parts;
@@ -20,7 +20,7 @@ ghost use Rattle.frame.specs.Tags.{Sort, predicate};
 ghost use Rattle.frame.specs.At.{IsAt, Rest};
 ghost use Rattle.frame.specs.Reading.{frameLimit};
 ghost use Rattle.typing.specs.Identifiers.{namesAgree};
-ghost use Rattle.identifiers.specs.Claims.{PowerPost, SameType, Held, TypeAt, TypesAt, NamePost, GivenPost, TypesPost, NodePost, NamesPost};
+ghost use Rattle.identifiers.specs.Claims.{PowerPost, SameType, Held, TypeAt, TypesAt, NamePost, GivenPost, TypesPost, NodePost, Clear, Decides};
 
 const IDENTIFIER: usize = 1;
 
@@ -162,10 +162,10 @@ fn note_node(s: &[u8], at: usize, table: &mut [u16]) -> Noting
     }
 }
 
-// All nodes of the frame.
+// All nodes of the frame, with a table that has no claims yet.
 fn note_nodes(s: &[u8], table: &mut [u16]) -> Names
-    requires { ⌜ Held (now s) (now table) × ((ts : Forest) × (es : List Sort) × Rest (now s) 0 ts es) ⌝ }
-    ensures { λ r. ⌜ NamesPost (now (s .entry)) 0 (now (table .entry)) (now (table .exit)) r ⌝ }
+    requires { ⌜ (length (now s) ≤ frameLimit) × ((t : Tree) × IsAt (now s) predicate 0 t (length (now s))) × Clear (now table) ⌝ }
+    ensures { λ r. ⌜ ((t : Tree) → IsAt (now (s .entry)) predicate 0 t (length (now (s .entry))) → Decides (now (table .entry)) t r) ⌝ }
 {
     let mut at = 0;
     while at < s.len() {
@@ -200,7 +200,21 @@ fn names_in_full(s: &[u8]) -> bool
     }
 }
 
-// The same. Nearly all frames have small numbers only: those don't pay for clearing the table of all numbers.
+// The same, for frames with no number from 4,096 on: those don't pay for clearing the table of all numbers.
+fn names_of_many(s: &[u8]) -> bool
+    requires { ⌜ (length (now s) ≤ frameLimit) × ((t : Tree) × IsAt (now s) predicate 0 t (length (now s))) ⌝ }
+    ensures { λ r. ⌜ ((t : Tree) → IsAt (now (s .entry)) predicate 0 t (length (now (s .entry))) → r ≡ namesAgree t) ⌝ }
+{
+    let mut table = [0u16; 4096];
+    let a = note_nodes(s, &mut table);
+    match a {
+        Names::Agree => true,
+        Names::Differ => false,
+        Names::Undecided => names_in_full(s),
+    }
+}
+
+// The same. Nearly all frames have numbers below 256 only.
 pub fn names_ok(s: &[u8]) -> bool
     requires { ⌜ (length (now s) ≤ frameLimit) × ((t : Tree) × IsAt (now s) predicate 0 t (length (now s))) ⌝ }
     ensures { λ r. ⌜ ((t : Tree) → IsAt (now (s .entry)) predicate 0 t (length (now (s .entry))) → r ≡ namesAgree t) ⌝ }
@@ -210,6 +224,6 @@ pub fn names_ok(s: &[u8]) -> bool
     match a {
         Names::Agree => true,
         Names::Differ => false,
-        Names::Undecided => names_in_full(s),
+        Names::Undecided => names_of_many(s),
     }
 }

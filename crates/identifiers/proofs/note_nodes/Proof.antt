@@ -2,7 +2,8 @@ use Prim.Native.Nat.{_-_}
 use native.Mathlib.Omega.{arith}
 use lib.ListN.{length}
 use borrow.Author.Needs.{needs}
-use Rattle.identifiers.proofs.NotingNodes.{Over, over-begins, over-done, over-clash, over-beyond, over-further, over-next}
+use Rattle.identifiers.proofs.NotingNodes.{Over, over-done, over-clash, over-beyond, over-further, over-next}
+use Rattle.identifiers.proofs.TreeNames.{begins, decides}
 use Rattle.identifiers.proofs.note_nodes.Statement.{statement}
 use Rattle.identifiers.proofs.note_nodes.Tie as tie
 
@@ -13,7 +14,9 @@ abbrev μ-loop : tie.MeasureT-loop
 μ-loop s table₀ at₀ table at = length s - at
 
 loop-holds : tie.Need-loop-holds Inv-loop μ-loop
-loop-holds c = over-begins _ _ (c .before .before .pre .0) (c .before .before .pre .1)
+loop-holds c =
+    let p = c .before .before .pre in
+    begins _ (λ i. c .before .shared-slice-known .given i .fits) _ (p .2) (p .0) (p .1 .0) (p .1 .1)
 
 note-node-requires : tie.Need-note-node-requires Inv-loop μ-loop
 note-node-requires c κs = (c .before .loop-test .taken, c .before .before .loop .inv .held, c .before .before .loop .inv .left)
@@ -46,7 +49,9 @@ returns c =
     let c₁ = c .before .before .before .before in
     let c₂ = c₁ .before .before in
     let c₃ = c₂ .before in
-    over-clash _ _ _ _ (c₃ .loop .inv) (c₂ .loop-test .taken) _ _ (c₁ .note-node .ensures) (c .enum-told .given .1)
+    let c₄ = c₃ .before .before in
+    decides _ (λ i. c₄ .shared-slice-known .given i .fits) _ (c₄ .before .pre .2) _ _
+    (over-clash _ _ _ _ (c₃ .loop .inv) (c₂ .loop-test .taken) _ _ (c₁ .note-node .ensures) (c .enum-told .given .1))
 
 enum-told-2 : tie.Need-enum-told-2 Inv-loop μ-loop
 enum-told-2 c = search needs
@@ -59,13 +64,17 @@ returns-2 c =
     let c₁ = c .before .before .before .before in
     let c₂ = c₁ .before .before in
     let c₃ = c₂ .before in
-    over-beyond _ _ _ _ (c₃ .loop .inv) (c₂ .loop-test .taken) _ _ (c₁ .note-node .ensures) (c .enum-told2 .given .1)
+    let c₄ = c₃ .before .before in
+    decides _ (λ i. c₄ .shared-slice-known .given i .fits) _ (c₄ .before .pre .2) _ _
+    (over-beyond _ _ _ _ (c₃ .loop .inv) (c₂ .loop-test .taken) _ _ (c₁ .note-node .ensures) (c .enum-told2 .given .1))
 
 same-length-3 : tie.Need-same-length-3 Inv-loop μ-loop
 same-length-3 c = c .before .loop .inv .size
 
 returns-3 : tie.Need-returns-3 Inv-loop μ-loop
-returns-3 c = over-done _ _ _ _ (c .before .loop .inv) (omega arith)
+returns-3 c =
+    let c₁ = c .before .before .before in
+    decides _ (λ i. c₁ .shared-slice-known .given i .fits) _ (c₁ .before .pre .2) _ _ (over-done _ _ _ _ (c .before .loop .inv) (omega arith))
 
 pub note-nodes-spec : {M : Type 1} → statement M
 note-nodes-spec =
