@@ -2,3 +2,4 @@ pub mod MatchTurns
 pub mod PairTurns
 pub mod FillTurns
 pub mod JudgeTurns
+pub mod FirstTurns

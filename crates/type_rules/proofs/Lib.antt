@@ -1,4 +1,5 @@
 pub mod Matching
+pub mod ResultTypes
 pub mod RuleShapes
 pub mod ClassShapes
 pub mod PatternRules
