@@ -1,4 +1,5 @@
 pub mod NodeTurns
+pub mod TreesTurns
 pub mod FrameSays
 pub mod FrameTurns
 pub mod AgainTurns

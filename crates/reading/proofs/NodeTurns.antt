@@ -1,5 +1,5 @@
--- The ways out of `read_node` and `read_kids`, on plain values.
--- Main results: node-refused, node-room, node-kids; kids-none, kids-refused, kids-room, kids-more.
+-- A tree by its head and its children, and a row of trees by the first and the others, on plain values.
+-- Main results: node-yes, node-no; node-refused, node-room, node-kids; row-none, row-refused, row-room, row-more.
 use mathlib.Core.Path.{_≡_, refl, sym, ap, ap₂, _∙_, subst}
 use mathlib.Core.Bool.{Bool}
 use mathlib.Core.List.{List, []}
@@ -14,7 +14,7 @@ use Rattle.frame.specs.Encoding.{encHead, enc, starts, startsIn}
 use Rattle.frame.specs.Reading.{HeadRes, Res, ok, no, FRes, okF, noF, consF, thenF, readMany, nodeOf, withKids, readNode}
 use Rattle.frame.specs.Spans.{Bytes, Spans}
 use Rattle.heads.specs.HeadPost.{headThere}
-use Rattle.reading.specs.Post.{nodeAnswer, kidsAnswer, Room, NodePost, KidsPost}
+use Rattle.reading.specs.Post.{nodeAnswer, treesAnswer, Room, NodePost, TreesPost}
 use Rattle.heads.specs.declared.HeadAnswer.{HeadAnswer}
 use Rattle.reading.specs.declared.NodeAnswer.{NodeAnswer}
 use Rattle.reading.specs.declared.NodeAnswer.the-variants.{Ends, Refused}
@@ -34,7 +34,7 @@ pub node-no : (x : Res) (k c : ℕ) → Refused c ≡ nodeAnswer k x → x ≡ n
 node-no (ok t q) k c e = let z : _≡_ {A = ℕ} 0 1 = cc in absurd (omega arith)
 node-no (no d) k c e = cc
 
--- ---- read_node
+-- ---- a tree, by its head and its children
 module _ (s : List ℕ) (e : Sort) (at k : ℕ) (t₀ t₁ : List ℕ) (room : Room s at k) (hd : HeadAnswer) (eh : hd ≡ headThere s at e) where
   pub node-refused : (c : ℕ) → hd ≡ H.Refused c → NodePost s e at k t₀ t₁ (Refused c)
   unfolding readNode
@@ -69,12 +69,12 @@ module _ (s : List ℕ) (e : Sort) (at k : ℕ) (t₀ t₁ : List ℕ) (room : R
         ap (λ (x : HeadRes). withKids x (readNode f s)) (said .is)
         ∙ ap (λ (es : List Sort). nodeOf top (readMany es (readNode f s) p)) (sym kinds)
 
-    one-more : (x : FRes) → kidsAnswer (k + 1) x ≡ nodeAnswer k (nodeOf top x)
+    one-more : (x : FRes) → treesAnswer (k + 1) x ≡ nodeAnswer k (nodeOf top x)
     unfolding nodes
     one-more (okF ts q) = let z : k + 1 + nodesIn ts ≡ k + suc (nodesIn ts) = omega arith in ap (Ends q) z
     one-more (noF c) = refl
 
-    on-kids : (r : NodeAnswer) → KidsPost s (kindsFor m a b) p (k + 1) (set t₀ k at) t₁ r → (f : ℕ) → length s < p + f → (t : Tree) (q : ℕ) (x : FRes)
+    on-kids : (r : NodeAnswer) → TreesPost s (kindsFor m a b) p (k + 1) (set t₀ k at) t₁ r → (f : ℕ) → length s < p + f → (t : Tree) (q : ℕ) (x : FRes)
         → readMany (kindsFor m a b) (readNode f s) p ≡ x → nodeOf top x ≡ ok t q → t₁ ≡ sets t₀ k (starts t at)
     unfolding starts
     on-kids r post f l t q (okF ts q') ex eq =
@@ -88,7 +88,7 @@ module _ (s : List ℕ) (e : Sort) (at k : ℕ) (t₀ t₁ : List ℕ) (room : R
         ∙ ap (λ (u : Tree). sets t₀ k (starts u at)) et
     on-kids r post f l t q (noF c) ex eq = no-not eq
 
-    pub node-kids : (r : NodeAnswer) → KidsPost s (kindsFor m a b) p (k + 1) (set t₀ k at) t₁ r → NodePost s e at k t₀ t₁ r
+    pub node-kids : (r : NodeAnswer) → TreesPost s (kindsFor m a b) p (k + 1) (set t₀ k at) t₁ r → NodePost s e at k t₀ t₁ r
     node-kids r post = record { answer = answer; table = table }
       where
         answer : (f : ℕ) → length s < at + f → r ≡ nodeAnswer k (readNode f s e at)
@@ -100,13 +100,13 @@ module _ (s : List ℕ) (e : Sort) (at k : ℕ) (t₀ t₁ : List ℕ) (room : R
         table zero l t q eq = absurd (omega (arith, room .within))
         table (suc f) l t q eq = on-kids r post f (omega (arith, spanned .1)) t q (readMany (kindsFor m a b) (readNode f s) p) refl (sym (is f) ∙ eq)
 
--- ---- read_kids
+-- ---- a row of trees, by the first and the others
 module _ (s : List ℕ) (n : ℕ) (a b : Bool) (at k : ℕ) (t₀ : List ℕ) where
-  pub kids-none : n ≡ 0 → KidsPost s (kindsFor n a b) at k t₀ t₀ (Ends at k)
+  pub row-none : n ≡ 0 → TreesPost s (kindsFor n a b) at k t₀ t₀ (Ends at k)
   unfolding readMany nodes starts
-  kids-none z = subst (λ (i : ℕ). KidsPost s (kindsFor i a b) at k t₀ t₀ (Ends at k)) (sym z) (record { answer = answer; table = table })
+  row-none z = subst (λ (i : ℕ). TreesPost s (kindsFor i a b) at k t₀ t₀ (Ends at k)) (sym z) (record { answer = answer; table = table })
     where
-      answer : (f : ℕ) → length s < at + f → Ends at k ≡ kidsAnswer k (readMany [] (readNode f s) at)
+      answer : (f : ℕ) → length s < at + f → Ends at k ≡ treesAnswer k (readMany [] (readNode f s) at)
       answer f l = let z : k ≡ k + 0 = omega arith in ap (Ends at) z
 
       table : (f : ℕ) → length s < at + f → (ts : Forest) (q : ℕ) → readMany [] (readNode f s) at ≡ okF ts q → t₀ ≡ sets t₀ k (startsIn ts at)
@@ -121,8 +121,8 @@ module _ (s : List ℕ) (n : ℕ) (a b : Bool) (at k : ℕ) (t₀ : List ℕ) wh
         ap (λ (i : ℕ). readMany (kindsFor i a b) (readNode f s) at) z
         ∙ ap (λ (es : List Sort). thenF (readNode f s (sortFor a) at) (λ q. readMany es (readNode f s) q)) (kinds-rest (n - 1) b)
 
-    pub kids-refused : (c : ℕ) → r₁ ≡ Refused c → KidsPost s (kindsFor n a b) at k t₀ t₁ (Refused c)
-    kids-refused c ec = record { answer = λ f l. ap (kidsAnswer k) (sym (is-no f l)); table = λ f l ts q eq. noF-not (sym (is-no f l) ∙ eq) }
+    pub row-refused : (c : ℕ) → r₁ ≡ Refused c → TreesPost s (kindsFor n a b) at k t₀ t₁ (Refused c)
+    row-refused c ec = record { answer = λ f l. ap (treesAnswer k) (sym (is-no f l)); table = λ f l ts q eq. noF-not (sym (is-no f l) ∙ eq) }
       where
         is-no : (f : ℕ) → length s < at + f → readMany (kindsFor n a b) (readNode f s) at ≡ noF c
         is-no f l =
@@ -134,8 +134,8 @@ module _ (s : List ℕ) (n : ℕ) (a b : Bool) (at k : ℕ) (t₀ : List ℕ) wh
       first : (f : ℕ) → length s < at + f → (t : Tree) × (readNode f s (sortFor a) at ≡ ok t p) × (j ≡ k + nodes t)
       first f l = node-yes (readNode f s (sortFor a) at) k p j (sym ep ∙ post .answer f l)
 
-      pub kids-room : Room s p j × (at + 2 ≤ p)
-      kids-room =
+      pub row-room : Room s p j × (at + 2 ≤ p)
+      row-room =
           let l : length s < at + suc (length s) = omega arith in
           let t = first (suc (length s)) l .0 in
           let r = first (suc (length s)) l .1 in
@@ -143,7 +143,7 @@ module _ (s : List ℕ) (n : ℕ) (a b : Bool) (at k : ℕ) (t₀ : List ℕ) wh
           let e = node-end (suc (length s)) s bs (sortFor a) at t p r in
           (record { within = e .1; short = room .short; room = omega (arith, room .room, d .long, first (suc (length s)) l .2, nodes-enc t) }, e .0)
 
-      cons-more : (t : Tree) (x : FRes) → j ≡ k + nodes t → kidsAnswer j x ≡ kidsAnswer k (consF t x)
+      cons-more : (t : Tree) (x : FRes) → j ≡ k + nodes t → treesAnswer j x ≡ treesAnswer k (consF t x)
       unfolding nodes
       cons-more t (okF ts q) ej = let z : j + nodesIn ts ≡ k + (nodes t + nodesIn ts) = omega arith in ap (Ends q) z
       cons-more t (noF c) ej = refl
@@ -152,7 +152,7 @@ module _ (s : List ℕ) (n : ℕ) (a b : Bool) (at k : ℕ) (t₀ : List ℕ) wh
           (readMany (kindsFor (n - 1) b b) (readNode f s) p)
       is-cons f l = step f ∙ ap (λ (x : Res). thenF x (λ q. readMany (kindsFor (n - 1) b b) (readNode f s) q)) (first f l .1)
 
-      module _ (t₂ : List ℕ) (r : NodeAnswer) (rest : KidsPost s (kindsFor (n - 1) b b) p j t₁ t₂ r) where
+      module _ (t₂ : List ℕ) (r : NodeAnswer) (rest : TreesPost s (kindsFor (n - 1) b b) p j t₁ t₂ r) where
         on-rest : (f : ℕ) (l : length s < at + f) (ts : Forest) (q : ℕ) (x : FRes) → readMany (kindsFor (n - 1) b b) (readNode f s) p ≡ x
             → consF (first f l .0) x ≡ okF ts q → t₂ ≡ sets t₀ k (startsIn ts at)
         unfolding starts
@@ -162,21 +162,21 @@ module _ (s : List ℕ) (n : ℕ) (a b : Bool) (at k : ℕ) (t₀ : List ℕ) wh
             let sp = node-enc f s bs (sortFor a) at t p (first f l .1) in
             let y : p ≡ at + length (enc t) = omega (arith, sp .long) in
             let d : j ≡ k + length (starts t at) = omega (arith, starts-length t at, first f l .2) in
-            rest .table f (omega (arith, kids-room .1)) us q' ex
+            rest .table f (omega (arith, row-room .1)) us q' ex
             ∙ ap (λ (x : List ℕ). sets x j (startsIn us p)) (post .table f l t p (first f l .1))
             ∙ ap₂ (λ (x y : ℕ). sets (sets t₀ k (starts t at)) x (startsIn us y)) d y
             ∙ sym (sets-append t₀ k (starts t at) (startsIn us (at + length (enc t))))
             ∙ ap (λ (u : Forest). sets t₀ k (startsIn u at)) et
         on-rest f l ts q (noF c) ex eq = noF-not eq
 
-        pub kids-more : KidsPost s (kindsFor n a b) at k t₀ t₂ r
-        kids-more = record { answer = answer; table = table }
+        pub row-more : TreesPost s (kindsFor n a b) at k t₀ t₂ r
+        row-more = record { answer = answer; table = table }
           where
-            answer : (f : ℕ) → length s < at + f → r ≡ kidsAnswer k (readMany (kindsFor n a b) (readNode f s) at)
+            answer : (f : ℕ) → length s < at + f → r ≡ treesAnswer k (readMany (kindsFor n a b) (readNode f s) at)
             answer f l =
-                rest .answer f (omega (arith, kids-room .1))
+                rest .answer f (omega (arith, row-room .1))
                 ∙ cons-more (first f l .0) (readMany (kindsFor (n - 1) b b) (readNode f s) p) (first f l .2)
-                ∙ ap (kidsAnswer k) (sym (is-cons f l))
+                ∙ ap (treesAnswer k) (sym (is-cons f l))
 
             table : (f : ℕ) → length s < at + f → (ts : Forest) (q : ℕ) → readMany (kindsFor n a b) (readNode f s) at ≡ okF ts q
                 → t₂ ≡ sets t₀ k (startsIn ts at)

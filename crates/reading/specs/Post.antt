@@ -21,9 +21,9 @@ abbrev pub nodeAnswer : ℕ → Res → NodeAnswer
 nodeAnswer k (ok t q) = N.Ends q (k + nodes t)
 nodeAnswer k (no c) = N.Refused c
 
-abbrev pub kidsAnswer : ℕ → FRes → NodeAnswer
-kidsAnswer k (okF ts q) = N.Ends q (k + nodesIn ts)
-kidsAnswer k (noF c) = N.Refused c
+abbrev pub treesAnswer : ℕ → FRes → NodeAnswer
+treesAnswer k (okF ts q) = N.Ends q (k + nodesIn ts)
+treesAnswer k (noF c) = N.Refused c
 
 -- `at` is within the bytes, which fit a frame, and the table has room for a node for each two bytes
 pub record Room (s : List ℕ) (at k : ℕ) : Type 0 where
@@ -36,8 +36,8 @@ pub record NodePost (s : List ℕ) (e : Sort) (at k : ℕ) (t₀ t₁ : List ℕ
   pub answer : (f : ℕ) → length s < at + f → r ≡ nodeAnswer k (readNode f s e at)
   pub table : (f : ℕ) → length s < at + f → (t : Tree) (q : ℕ) → readNode f s e at ≡ ok t q → t₁ ≡ sets t₀ k (starts t at)
 
-pub record KidsPost (s : List ℕ) (es : List Sort) (at k : ℕ) (t₀ t₁ : List ℕ) (r : NodeAnswer) : Type 0 where
-  pub answer : (f : ℕ) → length s < at + f → r ≡ kidsAnswer k (readMany es (readNode f s) at)
+pub record TreesPost (s : List ℕ) (es : List Sort) (at k : ℕ) (t₀ t₁ : List ℕ) (r : NodeAnswer) : Type 0 where
+  pub answer : (f : ℕ) → length s < at + f → r ≡ treesAnswer k (readMany es (readNode f s) at)
   pub table : (f : ℕ) → length s < at + f → (ts : Forest) (q : ℕ) → readMany es (readNode f s) at ≡ okF ts q → t₁ ≡ sets t₀ k (startsIn ts at)
 
 -- ---- a frame

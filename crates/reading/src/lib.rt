@@ -5,9 +5,9 @@ ghost use mathlib.Core.Path.{_≡_};
 ghost use Prim.Native.Nat.{_+_, _<_};
 ghost use lib.ListN.{replicate};
 ghost use Rattle.frame.specs.Trees.{Tree};
-ghost use Rattle.tags.specs.TagCodes.{sortFor, kindsFor};
+ghost use Rattle.tags.specs.TagCodes.{kindsFor};
 ghost use Rattle.frame.specs.Reading.{parse, tree};
-ghost use Rattle.reading.specs.Post.{PlacesPre, PlacesPost, Room, NodePost, KidsPost, frameAnswer, tableOf};
+ghost use Rattle.reading.specs.Post.{PlacesPre, PlacesPost, Room, TreesPost, frameAnswer, tableOf};
 use frame::refusals::BAD_LENGTH;
 use frame::refusals::BYTES_FOLLOW;
 use heads::HeadAnswer;
@@ -33,50 +33,58 @@ pub struct FrameRead {
     pub starts: [u16; 2048],
 }
 
-// The tree at `at`, an expression where e; the starts of its nodes go into the table from place k on.
-fn read_node(s: &[u8], at: usize, e: bool, starts: &mut [u16; 2048], k: usize) -> NodeAnswer
-    requires { ⌜ Room (now s) at k ⌝ }
-    ensures { λ r. ⌜ NodePost (now (s .entry)) (sortFor e) at k (now (starts .entry)) (now (starts .exit)) r ⌝ }
-{
-    let h = read_head(s, at, e);
-    match h {
-        HeadAnswer::Refused(c) => NodeAnswer::Refused(c),
-        HeadAnswer::Is {
-            tag: _,
-            payload: _,
-            types: _,
-            children,
-            count,
-            first,
-            later,
-        } => {
-            starts[k] = at as u16;
-            read_kids(s, children, count, first, later, starts, k + 1)
-        }
-    }
-}
-
-// n trees in a row, the first and the later ones of these sorts.
-fn read_kids(
+// n trees in a row at `at`, the first and the later ones of these sorts; the starts of their nodes go into the table from place k
+// on. The row gets shorter from its front, and the children of its last tree are the next row. Those of a tree before the last
+// are gone over by a call, as the trees behind it may be of another sort.
+fn read_trees(
     s: &[u8],
-    at: usize,
-    n: usize,
-    first: bool,
-    later: bool,
+    mut at: usize,
+    mut n: usize,
+    mut first: bool,
+    mut later: bool,
     starts: &mut [u16; 2048],
-    k: usize,
+    mut k: usize,
 ) -> NodeAnswer
     requires { ⌜ Room (now s) at k ⌝ }
-    ensures { λ r. ⌜ KidsPost (now (s .entry)) (kindsFor n first later) at k (now (starts .entry)) (now (starts .exit)) r ⌝ }
+    ensures { λ r. ⌜ TreesPost (now (s .entry)) (kindsFor n first later) at k (now (starts .entry)) (now (starts .exit)) r ⌝ }
 {
-    if n == 0 {
-        return NodeAnswer::Ends(at, k);
+    while 0 < n {
+        let h = read_head(s, at, first);
+        match h {
+            HeadAnswer::Refused(c) => return NodeAnswer::Refused(c),
+            HeadAnswer::Is {
+                children,
+                count,
+                first: a,
+                later: b,
+                ..
+            } => {
+                starts[k] = at as u16;
+                at = children;
+                n -= 1;
+                k += 1;
+                if n == 0 {
+                    n = count;
+                    first = a;
+                    later = b;
+                    continue;
+                }
+                first = later;
+                if count == 0 {
+                    continue;
+                }
+                let r = read_trees(s, at, count, a, b, starts, k);
+                match r {
+                    NodeAnswer::Refused(c) => return NodeAnswer::Refused(c),
+                    NodeAnswer::Ends(p, j) => {
+                        at = p;
+                        k = j;
+                    }
+                }
+            }
+        }
     }
-    let a = read_node(s, at, first, starts, k);
-    match a {
-        NodeAnswer::Ends(p, j) => read_kids(s, p, n - 1, later, later, starts, j),
-        NodeAnswer::Refused(c) => NodeAnswer::Refused(c),
-    }
+    NodeAnswer::Ends(at, k)
 }
 
 // The frame is turned down: its number, and a fresh table.
@@ -101,7 +109,7 @@ pub fn read(frame: &[u8]) -> FrameRead
         return refused(BAD_LENGTH);
     }
     let mut starts = [0u16; 2048];
-    let a = read_node(frame, 0, false, &mut starts, 0);
+    let a = read_trees(frame, 0, 1, false, false, &mut starts, 0);
     match a {
         NodeAnswer::Ends(p, k) => {
             if p < n {

@@ -1,6 +1,7 @@
 -- `reading::read` meets its contract.
 use borrow.Author.Needs.{needs}
 use Rattle.reading.proofs.FrameTurns.{read-empty, read-long, read-refused, read-more, read-whole}
+use Rattle.reading.proofs.TreesTurns.{of-row}
 use Rattle.reading.proofs.read.Statement.{statement}
 use Rattle.reading.proofs.read.Tie as tie
 
@@ -16,8 +17,8 @@ refused-requires-2 c κs = search needs
 returns-2 : tie.Need-returns-2
 returns-2 c = read-long _ _ _ (c .before .before .if1 .left) (c .before .if2 .taken) (c .refused2 .ensures)
 
-read-node-requires : tie.Need-read-node-requires
-read-node-requires c κs = search needs
+read-trees-requires : tie.Need-read-trees-requires
+read-trees-requires c κs = search needs
 
 enum-known-a : tie.Need-enum-known-a
 enum-known-a c = search needs
@@ -31,7 +32,7 @@ returns-3 c =
     let c₂ = c₁ .before .before in
     let c₃ = c₂ .before .before in
     let c₄ = c₃ .before in
-    read-more _ (c₄ .if1 .left) (c₃ .if2 .left) _ _ (c₂ .read-node .ensures) _ _ (c₁ .a .given .1)
+    read-more _ (c₄ .if1 .left) (c₃ .if2 .left) _ _ (of-row _ _ _ _ _ _ _ (c₂ .read-trees .ensures)) _ _ (c₁ .a .given .1)
     (c .before .if3 .taken) _ _ (c .refused3 .ensures)
 
 enum-known-a-2 : tie.Need-enum-known-a-2
@@ -46,7 +47,7 @@ returns-4 c =
     let c₂ = c₁ .before .before in
     let c₃ = c₂ .before in
     let c₄ = c₃ .before in
-    read-whole _ (c₃ .if1 .left) (c₂ .if2 .left) _ _ (c₁ .read-node .ensures) _ _ (c .before .before .a .given .1)
+    read-whole _ (c₃ .if1 .left) (c₂ .if2 .left) _ _ (of-row _ _ _ _ _ _ _ (c₁ .read-trees .ensures)) _ _ (c .before .before .a .given .1)
     (λ i. c₄ .shared-slice-known .given i .fits) (c .if3 .left)
 
 returns-5 : tie.Need-returns-5
@@ -54,7 +55,7 @@ returns-5 c =
     let c₁ = c .before .before .before .before in
     let c₂ = c₁ .before .before in
     let c₃ = c₂ .before in
-    read-refused _ (c₃ .if1 .left) (c₂ .if2 .left) _ _ (c₁ .read-node .ensures) _
+    read-refused _ (c₃ .if1 .left) (c₂ .if2 .left) _ _ (of-row _ _ _ _ _ _ _ (c₁ .read-trees .ensures)) _
     (c .before .before .a2 .given .1) _ _ (c .refused4 .ensures)
 
 pub read-spec : {M : Type 1} → statement M
@@ -65,7 +66,7 @@ read-spec =
     returns
     refused-requires-2
     returns-2
-    read-node-requires
+    read-trees-requires
     enum-known-a
     refused-requires-3
     returns-3
