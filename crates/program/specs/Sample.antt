@@ -1,4 +1,5 @@
--- Document 01's own example of the program, a line that is none and a last line without an end, by one evaluation of `simplified`.
+-- Document 01's own example of the program, a line that is none and a last line without an end, by one evaluation of `simplified`; then
+-- how answers of every word are printed.
 use mathlib.Core.Path.{_≡_, refl}
 use mathlib.Core.List.{List, [], _∷_, map}
 use Prim.Native.Nat.{ℕ}
@@ -6,7 +7,7 @@ use Prim.Native.String.{String}
 use Rattle.frame.specs.Trees.{nodes}
 use Rattle.frame.specs.Tags.{lookup, classOf, formAt}
 use Rattle.frame.specs.Lines.{digitOf, readLine, digitFor, writeLine}
-use Rattle.frame.specs.Texts.{codes}
+use Rattle.frame.specs.Texts.{codes, bytes}
 use Rattle.frame.specs.Encoding.{encNumber, encTy, encTys, encHead, enc}
 use Rattle.frame.specs.Reading.{numberAt, tyCase, readTy, readTys, withNumber, withForm, readHead, readMany, readNode, parse}
 use Rattle.frame.specs.Places.{find, replace}
@@ -24,7 +25,7 @@ use Rattle.rules.specs.EqualsEmptySet.{anySingle, firstSingle, anyMinus, minuen
 use Rattle.rules.specs.EqualsType.{rewriteEqualsType}
 use Rattle.rules.specs.Dispatch.{dispatch}
 use Rattle.step.specs.Step.{stepTree}
-use Rattle.run.specs.Run.{firstFrom, firstStep, runTree, run}
+use Rattle.run.specs.Run.{firstFrom, firstStep, runTree, REST, SPENT, FULL, RunOutcome, ended, turnedDown, run}
 use Rattle.program.specs.Text.{decimalIn, decimal, endedText, refusedText, answerText, lineText}
 use Rattle.program.specs.Stream.{answers, lastLine, simplified}
 
@@ -57,3 +58,27 @@ unfolding digitOf readLine digitFor writeLine nodes lookup classOf formAt encNum
     anyMinus minuends subtrahends interEmpty rewriteEqualsEmptySet rewriteEqualsType dispatch stepTree firstFrom firstStep runTree run
     decimalIn decimal endedText refusedText answerText lineText answers lastLine simplified cases
 sample = refl
+
+-- ---- answers of every word, with counts of one digit and of more: "prints the answer word, the step count in decimal and the frame, or
+-- REFUSED and the number, with one space between"
+data Printed : Type 0 where
+  printed-as : RunOutcome → String → Printed
+
+answered : List Printed
+answered =
+    printed-as (ended REST 0 (bytes "0262")) "REST 0 0262\n"
+    ∷ printed-as (ended SPENT 9 (bytes "02BD0262")) "SPENT 9 02BD0262\n"
+    ∷ printed-as (ended FULL 10 (bytes "0263")) "FULL 10 0263\n"
+    ∷ printed-as (ended SPENT 65535 (bytes "0262")) "SPENT 65535 0262\n"
+    ∷ printed-as (turnedDown 10) "REFUSED 10\n"
+    ∷ []
+
+abbrev textOf : Printed → List ℕ
+textOf (printed-as o t) = answerText o
+
+abbrev wanted : Printed → List ℕ
+wanted (printed-as o t) = codes t
+
+answer-texts : map textOf answered ≡ map wanted answered
+unfolding digitOf readLine bytes digitFor writeLine decimalIn decimal endedText refusedText answerText answered
+answer-texts = refl
