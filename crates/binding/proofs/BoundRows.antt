@@ -14,13 +14,14 @@ use Rattle.frame.specs.Reading.{frameLimit}
 use Rattle.frame.specs.Places.{Ctx, under}
 use Rattle.frame.specs.Spans.{Bytes, Spans}
 use Rattle.frame.specs.At.{IsAt}
-use Rattle.heads.specs.HeadPost.{HeadStands}
+use Rattle.heads.specs.HeadPost.{HeadStands, KnownPost}
+use Rattle.heads.specs.declared.KnownHead.{KnownHead}
 use Rattle.frame.proofs.Inversion.{true-not}
 use Rattle.frame.proofs.ReadTypes.{tys-long}
 use Rattle.heads.proofs.View.{at-span, at-wf}
 use Rattle.typing.specs.Binding.{boundTag, closedTree, closedForest}
 use Rattle.typing.specs.Leaves.{LeavesAt}
-use Rattle.binding.specs.Bound.{Opened, Outside, Known, Ready, Row, RowHere, OpenPost, BoundRow, BindingPost}
+use Rattle.binding.specs.Bound.{Opened, Outside, Ready, Row, RowHere, OpenPost, BoundRow, BindingPost}
 use Rattle.binding.specs.declared.Bound.{Bound}
 use Rattle.binding.specs.declared.Bound.the-variants.{Ends, Refused}
 use Rattle.binding.proofs.OpenBinders.{Binders, opened-below}
@@ -64,30 +65,46 @@ going-done s at m depth k b₀ l₀ p left j b l w z = w .back b l (Ends p j) (r
     none (cons t ts) Γ q a = absurd (omega (arith, a .many))
 
 -- a turn: the first of the trees that are left, with what the code knows of its head
-pub record Turn (s : List ℕ) (at m depth k : ℕ) (b₀ l₀ : List ℕ) (p left j : ℕ) (b l : List ℕ) (g x tp to c : ℕ) : Type 0 where
+pub record Turn (s : List ℕ) (at m depth k : ℕ) (b₀ l₀ : List ℕ) (p left j : ℕ) (b l : List ℕ) (hd : KnownHead) : Type 0 where
   pub bytes : Bytes s
   pub going : Going s at m depth k b₀ l₀ p left j b l
   pub some : 0 < left
-  pub known : Known s p g x tp to c
+  pub known : KnownPost s p hd
 
 module _ {s : List ℕ} {at m depth k : ℕ} {b₀ l₀ : List ℕ} {p left j : ℕ} {b l : List ℕ}
     (w : Going s at m depth k b₀ l₀ p left j b l) (some : 0 < left) where
   pub turn-head : HeadStands s p
   turn-head = row-head s p left depth b some (w .here)
 
-  pub turn : Bytes s → {g x tp to c : ℕ} → Known s p g x tp to c → Turn s at m depth k b₀ l₀ p left j b l g x tp to c
+  pub turn : Bytes s → {hd : KnownHead} → KnownPost s p hd → Turn s at m depth k b₀ l₀ p left j b l hd
   turn bs kn = record { bytes = bs; going = w; some = some; known = kn }
 
-module _ {s : List ℕ} {at m depth k : ℕ} {b₀ l₀ : List ℕ} {p left j : ℕ} {b l : List ℕ} {g x tp to c : ℕ}
-    (u : Turn s at m depth k b₀ l₀ p left j b l g x tp to c) where
+module _ {s : List ℕ} {at m depth k : ℕ} {b₀ l₀ : List ℕ} {p left j : ℕ} {b l : List ℕ} {hd : KnownHead}
+    (u : Turn s at m depth k b₀ l₀ p left j b l hd) where
+  -- its tag, the number behind the tag, where its types and its children start, how many children there are
+  abbrev g : ℕ
+  g = hd .tag
+
+  abbrev x : ℕ
+  x = hd .number
+
+  abbrev tp : ℕ
+  tp = hd .types
+
+  abbrev to : ℕ
+  to = hd .children
+
+  abbrev c : ℕ
+  c = hd .count
+
   abbrev w : Going s at m depth k b₀ l₀ p left j b l
   w = u .going
 
-  first : (ts : Forest) (q : ℕ) → Row s p left ts q → FirstNode s p left ts q g x tp to c
-  first = node-of s (u .bytes) p left (u .some) g x tp to c (u .known)
+  first : (ts : Forest) (q : ℕ) → Row s p left ts q → FirstNode s p left ts q hd
+  first = node-of s (u .bytes) p left (u .some) hd (u .known)
 
   -- the one of the trees that are there
-  abbrev now : FirstNode s p left (w .here .0) (w .here .2) g x tp to c
+  abbrev now : FirstNode s p left (w .here .0) (w .here .2) hd
   now = first (w .here .0) (w .here .2) (w .here .3)
 
   pub turn-room : (p + 2 ≤ tp) × (tp ≤ to) × (to ≤ length s) × (j < 2048)
@@ -97,7 +114,7 @@ module _ {s : List ℕ} {at m depth k : ℕ} {b₀ l₀ : List ℕ} {p left j : 
       (v .0, v .1, omega arith, omega (arith, y .fits, y .place))
 
   pub left-fits : left - 1 + c ≤ length s
-  left-fits = row-long s to (left - 1 + c) _ _ (joined s p left _ _ g x tp to c (u .some) now)
+  left-fits = row-long s to (left - 1 + c) _ _ (joined s p left _ _ hd (u .some) now)
 
   -- ---- a bound identifier
   module _ (is : g ≡ boundTag) where
@@ -116,7 +133,7 @@ module _ {s : List ℕ} {at m depth k : ℕ} {b₀ l₀ : List ℕ} {p left j : 
       l₁ = set l j (getD b (depth - 1 - x) 0)
 
       -- it ends where its children would start
-      leaf-end : (ts : Forest) (q : ℕ) (v : FirstNode s p left ts q g x tp to c) → (v .ks ≡ nil) × (v .mid ≡ to)
+      leaf-end : (ts : Forest) (q : ℕ) (v : FirstNode s p left ts q hd) → (v .ks ≡ nil) × (v .mid ≡ to)
       unfolding enc
       leaf-end ts q v = go (v .ks) refl
         where
@@ -128,7 +145,7 @@ module _ {s : List ℕ} {at m depth k : ℕ} {b₀ l₀ : List ℕ} {p left j : 
               let z : count (cons t ks) ≡ 0 = ap count (sym e) ∙ v .kids .many ∙ v .alone is in
               absurd (omega arith)
 
-      after-leaf : (ts : Forest) (q : ℕ) (v : FirstNode s p left ts q g x tp to c) → Row s to (left - 1) (v .later) q
+      after-leaf : (ts : Forest) (q : ℕ) (v : FirstNode s p left ts q hd) → Row s to (left - 1) (v .later) q
       after-leaf ts q v = subst (λ (i : ℕ). Row s i (left - 1) (v .later) q) (leaf-end ts q v .1) (v .after)
 
       leaf-back : (b₂ l₂ : List ℕ) (r : Bound) → BoundRow s to (left - 1) depth (j + 1) b l₁ b₂ l₂ r → BoundRow s p left depth j b l b₂ l₂ r
@@ -176,7 +193,7 @@ module _ {s : List ℕ} {at m depth k : ℕ} {b₀ l₀ : List ℕ} {p left j : 
       plain-back b₂ l₂ r next = record {
         by = λ ts Γ q a o. (let v = first ts q a in
             rw (v .is) (walk-plain g (v .n) (v .us) (v .ks) (v .later) Γ other (under-plain g (v .us) Γ plain) s depth j q b l b₂ l₂ r
-            (next .by (append (v .ks) (v .later)) Γ q (joined s p left ts q g x tp to c (u .some) v) o)));
+            (next .by (append (v .ks) (v .later)) Γ q (joined s p left ts q hd (u .some) v) o)));
       }
 
       pub turn-plain : Going s at m depth k b₀ l₀ to (left - 1 + c) (j + 1) b l
@@ -194,7 +211,7 @@ module _ {s : List ℕ} {at m depth k : ℕ} {b₀ l₀ : List ℕ} {p left j : 
               binders-room = y .binders-room;
               leaves-size = y .leaves-size;
             };
-            here = (append (now .ks) (now .later), h .1, h .2, joined s p left (h .0) (h .2) g x tp to c (u .some) now, h .4);
+            here = (append (now .ks) (now .later), h .1, h .2, joined s p left (h .0) (h .2) hd (u .some) now, h .4);
             from = omega arith;
             size = w .size;
             back = λ b₂ l₂ r next. w .back b₂ l₂ r (plain-back b₂ l₂ r next);
@@ -206,7 +223,7 @@ module _ {s : List ℕ} {at m depth k : ℕ} {b₀ l₀ : List ℕ} {p left j : 
       types-here = (now .us, now .types, now .wf .types)
 
       module _ (b₁ : List ℕ) (inside : ℕ) (op : OpenPost s tp to depth b b₁ inside) where
-        opened-in : (ts : Forest) (q : ℕ) (v : FirstNode s p left ts q g x tp to c)
+        opened-in : (ts : Forest) (q : ℕ) (v : FirstNode s p left ts q hd)
             → (inside ≡ depth + length (v .us)) × ((Γ : Ctx) → Opened s Γ b depth → Opened s (under g (v .us) Γ) b₁ inside)
         opened-in ts q v =
             let f = op .by (v .us) (v .types) (v .wf .types) in (
@@ -232,7 +249,7 @@ module _ {s : List ℕ} {at m depth k : ℕ} {b₀ l₀ : List ℕ} {p left j : 
             )
 
         module _ (b₂ l₂ : List ℕ) (r₂ : Bound) (post : BoundRow s to c inside (j + 1) b₁ l b₂ l₂ r₂) where
-          over : (ts : Forest) (Γ : Ctx) (q : ℕ) (v : FirstNode s p left ts q g x tp to c) → Opened s Γ b depth
+          over : (ts : Forest) (Γ : Ctx) (q : ℕ) (v : FirstNode s p left ts q hd) → Opened s Γ b depth
               → Walk s (node (head g (v .n) (v .us)) (v .ks)) Γ depth j (v .mid) b l b₂ l₂ r₂
           over ts Γ q v o =
               let f = opened-in ts q v in
@@ -254,7 +271,7 @@ module _ {s : List ℕ} {at m depth k : ℕ} {b₀ l₀ : List ℕ} {p left j : 
 
           module _ (e i : ℕ) (er : r₂ ≡ Ends e i) where
             -- its tree has been gone over
-            past : (ts : Forest) (Γ : Ctx) (q : ℕ) (v : FirstNode s p left ts q g x tp to c) → Opened s Γ b depth
+            past : (ts : Forest) (Γ : Ctx) (q : ℕ) (v : FirstNode s p left ts q hd) → Opened s Γ b depth
                 → (e ≡ v .mid) × (i ≡ j + nodes (node (head g (v .n) (v .us)) (v .ks)))
                 × Walk s (node (head g (v .n) (v .us)) (v .ks)) Γ depth j (v .mid) b l b₂ l₂
                 (Ends (v .mid) (j + nodes (node (head g (v .n) (v .us)) (v .ks))))

@@ -1,32 +1,30 @@
 -- Number 8 in the bytes: the first node of a row of trees, by what the code reads of it.
--- Main results: row-head (a head stands there), known (what head_at says of it), node-of (the first node, its children and the later trees),
+-- Main results: row-head (a head stands there), node-of (the first node, its children and the later trees),
 -- joined (the children join the later trees), row-long.
 use mathlib.Core.Path.{_≡_, refl, sym, ap, _∙_, subst}
+use mathlib.Core.Bool.{Bool}
 use mathlib.Core.List.{List, [], _∷_, _++_}
-use Prim.Native.Nat.{ℕ, _+_, _-_, _≤_, _<_}
+use Prim.Native.Nat.{ℕ, zero, suc, _+_, _-_, _≤_, _<_}
 use native.Mathlib.Omega.{arith}
 use lib.ListN.{length, length-append}
 use Rattle.frame.specs.Types.{Ty}
 use Rattle.frame.specs.Trees.{head, Tree, node, Forest, nil, cons, append, count, nodes}
-use Rattle.frame.specs.Tags.{Sort, Form, formOf, formAt, classOf, lookup, width, payloadOf, typesOf, sortsOf}
-use Rattle.tags.specs.TagCodes.{formCode, formAtCode, firstSort, laterSort, kindsFor}
+use Rattle.frame.specs.Tags.{Sort, Form, formOf, formAt, classOf, lookup, payloadOf, sortsOf}
+use Rattle.tags.specs.TagCodes.{formAtCode, kindsFor}
 use Rattle.frame.specs.Encoding.{encTys, enc, encs}
-use Rattle.frame.specs.Reading.{numberAt}
-use Rattle.frame.specs.WellFormed.{HeadWf, Wfs}
+use Rattle.frame.specs.WellFormed.{numberIn, HeadWf, Wfs}
 use Rattle.frame.specs.Spans.{Bytes, Spans}
 use Rattle.frame.specs.At.{IsAt}
-use Rattle.heads.specs.HeadPost.{SkipPost, HeadStands}
+use Rattle.heads.specs.HeadPost.{HeadStands, payloadIn, KnownPost}
+use Rattle.heads.specs.declared.KnownHead.{KnownHead}
 use Rattle.frame.proofs.Spans.{span-left, span-right, span-join}
 use Rattle.frame.proofs.Forests.{encs-append, count-append, wfs-append}
 use Rattle.frame.proofs.Extents.{nodes-enc}
 use Rattle.frame.proofs.ReadBack.{enc-long}
 use Rattle.tags.proofs.TagTables.{code-form}
-use Rattle.tags.proofs.FormTables.{layoutAt}
-use Rattle.heads.proofs.View.{stands-at, kids-span, kids-wf, view}
-use Rattle.heads.proofs.HeadTurns.{head-is}
-use Rattle.heads.proofs.KnownTurns.{known-range, known-found}
+use Rattle.heads.proofs.View.{stands-at, kids-span, kids-wf, known-view}
 use Rattle.typing.specs.Binding.{boundTag}
-use Rattle.binding.specs.Bound.{Known, Row, RowHere}
+use Rattle.binding.specs.Bound.{Row, RowHere}
 
 -- ---- the first tree
 record FirstTree (s : List ℕ) (at m : ℕ) (ts : Forest) (q : ℕ) : Type 0 where
@@ -69,71 +67,60 @@ count-long (cons t ts) = omega (arith, length-append (enc t) (encs ts), enc-long
 pub row-long : (s : List ℕ) (at m : ℕ) (ts : Forest) (q : ℕ) → Row s at m ts q → m ≤ length s
 row-long s at m ts q a = omega (arith, a .many, a .span .long, a .span .within, count-long ts)
 
--- ---- head_at
--- a bound identifier has its index behind the tag, and no child
-bound-form : (x : ℕ) → (payloadOf (formOf 3 .layout) x ≡ x) × (length (sortsOf (formOf 3 .layout) x) ≡ 0)
+-- ---- a bound identifier
+-- it has its index behind the tag, and no child
+bound-form : (x y : ℕ) → (payloadOf (formOf 3 .layout) x ≡ x) × (sortsOf (formOf 3 .layout) y ≡ [])
 unfolding lookup classOf formAt
-bound-form x = (refl, refl)
+bound-form x y = (refl, refl)
 
-pub known : (s : List ℕ) → Bytes s → (at : ℕ) → HeadStands s at → (g : ℕ) → g ≡ numberAt 2 s at
-    → (form : ℕ) → form ≡ formCode (classOf g) → form < 20 → (w : ℕ) → w ≡ width (layoutAt form) → (x : ℕ) → x ≡ numberAt w s (at + 2)
-    → (m : ℕ) → m ≡ typesOf (layoutAt form) (formAtCode form .carried) x → (p : ℕ) → SkipPost s (at + 2 + w) m p
-    → (c : ℕ) → c ≡ length (sortsOf (layoutAt form) x) → Known s at g x (at + 2 + w) p c
-known s bs at hs g eg form ef low w ew x ex m em p sk c ec = record {
-  n = payloadOf (layoutAt form) x;
-  first = firstSort (sortsOf (layoutAt form) 1);
-  later = laterSort (sortsOf (layoutAt form) 1);
-  is = known-found s at g eg form ef w ew x ex m em bs p sk _
-      (head-is form g x (at + 2 + w) p low (known-range s at g eg form ef w ew x ex hs) _ c _ _ refl ec refl refl);
-  index = λ z. subst (λ (fm : Form). payloadOf (fm .layout) x ≡ x) (bound z) (bound-form x .0);
-  alone = λ z. ec ∙ subst (λ (fm : Form). length (sortsOf (fm .layout) x) ≡ 0) (bound z) (bound-form x .1);
-}
-  where
-    bound : g ≡ boundTag → formOf 3 ≡ formAtCode form
-    bound z = sym (code-form g form ef ∙ ap formOf z)
+no-kinds : (c : ℕ) (a b : Bool) → kindsFor c a b ≡ [] → c ≡ 0
+no-kinds zero a b e = refl
+no-kinds (suc c) a b e = let z : _≡_ {A = ℕ} 0 1 = cc in absurd (omega arith)
 
 -- ---- the first node, its children, and the later trees
-pub record FirstNode (s : List ℕ) (at m : ℕ) (ts : Forest) (q g x tp p c : ℕ) : Type 0 where
+pub record FirstNode (s : List ℕ) (at m : ℕ) (ts : Forest) (q : ℕ) (hd : KnownHead) : Type 0 where
   pub e : Sort
   pub n : ℕ
   pub us : List Ty
   pub ks : Forest
   pub later : Forest
   pub mid : ℕ
-  pub is : ts ≡ cons (node (head g n us) ks) later
-  pub index : g ≡ boundTag → n ≡ x
-  pub alone : g ≡ boundTag → c ≡ 0
-  pub types : Spans s tp p (encTys us)
-  pub wf : HeadWf e g n us (count ks)
-  pub kids : Row s p c ks mid
+  pub is : ts ≡ cons (node (head (hd .tag) n us) ks) later
+  pub index : hd .tag ≡ boundTag → n ≡ hd .number
+  pub alone : hd .tag ≡ boundTag → hd .count ≡ 0
+  pub types : Spans s (hd .types) (hd .children) (encTys us)
+  pub wf : HeadWf e (hd .tag) n us (count ks)
+  pub kids : Row s (hd .children) (hd .count) ks mid
   pub after : Row s mid (m - 1) later q
-  pub within : (at + 2 ≤ tp) × (tp ≤ p) × (p ≤ mid) × (mid ≤ length s)
+  pub within : (at + 2 ≤ hd .types) × (hd .types ≤ hd .children) × (hd .children ≤ mid) × (mid ≤ length s)
   -- each place has two bytes
-  pub places : at + (nodes (node (head g n us) ks) + nodes (node (head g n us) ks)) ≤ mid
+  pub places : at + (nodes (node (head (hd .tag) n us) ks) + nodes (node (head (hd .tag) n us) ks)) ≤ mid
 
-module _ (s : List ℕ) (bs : Bytes s) (at m : ℕ) (l : 0 < m) (g x tp p c : ℕ) (kn : Known s at g x tp p c) where
-  pub node-of : (ts : Forest) (q : ℕ) → Row s at m ts q → FirstNode s at m ts q g x tp p c
+module _ (s : List ℕ) (bs : Bytes s) (at m : ℕ) (l : 0 < m) (hd : KnownHead) (kn : KnownPost s at hd) where
+  own-form : hd .tag ≡ boundTag → formOf 3 ≡ formAtCode (hd .form)
+  own-form z = sym (code-form (hd .tag) (hd .form) (kn .form) ∙ ap formOf z)
+
+  pub node-of : (ts : Forest) (q : ℕ) → Row s at m ts q → FirstNode s at m ts q hd
   node-of ts q a =
       let f = first-tree s at m l ts q a in
-      let v = view s (f .e) at (f .t) (f .mid) (f .stands) _ (kn .is .by (f .e) (f .t) (f .mid) (f .stands)) bs g (kn .n) tp p c
-      (kn .first) (kn .later) refl in
-      let es : List Sort = kindsFor c (kn .first) (kn .later) in
+      let v = known-view s bs at hd kn (f .e) (f .t) (f .mid) (f .stands) in
       record {
         e = f .e;
-        n = kn .n;
+        n = payloadIn hd;
         us = v .us;
         ks = v .ks;
         later = f .later;
         mid = f .mid;
         is = f .is ∙ ap (λ (t : Tree). cons t (f .later)) (v .is);
-        index = kn .index;
-        alone = kn .alone;
+        index = λ z. subst (λ (k : Form). payloadOf (k .layout) (hd .number) ≡ hd .number) (own-form z) (bound-form (hd .number) 0 .0);
+        alone = λ z. no-kinds (hd .count) _ _ (v .top .sorts ∙ ap (λ (g : ℕ). sortsOf (formOf g .layout)
+            (numberIn (hd .tag) (payloadIn hd) (v .us) (count (v .ks)))) z ∙ bound-form 0 _ .1);
         types = v .top .types;
         wf = v .top .wf;
         kids = record {
-          sorts = es;
-          span = kids-span s bs es p (v .top .types .within) (v .ks) (f .mid) (v .below);
-          wf = kids-wf s bs es p (v .top .types .within) (v .ks) (f .mid) (v .below);
+          sorts = _;
+          span = kids-span s bs _ (hd .children) (v .top .types .within) (v .ks) (f .mid) (v .below);
+          wf = kids-wf s bs _ (hd .children) (v .top .types .within) (v .ks) (f .mid) (v .below);
           many = v .many;
         };
         after = f .after;
@@ -141,11 +128,11 @@ module _ (s : List ℕ) (bs : Bytes s) (at m : ℕ) (l : 0 < m) (g x tp p c : �
         places = subst (λ (t : Tree). at + (nodes t + nodes t) ≤ f .mid) (v .is) (omega (arith, f .long, nodes-enc (f .t)));
       }
 
-pub joined : (s : List ℕ) (at m : ℕ) (ts : Forest) (q g x tp p c : ℕ) → 0 < m → (v : FirstNode s at m ts q g x tp p c)
-    → Row s p (m - 1 + c) (append (v .ks) (v .later)) q
-joined s at m ts q g x tp p c l v = record {
+pub joined : (s : List ℕ) (at m : ℕ) (ts : Forest) (q : ℕ) (hd : KnownHead) → 0 < m → (v : FirstNode s at m ts q hd)
+    → Row s (hd .children) (m - 1 + hd .count) (append (v .ks) (v .later)) q
+joined s at m ts q hd l v = record {
   sorts = v .kids .sorts ++ v .after .sorts;
-  span = subst (Spans s p q) (sym (encs-append (v .ks) (v .later))) (span-join (v .kids .span) (v .after .span));
+  span = subst (Spans s (hd .children) q) (sym (encs-append (v .ks) (v .later))) (span-join (v .kids .span) (v .after .span));
   wf = wfs-append (v .ks) (v .later) (v .kids .sorts) (v .after .sorts) (v .kids .wf) (v .after .wf);
   many = omega (arith, count-append (v .ks) (v .later), v .kids .many, v .after .many);
 }

@@ -15,9 +15,7 @@ use Rattle.frame.specs.Places.{Ctx, push}
 use Rattle.frame.specs.WellFormed.{TysWf, Wfs}
 use Rattle.frame.specs.Spans.{Spans}
 use Rattle.frame.specs.At.{IsAt}
-use Rattle.heads.specs.HeadPost.{KnownPost}
-use Rattle.heads.specs.declared.HeadAnswer.the-variants.{Is}
-use Rattle.typing.specs.Binding.{boundTag, closedTree, closedForest}
+use Rattle.typing.specs.Binding.{closedTree, closedForest}
 use Rattle.typing.specs.Leaves.{LeavesAt, LeavesIn}
 use Rattle.binding.specs.declared.Bound.{Bound}
 use Rattle.binding.specs.declared.Bound.the-variants.{Ends, Refused}
@@ -49,16 +47,6 @@ pub record Ready (s : List ℕ) (at depth k : ℕ) (binders leaves : List ℕ) :
   pub leaves-size : length leaves ≡ 2048
 
 -- ---- trees that stand in a row
--- what is known of the head at `at`: its tag, the number behind the tag, where its types and its children start, how many children
--- there are. A bound identifier's number is its index, and it has no children
-pub record Known (s : List ℕ) (at g x tp p c : ℕ) : Type 0 where
-  pub n : ℕ
-  pub first : Bool
-  pub later : Bool
-  pub is : KnownPost s at (Is g n tp p c first later)
-  pub index : g ≡ boundTag → n ≡ x
-  pub alone : g ≡ boundTag → c ≡ 0
-
 -- m trees stand one after the other from `at` up to q
 pub record Row (s : List ℕ) (at m : ℕ) (ts : Forest) (q : ℕ) : Type 0 where
   pub sorts : List Sort

@@ -1,12 +1,8 @@
 // Number 8 (document 01: "A bound index has no binder, anywhere in the tree."). The nodes are gone over in the order
 // of the frame, with a list of where the types of the open binders stand; so the types of bound identifiers are found on the way,
 // and go into a table by place for typing to read.
-use heads::number;
+use heads::known_head;
 use heads::skip_types;
-use tags::children_of;
-use tags::form_of;
-use tags::types_of;
-use tags::width_of;
 ghost use mathlib.Core.Path.{_≡_};
 ghost use mathlib.Core.List.{List};
 ghost use Prim.Native.Nat.{_≤_};
@@ -19,8 +15,7 @@ ghost use Rattle.frame.specs.Reading.{frameLimit};
 ghost use Rattle.frame.specs.WellFormed.{TysWf};
 ghost use Rattle.frame.specs.Spans.{Spans};
 ghost use Rattle.frame.specs.At.{IsAt};
-ghost use Rattle.heads.specs.HeadPost.{HeadStands};
-ghost use Rattle.binding.specs.Bound.{Known, Ready, RowHere, OpenPost, BoundRow, BindingPost};
+ghost use Rattle.binding.specs.Bound.{Ready, RowHere, OpenPost, BoundRow, BindingPost};
 
 const BOUND: usize = 3;
 
@@ -49,34 +44,6 @@ fn open_binders(s: &[u8], at: usize, end: usize, binders: &mut [u16], depth: usi
     open_binders(s, p, end, binders, depth + 1)
 }
 
-// The head of a tree that was read before: its tag, the number behind the tag, where its types and its children start, and how
-// many children there are.
-struct NodeHead {
-    tag: usize,
-    number: usize,
-    types: usize,
-    children: usize,
-    count: usize,
-}
-
-fn head_at(s: &[u8], at: usize) -> NodeHead
-    requires { ⌜ HeadStands (now s) at ⌝ }
-    ensures { λ r. ⌜ Known (now (s .entry)) at (r .tag) (r .number) (r .types) (r .children) (r .count) ⌝ }
-{
-    let tag = number(s, at, 2);
-    let form = form_of(tag);
-    let w = width_of(form);
-    let x = number(s, at + 2, w);
-    let types = at + 2 + w;
-    NodeHead {
-        tag: tag,
-        number: x,
-        types: types,
-        children: skip_types(s, types, types_of(form, x)),
-        count: children_of(form, x),
-    }
-}
-
 // m trees in a row at `at`, the first of them at place k. The children of a node without binders stand in the context of the
 // node, so they join the trees to come; those under binders are gone over by a call. Tag 901 is the one from FIRST_BINDING on
 // that has no binders: the call for its children opens none.
@@ -96,7 +63,7 @@ fn bind_trees(
     let mut left = m;
     let mut j = k;
     while 0 < left {
-        let h = head_at(s, p);
+        let h = known_head(s, p);
         if h.tag == BOUND {
             let index = h.number;
             if depth <= index {

@@ -1,6 +1,6 @@
 -- What a head that the code answers says of the definition's.
--- Main results: head-no, head-yes, head-kinds.
-use mathlib.Core.Path.{_≡_, refl, sym, ap, _∙_}
+-- Main results: head-no, head-yes, head-kinds, said-kinds.
+use mathlib.Core.Path.{_≡_, refl, sym, ap, ap₂, _∙_}
 use mathlib.Core.Bool.{Bool, true}
 use mathlib.Core.List.{List}
 use Prim.Native.Nat.{ℕ}
@@ -58,3 +58,10 @@ head-kinds s at e h p es eq =
     let all = kinds-at k (behind s at) (code-small (classOf (tagAt s at))) r .all in
     let es' : sortsOf (formAtCode k .layout) (behind s at) ≡ es = ap (λ fm. sortsOf (fm .layout) (behind s at)) fm ∙ sym (v .sorts) in
     rw es' at all
+
+-- the sorts that an answer says are those of the children
+pub said-kinds : (s : List ℕ) (at : ℕ) (e : Sort) (g n tp p k : ℕ) (a b : Bool) (y : SaidThere s at e g n tp p k a b) → kindsFor k a b ≡ y .es
+said-kinds s at e g n tp p k a b y =
+    ap (λ (i : ℕ). kindsFor i a b) (y .many)
+    ∙ ap₂ (λ (i j : Bool). kindsFor (length (y .es)) i j) (y .first) (y .later)
+    ∙ head-kinds s at e (head g n (y .ts)) p (y .es) (y .is)

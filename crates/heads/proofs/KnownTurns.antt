@@ -10,21 +10,20 @@ use lib.ListN.{length, getD}
 use lib.Dec.{eqb}
 use Rattle.frame.specs.Types.{Ty, bool, int, given, pow, prod}
 use Rattle.frame.specs.Trees.{Head, Tree}
-use Rattle.frame.specs.Tags.{pick, Sort, Form, width, inRange, typesOf, classOf, formOf}
+use Rattle.frame.specs.Tags.{pick, Sort, Form, width, inRange, typesOf, sortsOf, classOf, formOf}
 use Rattle.tags.specs.TagCodes.{formAtCode, formCode}
 use Rattle.frame.specs.Encoding.{encNumber, encTy, encTys}
 use Rattle.frame.specs.Reading.{numberAt, okTs, withTys, okH, readHead, ok, readNode}
 use Rattle.frame.specs.Spans.{Bytes, Spans}
 use Rattle.frame.specs.At.{typesAt, IsAt}
-use Rattle.heads.specs.HeadPost.{headAnswer, headThere, TypesStand, SkipPost, leadOf, partsOf, HeadStands, HeadEnd, KnownPost}
-use Rattle.heads.specs.declared.HeadAnswer.{HeadAnswer}
+use Rattle.heads.specs.HeadPost.{headAnswer, headThere, headKnown, TypesStand, SkipPost, leadOf, partsOf, HeadStands, HeadEnd, KnownPost}
 use Rattle.frame.proofs.Inversion.{no-not, tagAt, behind, HeadInv, head-inv, node-inv}
 use Rattle.frame.proofs.Spans.{span-first, span-right}
 use Rattle.frame.proofs.Numbers.{number-length}
 use Rattle.frame.proofs.ReadTypes.{tys-long, tys-read}
 use Rattle.tags.proofs.TagTables.{code-form}
 use Rattle.tags.proofs.FormTables.{layoutAt}
-use Rattle.heads.proofs.HeadTurns.{HeadIs}
+use Rattle.heads.proofs.HeadTurns.{head-is}
 
 -- ---- types in a row
 pub stand-room : (s : List ℕ) (at m : ℕ) → TypesStand s at m → at + m ≤ length s
@@ -192,18 +191,21 @@ module _ (s : List ℕ) (at tag : ℕ) (et : tag ≡ numberAt 2 s at) (form : �
       pub known-types : Bytes s → HeadStands s at → TypesStand s (at + 2 + w) m
       known-types bs k = tys-of bs (k .0) (k .1) (k .2) (k .3)
 
-      pub known-found : Bytes s → (to : ℕ) → SkipPost s (at + 2 + w) m to → (r : HeadAnswer) → HeadIs form tag x (at + 2 + w) to r → KnownPost s at r
+      pub known-found : Bytes s → HeadStands s at → form < 20 → (to : ℕ) → SkipPost s (at + 2 + w) m to
+          → (c : ℕ) → c ≡ length (sortsOf (layoutAt form) x)
+          → KnownPost s at (record { tag = tag; form = form; number = x; types = at + 2 + w; children = to; count = c })
       unfolding head-at tys-of
-      known-found bs to sk r hr = record { by = λ e t q a. found e t q a }
+      known-found bs hs low to sk c ec = record { form = ef; low = low; by = λ e t q a. found e t q a }
         where
-          found : (e : Sort) (t : Tree) (q : ℕ) → IsAt s e at t q → r ≡ headThere s at e
+          found : (e : Sort) (t : Tree) (q : ℕ) → IsAt s e at t q
+              → headKnown (record { tag = tag; form = form; number = x; types = at + 2 + w; children = to; count = c }) ≡ headThere s at e
           found e t q a =
               let k = head-at s at e t q a in
               let v = k .inv in
               let ty = tys-of bs e t q a in
               let z : to ≡ k .p = sk .ends (ty .0) (ty .1) (ty .2) (ty .3) in
               let y : at + 2 + w ≡ typesAt s at = ap (λ (i : ℕ). at + 2 + i) is-width in
-              hr (v .ts)
+              head-is form tag x (at + 2 + w) to low (known-range hs) _ c _ _ refl ec refl refl (v .ts)
               ∙ ap₂ (λ (fm : Form) (i : ℕ). headAnswer (at + 2 + w) (withTys fm tag i (okTs (v .ts) to))) is-form is-behind
               ∙ ap₂ (λ (g i : ℕ). headAnswer i (withTys (formOf (tagAt s at)) g (behind s at) (okTs (v .ts) to))) et y
               ∙ ap (λ (i : ℕ). headAnswer (typesAt s at) (withTys (formOf (tagAt s at)) (tagAt s at) (behind s at) (okTs (v .ts) i))) z

@@ -2,8 +2,8 @@
 -- tree's own head and its children.
 -- Main results: at-span, at-wf, at-end, stands-at, parse-at (what it is to stand somewhere); kids-span, kids-wf,
 -- kids-end (the same of trees in a row); kids-none, kids-some (the
--- first child and the others); head-of, view, no-view (by a head that was read).
-use mathlib.Core.Path.{_≡_, sym, ap, ap₂, _∙_, subst, subst₂}
+-- first child and the others); head-of, view, known-view (by a head that was read).
+use mathlib.Core.Path.{_≡_, refl, sym, ap, _∙_, subst, subst₂}
 use mathlib.Core.Bool.{Bool}
 use mathlib.Core.List.{List, []}
 use Prim.Native.Nat.{ℕ, zero, suc, _+_, _-_, _≤_}
@@ -12,20 +12,21 @@ use lib.ListN.{length}
 use Rattle.frame.specs.Types.{Ty}
 use Rattle.frame.specs.Trees.{Head, head, Tree, node, Forest, nil, cons, count}
 use Rattle.frame.specs.Tags.{Sort, predicate, formOf, width, sortsOf}
-use Rattle.tags.specs.TagCodes.{sortFor, kindsFor}
+use Rattle.tags.specs.TagCodes.{sortFor, firstSort, laterSort, kindsFor}
 use Rattle.frame.specs.Encoding.{encTys, enc, encs}
 use Rattle.frame.specs.Reading.{okH, readHead, ok, okF, readMany, readNode, tree, parse}
 use Rattle.frame.specs.WellFormed.{numberIn, HeadWf, Wf, Wfs}
 use Rattle.frame.specs.Spans.{Bytes, Spans}
 use Rattle.frame.specs.At.{typesAt, IsAt, KidsAt}
-use Rattle.heads.specs.HeadPost.{headThere}
+use Rattle.heads.specs.HeadPost.{headThere, payloadIn, sortsIn, headKnown, KnownPost}
 use Rattle.heads.specs.declared.HeadAnswer.{HeadAnswer}
 use Rattle.heads.specs.declared.HeadAnswer.the-variants as H
-use Rattle.frame.proofs.Inversion.{noH-not, no-not, many-inv, many-count, NodeInv, node-inv, head-inv, tagAt}
+use Rattle.heads.specs.declared.KnownHead.{KnownHead}
+use Rattle.frame.proofs.Inversion.{no-not, many-inv, many-count, NodeInv, node-inv, head-inv, tagAt}
 use Rattle.frame.proofs.ReadTrees.{head-read, node-enc, node-wf, many-enc, many-wf}
 use Rattle.frame.proofs.ReadBack.{enc-long, node-back}
 use Rattle.frame.proofs.Frames.{parse-inv}
-use Rattle.heads.proofs.HeadSays.{head-no, SaidThere, head-yes, head-kinds}
+use Rattle.heads.proofs.HeadSays.{head-yes, said-kinds}
 use Rattle.tags.proofs.FormTables.{kinds-rest}
 
 -- ---- a tree that stands somewhere
@@ -127,13 +128,6 @@ pub record View (s : List ℕ) (e : Sort) (at : ℕ) (t : Tree) (q : ℕ) (g n t
   pub many : count ks ≡ k
   pub within : (at + 2 ≤ tp) × (tp ≤ p) × (p ≤ q) × (q ≤ length s)
 
--- the sorts that an answer says are those of the children
-said-kinds : (s : List ℕ) (at : ℕ) (e : Sort) (g n tp p k : ℕ) (a b : Bool) (y : SaidThere s at e g n tp p k a b) → kindsFor k a b ≡ y .es
-said-kinds s at e g n tp p k a b y =
-    ap (λ (i : ℕ). kindsFor i a b) (y .many)
-    ∙ ap₂ (λ (i j : Bool). kindsFor (length (y .es)) i j) (y .first) (y .later)
-    ∙ head-kinds s at e (head g n (y .ts)) p (y .es) (y .is)
-
 -- a node whose head was read, and its children
 view-node : (s : List ℕ) → Bytes s → (f : ℕ) (e : Sort) (at : ℕ) (t : Tree) (q g n : ℕ) (us : List Ty) (tp p k : ℕ) (a b : Bool)
     → readHead s at e ≡ okH (head g n us) p (kindsFor k a b) → tp ≡ typesAt s at → length (kindsFor k a b) ≡ k → NodeInv f s e at t q
@@ -171,10 +165,11 @@ module _ (s : List ℕ) (e : Sort) (at : ℕ) (t : Tree) (q : ℕ) (h : IsAt s e
           view-node s bs f e at t q g n (y .ts) tp p k a b (y .is ∙ ap (okH (head g n (y .ts)) p) (sym z)) (y .starts)
           (ap length z ∙ sym (y .many)) (node-inv f s e at t q eq)
 
-  pub no-view {ℓ} : {X : Type ℓ} (c : ℕ) → x ≡ H.Refused c → X
-  unfolding readNode
-  no-view c ec = go (h .0) (h .1)
-    where
-      go : {X : Type ℓ} (f : ℕ) → readNode f s e at ≡ ok t q → X
-      go zero eq = no-not eq
-      go (suc f) eq = noH-not (sym (head-no s at e c (sym ec ∙ ex)) ∙ node-inv f s e at t q eq .headed)
+-- the same by the head of a tree that was read before
+abbrev pub KnownView : List ℕ → Sort → ℕ → Tree → ℕ → KnownHead → Type 0
+KnownView s e at t q r =
+    View s e at t q (r .tag) (payloadIn r) (r .types) (r .children) (r .count) (firstSort (sortsIn r)) (laterSort (sortsIn r))
+
+pub known-view : (s : List ℕ) → Bytes s → (at : ℕ) (r : KnownHead) → KnownPost s at r → (e : Sort) (t : Tree) (q : ℕ) → IsAt s e at t q
+    → KnownView s e at t q r
+known-view s bs at r k e t q h = view s e at t q h (headKnown r) (k .by e t q h) bs _ _ _ _ _ _ _ refl

@@ -1,13 +1,13 @@
 -- What the code of types and heads answers, by the definitions of frame/specs/Reading.antt: each enum as a function of a result.
-use Prim.Native.Nat.{ℕ, _+_, _*_, _-_}
+use Prim.Native.Nat.{ℕ, _+_, _*_, _-_, _<_}
 use mathlib.Core.Path.{_≡_}
 use mathlib.Core.List.{List}
 use lib.ListN.{length}
 use lib.Dec.{eqb, ltb}
 use Rattle.frame.specs.Types.{Ty, given}
 use Rattle.frame.specs.Trees.{Head, head, Tree}
-use Rattle.frame.specs.Tags.{pick, Sort}
-use Rattle.tags.specs.TagCodes.{firstSort, laterSort}
+use Rattle.frame.specs.Tags.{pick, Sort, payloadOf, sortsOf, classOf}
+use Rattle.tags.specs.TagCodes.{formAtCode, formCode, firstSort, laterSort}
 use Rattle.frame.specs.Encoding.{encTys}
 use Rattle.frame.specs.Reading.{TyRes, okT, noT, byteOf, TysRes, okTs, noTs, HeadRes, okH, noH, readHead}
 use Rattle.frame.specs.Spans.{Spans}
@@ -16,6 +16,7 @@ use Rattle.heads.specs.declared.TypeAnswer.{TypeAnswer}
 use Rattle.heads.specs.declared.TypeAnswer.the-variants as T
 use Rattle.heads.specs.declared.HeadAnswer.{HeadAnswer}
 use Rattle.heads.specs.declared.HeadAnswer.the-variants as H
+use Rattle.heads.specs.declared.KnownHead.{KnownHead}
 
 -- ---- types
 abbrev pub typeAnswer : TyRes → TypeAnswer
@@ -64,6 +65,19 @@ HeadStands s at = (e : Sort) × (t : Tree) × (q : ℕ) × IsAt s e at t q
 pub record HeadEnd (s : List ℕ) (at r : ℕ) : Type 0 where
   pub by : (e : Sort) (t : Tree) (q : ℕ) → IsAt s e at t q → (h : Head) (p : ℕ) (es : List Sort) → readHead s at e ≡ okH h p es → r ≡ p
 
--- r is the answer of the definition
-pub record KnownPost (s : List ℕ) (at : ℕ) (r : HeadAnswer) : Type 0 where
-  pub by : (e : Sort) (t : Tree) (q : ℕ) → IsAt s e at t q → r ≡ headThere s at e
+-- what such a head says: the payload, sorts of which the first and the later one are those of its children, and all that the
+-- definition answers
+abbrev pub payloadIn : KnownHead → ℕ
+payloadIn r = payloadOf (formAtCode (r .form) .layout) (r .number)
+
+abbrev pub sortsIn : KnownHead → List Sort
+sortsIn r = sortsOf (formAtCode (r .form) .layout) 1
+
+abbrev pub headKnown : KnownHead → HeadAnswer
+headKnown r = H.Is (r .tag) (payloadIn r) (r .types) (r .children) (r .count) (firstSort (sortsIn r)) (laterSort (sortsIn r))
+
+-- r is the head there: its form is that of its tag
+pub record KnownPost (s : List ℕ) (at : ℕ) (r : KnownHead) : Type 0 where
+  pub form : r .form ≡ formCode (classOf (r .tag))
+  pub low : r .form < 20
+  pub by : (e : Sort) (t : Tree) (q : ℕ) → IsAt s e at t q → headKnown r ≡ headThere s at e

@@ -9,7 +9,7 @@ ghost use mathlib.Core.List.{List};
 ghost use Rattle.frame.specs.Types.{Ty};
 ghost use Rattle.frame.specs.Tags.{inRange};
 ghost use Rattle.tags.specs.TagCodes.{formAtCode, sortFor};
-ghost use Rattle.frame.specs.Reading.{numberAt, readTy, readTys, okTs, withTys, readHead, tree};
+ghost use Rattle.frame.specs.Reading.{numberAt, readTy, readTys, okTs, withTys};
 ghost use Rattle.heads.specs.HeadPost.{typeAnswer, givenAt, typesAnswer, headAnswer, headThere, TypesStand, SkipPost, leadOf, partsOf, HeadStands, HeadEnd, KnownPost};
 use frame::refusals::BAD_COUNT;
 use frame::refusals::BAD_TAG;
@@ -35,6 +35,17 @@ pub enum HeadAnswer {
         later: bool,
     },
     Refused(u8),
+}
+
+// A head that needs no reading: its tag and the tag's form, the number behind the tag, where its types and its children start, and
+// how many children there are. The form says the sorts of these.
+pub struct KnownHead {
+    pub tag: usize,
+    pub form: usize,
+    pub number: usize,
+    pub types: usize,
+    pub children: usize,
+    pub count: usize,
 }
 
 // The number in the w bytes at `at`, high byte first.
@@ -203,7 +214,7 @@ pub fn head_end(s: &[u8], at: usize) -> usize
 }
 
 // The head of a tree that was read before: nothing of it is checked again.
-pub fn known_head(s: &[u8], at: usize) -> HeadAnswer
+pub fn known_head(s: &[u8], at: usize) -> KnownHead
     requires { ⌜ HeadStands (now s) at ⌝ }
     ensures { λ r. ⌜ KnownPost (now (s .entry)) at r ⌝ }
 {
@@ -212,6 +223,12 @@ pub fn known_head(s: &[u8], at: usize) -> HeadAnswer
     let w = tags::width_of(form);
     let x = number(s, at + 2, w);
     let types = at + 2 + w;
-    let children = skip_types(s, types, tags::types_of(form, x));
-    head_is(tag, form, x, types, children)
+    KnownHead {
+        tag: tag,
+        form: form,
+        number: x,
+        types: types,
+        children: skip_types(s, types, tags::types_of(form, x)),
+        count: tags::children_of(form, x),
+    }
 }

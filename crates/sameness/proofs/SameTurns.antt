@@ -1,6 +1,6 @@
 -- The ways out of the functions of sameness, on plain values.
 -- Main results: tags-first, tags-second, heads-room, heads-short, heads-bytes, heads-agree; node-differ,
--- node-both, node-kids; kids-none, kids-first, kids-no, kids-rest, kids-yes; left-stands, left-known (the head that is read).
+-- node-both, node-kids; kids-none, kids-first, kids-no, kids-rest, kids-yes; left-stands (the head that is read); at-sort, of-sort.
 use mathlib.Core.Path.{_≡_, sym, ap, ap₂, _∙_, subst}
 use mathlib.Core.Bool.{Bool, true, false}
 use mathlib.Core.List.{List}
@@ -9,15 +9,13 @@ use native.Mathlib.Omega.{arith}
 use lib.ListN.{length, getD, take, drop}
 use Rattle.frame.specs.Trees.{head, Tree, node, Forest, nil, cons, count}
 use Rattle.frame.specs.Tags.{Sort}
-use Rattle.tags.specs.TagCodes.{sortFor, kindsFor}
+use Rattle.tags.specs.TagCodes.{sortFor, firstSort, laterSort, kindsFor}
 use Rattle.frame.specs.Encoding.{encHead, enc, encs}
 use Rattle.frame.specs.Spans.{Spans}
 use Rattle.octets.specs.Bytes.{SameParts}
-use Rattle.heads.specs.HeadPost.{headThere, HeadStands, KnownPost}
-use Rattle.frame.specs.At.{IsAt}
+use Rattle.heads.specs.HeadPost.{HeadStands, sortsIn, KnownPost}
 use Rattle.heads.proofs.View.{stands-at}
-use Rattle.heads.specs.declared.HeadAnswer.{HeadAnswer}
-use Rattle.heads.specs.declared.HeadAnswer.the-variants as H
+use Rattle.heads.specs.declared.KnownHead.{KnownHead}
 use Rattle.frame.proofs.ReadBack.{enc-long, head-back}
 use Rattle.sameness.specs.Stands.{Stands, StandAll}
 use Rattle.sameness.specs.Compared.{BothStand, BothStandAll, SamePost, SameAllPost, Agreed, HeadsPost}
@@ -25,7 +23,7 @@ use Rattle.sameness.specs.declared.Same.{Same}
 use Rattle.sameness.specs.declared.Same.the-variants.{Yes, No}
 use Rattle.sameness.specs.declared.Heads.{Heads}
 use Rattle.sameness.specs.declared.Heads.the-variants.{Agree, Differ}
-use Rattle.sameness.proofs.View.{read-there, said, view, view-refused, stand-inside, stand-byte, all-inside, split-kinds, none-kinds}
+use Rattle.sameness.proofs.View.{read-there, said, stand-inside, stand-byte, all-inside, split-kinds, none-kinds}
 
 -- ---- heads
 agree-not {ℓ} : {X : Type ℓ} (p q n : ℕ) (f l : Bool) → Differ ≡ Agree p q n f l → X
@@ -58,77 +56,83 @@ module _ (s : List ℕ) (e : Sort) (a b : ℕ) where
   pub both-inside : BothStand s e a b → (a + 2 ≤ length s) × (b + 2 ≤ length s)
   both-inside w = (stand-inside (w .left), stand-inside (w .right))
 
-  module _ (hd : HeadAnswer) (eh : hd ≡ headThere s a e) where
-    pub heads-refused : BothStand s e a b → (c : ℕ) → hd ≡ H.Refused c → HeadsPost s e a b Differ
-    heads-refused w c ec = view-refused s a e (w .t) hd eh (w .left) c ec
+  module _ (hd : KnownHead) (kn : KnownPost s a hd) where
+    abbrev p : ℕ
+    p = hd .children
 
-    module _ (g n tp p m : ℕ) (f l : Bool) (ei : hd ≡ H.Is g n tp p m f l) where
-      pub heads-room : BothStand s e a b → (a + 2 ≤ p) × (p ≤ length s) × (b ≤ length s)
-      heads-room w = let v = view s a e (w .t) hd eh (w .left) g n tp p m f l ei in (v .past, v .top .within, omega (arith, stand-inside (w .right)))
+    abbrev m : ℕ
+    m = hd .count
 
-      -- the head's bytes, there and in an equal tree at b
-      window : (t : Tree) → Stands s a e t → Stands s b e t
-          → (b + (p - a) ≤ length s) × (take (p - a) (drop a s) ≡ take (p - a) (drop b s))
-      window t x y =
-          let r = read-there s a e t x in
-          let d = said s a e t hd eh r g n tp p m f l ei in
-          let h = encHead (head (r .g) (r .n) (r .us)) (count (r .ks)) in
-          let y' : Stands s b e (node (head (r .g) (r .n) (r .us)) (r .ks)) = subst (λ (w : Tree). Stands s b e w) (r .is) y in
-          let r' = read-there s b e (node (head (r .g) (r .n) (r .us)) (r .ks)) y' in
-          let k : r' .ks ≡ r .ks = cc (r' .is) in
-          let hh : encHead (head (r' .g) (r' .n) (r' .us)) (count (r' .ks)) ≡ h = cc (r' .is, k) in
-          let top : Spans s b (r' .p) h = subst (λ (i : List ℕ). Spans s b (r' .p) i) hh (r' .top) in
-          let z : length h ≡ p - a = omega (arith, r .top .long, d .from) in
-          (omega (arith, top .long, top .within), subst (λ (i : ℕ). take i (drop a s) ≡ take i (drop b s)) z (r .top .bytes ∙ sym (top .bytes)))
+    pub heads-room : BothStand s e a b → (a + 2 ≤ p) × (p ≤ length s) × (b ≤ length s)
+    heads-room w =
+        let r = read-there s a e (w .t) (w .left) in
+        let d = said s a e (w .t) (w .left) hd kn in
+        (omega (arith, r .past, d .from), omega (arith, r .top .within, d .from), omega (arith, stand-inside (w .right)))
 
-      pub heads-short : length s - b < p - a → HeadsPost s e a b Differ
-      heads-short h = heads-differ (λ t x y. let w = window t x y .0 in omega arith)
+    -- the head's bytes, there and in an equal tree at b
+    window : (t : Tree) → Stands s a e t → Stands s b e t
+        → (b + (p - a) ≤ length s) × (take (p - a) (drop a s) ≡ take (p - a) (drop b s))
+    window t x y =
+        let r = read-there s a e t x in
+        let d = said s a e t x hd kn in
+        let h = encHead (head (r .g) (r .n) (r .us)) (count (r .ks)) in
+        let y' : Stands s b e (node (head (r .g) (r .n) (r .us)) (r .ks)) = subst (λ (w : Tree). Stands s b e w) (r .is) y in
+        let r' = read-there s b e (node (head (r .g) (r .n) (r .us)) (r .ks)) y' in
+        let k : r' .ks ≡ r .ks = cc (r' .is) in
+        let hh : encHead (head (r' .g) (r' .n) (r' .us)) (count (r' .ks)) ≡ h = cc (r' .is, k) in
+        let top : Spans s b (r' .p) h = subst (λ (i : List ℕ). Spans s b (r' .p) i) hh (r' .top) in
+        let z : length h ≡ p - a = omega (arith, r .top .long, d .from) in
+        (omega (arith, top .long, top .within), subst (λ (i : ℕ). take i (drop a s) ≡ take i (drop b s)) z (r .top .bytes ∙ sym (top .bytes)))
 
-      pub heads-bytes : (ok : Bool) → SameParts s a b (p - a) ok → ok ≡ false → HeadsPost s e a b Differ
-      heads-bytes ok post eo = heads-differ (λ t x y. post .differ eo (window t x y .1))
+    pub heads-short : length s - b < p - a → HeadsPost s e a b Differ
+    heads-short h = heads-differ (λ t x y. let w = window t x y .0 in omega arith)
 
-      pub heads-agree : (ok : Bool) → SameParts s a b (p - a) ok → ok ≡ true → p - a ≤ length s - b → HeadsPost s e a b (Agree p (b + (p - a)) m f l)
-      heads-agree ok post eo room = record { agree = agree; differ = λ t u x y er. agree-not p (b + (p - a)) m f l (sym er) }
-        where
-          same : (t u : Tree) → Stands s a e t → Stands s b e u → Agreed s a b t u p (b + (p - a)) m f l
-          same t u x y =
-              let r = read-there s a e t x in
-              let d = said s a e t hd eh r g n tp p m f l ei in
-              let o = read-there s b e u y in
-              let h = encHead (head (r .g) (r .n) (r .us)) (count (r .ks)) in
-              let z : p - a ≡ length h = omega (arith, r .top .long, d .from) in
-              let within : b + (p - a) ≤ length s = omega (arith, stand-inside y) in
-              let win : take (length h) (drop b s) ≡ h = subst (λ (i : ℕ). take i (drop b s) ≡ h) z
-              (sym (post .same eo) ∙ ap (λ (i : ℕ). take i (drop a s)) z ∙ r .top .bytes) in
-              let sp : Spans s b (b + (p - a)) h = record { long = omega arith; within = within; bytes = win } in
-              let back = head-back s b e (r .g) (r .n) (r .us) (count (r .ks)) (b + (p - a)) (r .wf) sp in
-              let eg : o .g ≡ r .g = cc (o .read, back) in
-              let en : o .n ≡ r .n = cc (o .read, back) in
-              let eu : o .us ≡ r .us = cc (o .read, back) in
-              let ep : o .p ≡ b + (p - a) = cc (o .read, back) in
-              let es : o .es ≡ r .es = cc (o .read, back, r .sorts) in
-              record {
-                top = head (r .g) (r .n) (r .us);
-                ts = r .ks;
-                us = o .ks;
-                is-left = r .is;
-                is-right = cc (o .is, eg, en, eu);
-                left = rw (d .kinds, ← d .from) (r .kids);
-                right = rw (d .kinds, ← es, ← ep) (o .kids);
-                end-left = rw (← d .from) (r .ends);
-                end-right = rw (← ep) (o .ends);
-                past = rw (← d .from) (r .past);
-              }
+    pub heads-bytes : (ok : Bool) → SameParts s a b (p - a) ok → ok ≡ false → HeadsPost s e a b Differ
+    heads-bytes ok post eo = heads-differ (λ t x y. post .differ eo (window t x y .1))
 
-          agree : (t u : Tree) (p' q' m' : ℕ) (f' l' : Bool) → Stands s a e t → Stands s b e u
-              → Agree p (b + (p - a)) m f l ≡ Agree p' q' m' f' l' → Agreed s a b t u p' q' m' f' l'
-          agree t u p' q' m' f' l' x y er =
-              let ep : p' ≡ p = cc in
-              let eq : q' ≡ b + (p - a) = cc in
-              let em : m' ≡ m = cc in
-              let ef : f' ≡ f = cc in
-              let el : l' ≡ l = cc in
-              rw (ep, eq, em, ef, el) (same t u x y)
+    pub heads-agree : (ok : Bool) → SameParts s a b (p - a) ok → ok ≡ true → p - a ≤ length s - b
+        → (f l : Bool) → f ≡ firstSort (sortsIn hd) → l ≡ laterSort (sortsIn hd) → HeadsPost s e a b (Agree p (b + (p - a)) m f l)
+    heads-agree ok post eo room f l ef el = record { agree = agree; differ = λ t u x y er. agree-not p (b + (p - a)) m f l (sym er) }
+      where
+        same : (t u : Tree) → Stands s a e t → Stands s b e u → Agreed s a b t u p (b + (p - a)) m f l
+        same t u x y =
+            let r = read-there s a e t x in
+            let d = said s a e t x hd kn in
+            let o = read-there s b e u y in
+            let h = encHead (head (r .g) (r .n) (r .us)) (count (r .ks)) in
+            let z : p - a ≡ length h = omega (arith, r .top .long, d .from) in
+            let within : b + (p - a) ≤ length s = omega (arith, stand-inside y) in
+            let win : take (length h) (drop b s) ≡ h = subst (λ (i : ℕ). take i (drop b s) ≡ h) z
+            (sym (post .same eo) ∙ ap (λ (i : ℕ). take i (drop a s)) z ∙ r .top .bytes) in
+            let sp : Spans s b (b + (p - a)) h = record { long = omega arith; within = within; bytes = win } in
+            let back = head-back s b e (r .g) (r .n) (r .us) (count (r .ks)) (b + (p - a)) (r .wf) sp in
+            let eg : o .g ≡ r .g = cc (o .read, back) in
+            let en : o .n ≡ r .n = cc (o .read, back) in
+            let eu : o .us ≡ r .us = cc (o .read, back) in
+            let ep : o .p ≡ b + (p - a) = cc (o .read, back) in
+            let es : o .es ≡ r .es = cc (o .read, back, r .sorts) in
+            record {
+              top = head (r .g) (r .n) (r .us);
+              ts = r .ks;
+              us = o .ks;
+              is-left = r .is;
+              is-right = cc (o .is, eg, en, eu);
+              left = rw (d .kinds f l ef el, ← d .from) (r .kids);
+              right = rw (d .kinds f l ef el, ← es, ← ep) (o .kids);
+              end-left = rw (← d .from) (r .ends);
+              end-right = rw (← ep) (o .ends);
+              past = rw (← d .from) (r .past);
+            }
+
+        agree : (t u : Tree) (p' q' m' : ℕ) (f' l' : Bool) → Stands s a e t → Stands s b e u
+            → Agree p (b + (p - a)) m f l ≡ Agree p' q' m' f' l' → Agreed s a b t u p' q' m' f' l'
+        agree t u p' q' m' f' l' x y er =
+            let ep : p' ≡ p = cc in
+            let eq : q' ≡ b + (p - a) = cc in
+            let em : m' ≡ m = cc in
+            let ef' : f' ≡ f = cc in
+            let el' : l' ≡ l = cc in
+            rw (ep, eq, em, ef', el') (same t u x y)
 
 -- ---- a node
 module _ (s : List ℕ) (e : Sort) (a b : ℕ) (hs : Heads) (post : HeadsPost s e a b hs) where
@@ -249,17 +253,11 @@ module _ (s : List ℕ) (n : ℕ) (f l : Bool) (a b : ℕ) where
                 let z : v .v ≡ v .w = cc (v .is-left, v .is-right, tu) in
                 rest .differ (v .v) (v .w) (v .left) (v .right) er z
 
--- at the sort that a test found
--- ---- the head that is read stands there
-left-at : (s : List ℕ) (e : Sort) (a b : ℕ) (w : BothStand s e a b) → IsAt s e a (w .t) (a + length (enc (w .t)))
-left-at s e a b w = stands-at s e a (w .t) (a + length (enc (w .t))) (w .left .bytes) (w .left .formed)
-
+-- ---- the head at a stands there
 pub left-stands : (s : List ℕ) (e : Sort) (a b : ℕ) → BothStand s e a b → HeadStands s a
-left-stands s e a b w = (e, w .t, _, left-at s e a b w)
+left-stands s e a b w = (e, w .t, a + length (enc (w .t)), stands-at s e a (w .t) (a + length (enc (w .t))) (w .left .bytes) (w .left .formed))
 
-pub left-known : (s : List ℕ) (e : Sort) (a b : ℕ) → BothStand s e a b → (h : HeadAnswer) → KnownPost s a h → h ≡ headThere s a e
-left-known s e a b w h k = k .by e (w .t) _ (left-at s e a b w)
-
+-- ---- at the sort that a test found
 pub at-sort : {s : List ℕ} {f o : Bool} {a b : ℕ} → f ≡ o → BothStand s (sortFor f) a b → BothStand s (sortFor o) a b
 at-sort {s} {f} {o} {a} {b} q m = subst (λ (i : Bool). BothStand s (sortFor i) a b) q m
 

@@ -1,7 +1,9 @@
 // Sameness of two trees of one frame (document 01: "the same tag, payload and types"; "comparing them is two functions that
 // call each other over a falling byte count"). Equal trees have equal bytes, so heads are compared as bytes.
-use heads::HeadAnswer;
+use heads::known_head;
 use octets::same_bytes;
+use tags::first_of;
+use tags::later_of;
 ghost use Prim.Native.Nat.{_+_};
 ghost use Rattle.frame.specs.Tags.{predicate, expression};
 ghost use Rattle.tags.specs.TagCodes.{sortFor, kindsFor};
@@ -32,30 +34,17 @@ fn same_heads(s: &[u8], a: usize, b: usize, e: bool) -> Heads
     if s[a + 1] != s[b + 1] {
         return Heads::Differ;
     }
-    let h = heads::known_head(s, a);
-    match h {
-        HeadAnswer::Refused(_c) => Heads::Differ,
-        HeadAnswer::Is {
-            tag: _,
-            payload: _,
-            types: _types,
-            children,
-            count,
-            first,
-            later,
-        } => {
-            let n = children - a;
-            if s.len() - b < n {
-                return Heads::Differ;
-            }
-            let ok = same_bytes(s, a, b, n);
-            if ok {
-                let q = b + n;
-                Heads::Agree(children, q, count, first, later)
-            } else {
-                Heads::Differ
-            }
-        }
+    let h = known_head(s, a);
+    let n = h.children - a;
+    if s.len() - b < n {
+        return Heads::Differ;
+    }
+    let ok = same_bytes(s, a, b, n);
+    if ok {
+        let q = b + n;
+        Heads::Agree(h.children, q, h.count, first_of(h.form), later_of(h.form))
+    } else {
+        Heads::Differ
     }
 }
 

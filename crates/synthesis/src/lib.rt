@@ -7,7 +7,6 @@ use crate::stack::OpenNode;
 use crate::stack::pop;
 use crate::stack::push;
 use frame::limits::TYPE_LIMIT;
-use heads::HeadAnswer;
 use heads::known_head;
 use octets::wide16;
 use octets::wide32;
@@ -92,31 +91,18 @@ fn open_node(s: &[u8], at: usize, leaf: usize, types: &mut [u8], end: usize) -> 
     ensures { λ r. ⌜ NodePost (now (s .entry)) at leaf (now (types .entry)) end (now (types .exit)) r ⌝ }
 {
     let h = known_head(s, at);
-    match h {
-        HeadAnswer::Refused(_c) => Opened::Bad,
-        HeadAnswer::Is {
-            tag,
-            payload: _,
-            types: carried,
-            children,
-            count,
-            first: _,
-            later: _,
-        } => {
-            let own = own_type(tag, s, carried, leaf, types, end);
-            match own {
-                Typed::Bad => Opened::Bad,
-                Typed::Is(m) => Opened::To(
-                    children,
-                    m,
-                    OpenNode {
-                        tag: tag as u16,
-                        left: count as u16,
-                        from: end as u32,
-                    },
-                ),
-            }
-        }
+    let own = own_type(h.tag, s, h.types, leaf, types, end);
+    match own {
+        Typed::Bad => Opened::Bad,
+        Typed::Is(m) => Opened::To(
+            h.children,
+            m,
+            OpenNode {
+                tag: h.tag as u16,
+                left: h.count as u16,
+                from: end as u32,
+            },
+        ),
     }
 }
 

@@ -24,7 +24,7 @@ use borrow.Fn.PlainCycle.{Measures, is, falls, and}
 use Rattle.binding.proofs.bind_trees.Reads as bind-trees
 use Rattle.binding.proofs.bind_trees.Kinds as bind-trees-kinds
 use Rattle.binding.proofs.+bind_trees.Lts-bind_trees as lts
-use Rattle.binding.proofs.head_at.Reads as head-at-reads
+use Rattle.heads.proofs.known_head.Reads as known-head-reads
 use Rattle.binding.proofs.open_binders.Reads as open-binders-reads
 use Rattle.binding.proofs.+bind_trees.{statement}
 use Rattle.binding.proofs.+bind_trees.Tie.{close}
@@ -43,8 +43,8 @@ bind-trees-below t =
 -- what the calls ask and answer
 abbrev calls : ℕ → lts.Claims
 calls t = (
-  head-at-reads.Asked,
-  head-at-reads.Learnt,
+  known-head-reads.Asked,
+  known-head-reads.Learnt,
   open-binders-reads.Asked,
   open-binders-reads.Learnt,
   bind-trees-below t,
@@ -60,8 +60,8 @@ abbrev μ-loop : lts.MeasureT-loop
 loop-holds : (t : ℕ) → lts.Need-loop-holds (calls t) (from t) bind-trees.Post Inv-loop μ-loop
 loop-holds t c = going-begins _ _ _ _ _ _ _ (c .before .before .pre .1 .0) (c .before .before .pre .1 .1)
 
-head-at-requires : (t : ℕ) → lts.Need-head-at-requires (calls t) (from t) bind-trees.Post Inv-loop μ-loop
-head-at-requires t c κs = turn-head (c .before .loop .inv) (c .loop-test .taken)
+known-head-requires : (t : ℕ) → lts.Need-known-head-requires (calls t) (from t) bind-trees.Post Inv-loop μ-loop
+known-head-requires t c κs = turn-head (c .before .loop .inv) (c .loop-test .taken)
 
 same-length : (t : ℕ) → lts.Need-same-length (calls t) (from t) bind-trees.Post Inv-loop μ-loop
 same-length t c =
@@ -74,7 +74,7 @@ returns t c =
     let c₂ = c₁ .before in
     let c₃ = c₂ .before in
     let c₄ = c₃ .before .before in
-    turn-none (turn (c₃ .loop .inv) (c₂ .loop-test .taken) (λ i. c₄ .shared-slice-known .given i .fits) (c₁ .head-at .ensures))
+    turn-none (turn (c₃ .loop .inv) (c₂ .loop-test .taken) (λ i. c₄ .shared-slice-known .given i .fits) (c₁ .known-head .ensures))
     (c .before .if1 .taken) (c .if2 .taken)
 
 sub-leaves : (t : ℕ) → lts.Need-sub-leaves (calls t) (from t) bind-trees.Post Inv-loop μ-loop
@@ -101,7 +101,7 @@ mul-leaves-2 t c =
     let c₂ = c₁ .before in
     let c₃ = c₂ .before in
     let c₄ = c₃ .before .before in
-    let r = turn-room (turn (c₃ .loop .inv) (c₂ .loop-test .taken) (λ i. c₄ .shared-slice-known .given i .fits) (c₁ .head-at .ensures)) in
+    let r = turn-room (turn (c₃ .loop .inv) (c₂ .loop-test .taken) (λ i. c₄ .shared-slice-known .given i .fits) (c₁ .known-head .ensures)) in
     omega arith
 
 element-write-leaves : (t : ℕ) → lts.Need-element-write-leaves (calls t) (from t) bind-trees.Post Inv-loop μ-loop
@@ -110,7 +110,7 @@ element-write-leaves t c =
     let c₂ = c₁ .before in
     let c₃ = c₂ .before in
     let c₄ = c₃ .before .before in
-    let r = turn-room (turn (c₃ .loop .inv) (c₂ .loop-test .taken) (λ i. c₄ .shared-slice-known .given i .fits) (c₁ .head-at .ensures)) in
+    let r = turn-room (turn (c₃ .loop .inv) (c₂ .loop-test .taken) (λ i. c₄ .shared-slice-known .given i .fits) (c₁ .known-head .ensures)) in
     omega arith
 
 sub-left : (t : ℕ) → lts.Need-sub-left (calls t) (from t) bind-trees.Post Inv-loop μ-loop
@@ -122,7 +122,7 @@ add-j t c =
     let c₂ = c₁ .before in
     let c₃ = c₂ .before in
     let c₄ = c₃ .before .before in
-    let r = turn-room (turn (c₃ .loop .inv) (c₂ .loop-test .taken) (λ i. c₄ .shared-slice-known .given i .fits) (c₁ .head-at .ensures)) in
+    let r = turn-room (turn (c₃ .loop .inv) (c₂ .loop-test .taken) (λ i. c₄ .shared-slice-known .given i .fits) (c₁ .known-head .ensures)) in
     omega arith
 
 loop-less : (t : ℕ) → lts.Need-loop-less (calls t) (from t) bind-trees.Post Inv-loop μ-loop
@@ -131,7 +131,7 @@ loop-less t c =
     let c₂ = c₁ .before in
     let c₃ = c₂ .before in
     let c₄ = c₃ .before .before in
-    let r = turn-room (turn (c₃ .loop .inv) (c₂ .loop-test .taken) (λ i. c₄ .shared-slice-known .given i .fits) (c₁ .head-at .ensures)) in
+    let r = turn-room (turn (c₃ .loop .inv) (c₂ .loop-test .taken) (λ i. c₄ .shared-slice-known .given i .fits) (c₁ .known-head .ensures)) in
     omega arith
 
 loop-again : (t : ℕ) → lts.Need-loop-again (calls t) (from t) bind-trees.Post Inv-loop μ-loop
@@ -140,7 +140,7 @@ loop-again t c =
     let c₂ = c₁ .before in
     let c₃ = c₂ .before in
     let c₄ = c₃ .before .before in
-    turn-leaf (turn (c₃ .loop .inv) (c₂ .loop-test .taken) (λ i. c₄ .shared-slice-known .given i .fits) (c₁ .head-at .ensures))
+    turn-leaf (turn (c₃ .loop .inv) (c₂ .loop-test .taken) (λ i. c₄ .shared-slice-known .given i .fits) (c₁ .known-head .ensures))
     (c .before .before .if1 .taken) (omega arith)
 
 sub-left-2 : (t : ℕ) → lts.Need-sub-left-2 (calls t) (from t) bind-trees.Post Inv-loop μ-loop
@@ -152,7 +152,7 @@ add-left t c =
     let c₂ = c₁ .before in
     let c₃ = c₂ .before in
     let c₄ = c₃ .before .before in
-    omega (arith, left-fits (turn (c₃ .loop .inv) (c₂ .loop-test .taken) (λ i. c₄ .shared-slice-known .given i .fits) (c₁ .head-at .ensures)))
+    omega (arith, left-fits (turn (c₃ .loop .inv) (c₂ .loop-test .taken) (λ i. c₄ .shared-slice-known .given i .fits) (c₁ .known-head .ensures)))
 
 add-j-2 : (t : ℕ) → lts.Need-add-j-2 (calls t) (from t) bind-trees.Post Inv-loop μ-loop
 add-j-2 t c =
@@ -160,7 +160,7 @@ add-j-2 t c =
     let c₂ = c₁ .before in
     let c₃ = c₂ .before in
     let c₄ = c₃ .before .before in
-    let r = turn-room (turn (c₃ .loop .inv) (c₂ .loop-test .taken) (λ i. c₄ .shared-slice-known .given i .fits) (c₁ .head-at .ensures)) in
+    let r = turn-room (turn (c₃ .loop .inv) (c₂ .loop-test .taken) (λ i. c₄ .shared-slice-known .given i .fits) (c₁ .known-head .ensures)) in
     omega arith
 
 loop-less-2 : (t : ℕ) → lts.Need-loop-less-2 (calls t) (from t) bind-trees.Post Inv-loop μ-loop
@@ -169,7 +169,7 @@ loop-less-2 t c =
     let c₂ = c₁ .before in
     let c₃ = c₂ .before in
     let c₄ = c₃ .before .before in
-    let r = turn-room (turn (c₃ .loop .inv) (c₂ .loop-test .taken) (λ i. c₄ .shared-slice-known .given i .fits) (c₁ .head-at .ensures)) in
+    let r = turn-room (turn (c₃ .loop .inv) (c₂ .loop-test .taken) (λ i. c₄ .shared-slice-known .given i .fits) (c₁ .known-head .ensures)) in
     omega arith
 
 loop-again-2 : (t : ℕ) → lts.Need-loop-again-2 (calls t) (from t) bind-trees.Post Inv-loop μ-loop
@@ -179,7 +179,7 @@ loop-again-2 t c =
     let c₃ = c₂ .before in
     let c₄ = c₃ .before in
     let c₅ = c₄ .before .before in
-    turn-plain (turn (c₄ .loop .inv) (c₃ .loop-test .taken) (λ i. c₅ .shared-slice-known .given i .fits) (c₂ .head-at .ensures)) (c₁ .if1 .left)
+    turn-plain (turn (c₄ .loop .inv) (c₃ .loop-test .taken) (λ i. c₅ .shared-slice-known .given i .fits) (c₂ .known-head .ensures)) (c₁ .if1 .left)
     (c .before .if3 .taken)
 
 open-binders-requires : (t : ℕ) → lts.Need-open-binders-requires (calls t) (from t) bind-trees.Post Inv-loop μ-loop
@@ -190,7 +190,7 @@ open-binders-requires t c κs =
     let c₄ = c₃ .before in
     let c₅ = c₄ .before .before in
     let y = c₄ .loop .inv .ready in
-    let u = turn (c₄ .loop .inv) (c₃ .loop-test .taken) (λ i. c₅ .shared-slice-known .given i .fits) (c₂ .head-at .ensures) in
+    let u = turn (c₄ .loop .inv) (c₃ .loop-test .taken) (λ i. c₅ .shared-slice-known .given i .fits) (c₂ .known-head .ensures) in
     let r = turn-room u in
     (y .fits, omega (arith, y .opened), y .binders-room, types-here u (c₁ .if1 .left) (c .before .if3 .left))
 
@@ -200,7 +200,7 @@ add-bind-trees t c =
     let c₂ = c₁ .before in
     let c₃ = c₂ .before in
     let c₄ = c₃ .before .before in
-    let r = turn-room (turn (c₃ .loop .inv) (c₂ .loop-test .taken) (λ i. c₄ .shared-slice-known .given i .fits) (c₁ .head-at .ensures)) in
+    let r = turn-room (turn (c₃ .loop .inv) (c₂ .loop-test .taken) (λ i. c₄ .shared-slice-known .given i .fits) (c₁ .known-head .ensures)) in
     omega arith
 
 bind-trees-requires : (t : ℕ) → lts.Need-bind-trees-requires (calls t) (from t) bind-trees.Post Inv-loop μ-loop
@@ -213,7 +213,7 @@ bind-trees-requires t c κs =
     let c₆ = c₅ .before in
     let c₇ = c₆ .before .before in
     let f = c₆ .loop .inv .from in
-    let u = turn (c₆ .loop .inv) (c₅ .loop-test .taken) (λ i. c₇ .shared-slice-known .given i .fits) (c₄ .head-at .ensures) in
+    let u = turn (c₆ .loop .inv) (c₅ .loop-test .taken) (λ i. c₇ .shared-slice-known .given i .fits) (c₄ .known-head .ensures) in
     let r = turn-room u in
     (omega arith, call-here u (c₃ .if1 .left) (c₂ .if3 .left) _ _ (c₁ .open-binders .ensures))
 
@@ -230,7 +230,7 @@ same-length-2 t c =
     let c₆ = c₅ .before in
     let c₇ = c₆ .before in
     let c₈ = c₇ .before .before in
-    turn-size (turn (c₇ .loop .inv) (c₆ .loop-test .taken) (λ i. c₈ .shared-slice-known .given i .fits) (c₅ .head-at .ensures)) (c₄ .if1 .left)
+    turn-size (turn (c₇ .loop .inv) (c₆ .loop-test .taken) (λ i. c₈ .shared-slice-known .given i .fits) (c₅ .known-head .ensures)) (c₄ .if1 .left)
     (c₃ .if3 .left) _ _ (c₂ .open-binders .ensures) _ _ _ (c₁ .bind-trees .ensures)
 
 returns-2 : (t : ℕ) → lts.Need-returns-2 (calls t) (from t) bind-trees.Post Inv-loop μ-loop
@@ -243,7 +243,7 @@ returns-2 t c =
     let c₆ = c₅ .before in
     let c₇ = c₆ .before in
     let c₈ = c₇ .before .before in
-    turn-stop (turn (c₇ .loop .inv) (c₆ .loop-test .taken) (λ i. c₈ .shared-slice-known .given i .fits) (c₅ .head-at .ensures)) (c₄ .if1 .left)
+    turn-stop (turn (c₇ .loop .inv) (c₆ .loop-test .taken) (λ i. c₈ .shared-slice-known .given i .fits) (c₅ .known-head .ensures)) (c₄ .if1 .left)
     (c₃ .if3 .left) _ _ (c₂ .open-binders .ensures) _ _ _ (c₁ .bind-trees .ensures) (c .enum-told .given .1)
 
 enum-known-a : (t : ℕ) → lts.Need-enum-known-a (calls t) (from t) bind-trees.Post Inv-loop μ-loop
@@ -262,7 +262,7 @@ loop-less-3 t c =
     let c₆ = c₅ .before in
     let c₇ = c₆ .before in
     let c₈ = c₇ .before .before in
-    let f = turn-over (turn (c₇ .loop .inv) (c₆ .loop-test .taken) (λ i. c₈ .shared-slice-known .given i .fits) (c₅ .head-at .ensures))
+    let f = turn-over (turn (c₇ .loop .inv) (c₆ .loop-test .taken) (λ i. c₈ .shared-slice-known .given i .fits) (c₅ .known-head .ensures))
     (c₄ .if1 .left) (c₃ .if3 .left) _ _ (c₂ .open-binders .ensures) _ _ _ (c₁ .bind-trees .ensures) _ _ (c .before .a .given .1) in
     omega arith
 
@@ -276,7 +276,7 @@ loop-again-3 t c =
     let c₆ = c₅ .before in
     let c₇ = c₆ .before in
     let c₈ = c₇ .before .before in
-    turn-over (turn (c₇ .loop .inv) (c₆ .loop-test .taken) (λ i. c₈ .shared-slice-known .given i .fits) (c₅ .head-at .ensures)) (c₄ .if1 .left)
+    turn-over (turn (c₇ .loop .inv) (c₆ .loop-test .taken) (λ i. c₈ .shared-slice-known .given i .fits) (c₅ .known-head .ensures)) (c₄ .if1 .left)
     (c₃ .if3 .left) _ _ (c₂ .open-binders .ensures) _ _ _ (c₁ .bind-trees .ensures) _ _ (c .before .a .given .1) .2
 
 same-length-3 : (t : ℕ) → lts.Need-same-length-3 (calls t) (from t) bind-trees.Post Inv-loop μ-loop
@@ -292,7 +292,7 @@ pub +bind-trees-spec : {M : Type 1} → statement M
     Inv-loop
     μ-loop
     (loop-holds t)
-    (head-at-requires t)
+    (known-head-requires t)
     (same-length t)
     (returns t)
     (sub-leaves t)

@@ -1,5 +1,6 @@
-use Rattle.heads.proofs.KnownTurns.{known-two, known-room, known-range, known-types, known-found}
+-- `heads::known_head` meets its contract.
 use native.Mathlib.Omega.{arith}
+use Rattle.heads.proofs.KnownTurns.{known-two, known-room, known-types, known-found}
 use borrow.Author.Needs.{needs}
 use Rattle.heads.proofs.known_head.Statement.{statement}
 use Rattle.heads.proofs.known_head.Tie as tie
@@ -14,7 +15,9 @@ width-of-requires : tie.Need-width-of-requires
 width-of-requires c κs = search needs
 
 add-number : tie.Need-add-number
-add-number c = omega (arith, known-two _ _ (c .before .before .before .before .pre))
+add-number c =
+    let c₁ = c .before .before .before .before in
+    omega (arith, known-two _ _ (c₁ .pre))
 
 number-requires-2 : tie.Need-number-requires-2
 number-requires-2 c κs =
@@ -25,17 +28,15 @@ number-requires-2 c κs =
     )
 
 add-types : tie.Need-add-types
-add-types c = omega (arith, known-two _ _ (c .before .before .before .before .before .pre))
+add-types c =
+    let c₁ = c .before .before .before .before .before in
+    omega (arith, known-two _ _ (c₁ .pre))
 
 add-types-2 : tie.Need-add-types-2
 add-types-2 c =
     let c₁ = c .before .before .before in
     let c₂ = c₁ .before .before in
-    omega (
-      arith,
-      known-room _ _ _ (c₁ .number .ensures) _ (c .before .before .form-of .ensures .0) _
-          (c .before .width-of .ensures .0) (c₂ .pre),
-    )
+    omega (arith, known-room _ _ _ (c₁ .number .ensures) _ (c .before .before .form-of .ensures .0) _ (c .before .width-of .ensures .0) (c₂ .pre))
 
 types-of-requires : tie.Need-types-of-requires
 types-of-requires c κs = search needs
@@ -49,16 +50,8 @@ skip-types-requires c κs =
     known-types _ _ _ (c₂ .number .ensures) _ (c₁ .form-of .ensures .0) _ (c .before .before .width-of .ensures .0) _
     (c .before .number2 .ensures) _ (c .types-of .ensures) (λ i. c₃ .shared-slice-known .given i .fits) (c₄ .pre)
 
-head-is-requires : tie.Need-head-is-requires
-head-is-requires c κs =
-    let c₁ = c .before .before .before in
-    let c₂ = c₁ .before in
-    let c₃ = c₂ .before in
-    let c₄ = c₃ .before .before in (
-      c₂ .form-of .ensures .1,
-      known-range _ _ _ (c₃ .number .ensures) _ (c₂ .form-of .ensures .0) _ (c₁ .width-of .ensures .0) _
-          (c .before .before .number2 .ensures) (c₄ .pre),
-    )
+children-of-requires : tie.Need-children-of-requires
+children-of-requires c κs = search needs
 
 returns : tie.Need-returns
 returns c =
@@ -67,9 +60,10 @@ returns c =
     let c₃ = c₂ .before in
     let c₄ = c₃ .before in
     let c₅ = c₄ .before in
+    let c₆ = c₅ .before in
     known-found _ _ _ (c₄ .number .ensures) _ (c₃ .form-of .ensures .0) _ (c₂ .width-of .ensures .0) _ (c₁ .number2 .ensures) _
-    (c .before .before .types-of .ensures) (λ i. c₅ .shared-slice-known .given i .fits) _
-    (c .before .skip-types .ensures) _ (c .head-is .ensures)
+    (c .before .before .types-of .ensures) (λ i. c₅ .shared-slice-known .given i .fits) (c₆ .pre) (c₃ .form-of .ensures .1) _
+    (c .before .skip-types .ensures) _ (c .children-of .ensures)
 
 pub known-head-spec : {M : Type 1} → statement M
 known-head-spec =
@@ -84,5 +78,5 @@ known-head-spec =
     add-types-2
     types-of-requires
     skip-types-requires
-    head-is-requires
+    children-of-requires
     returns)

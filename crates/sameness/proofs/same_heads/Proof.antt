@@ -1,17 +1,7 @@
+-- `sameness::same_heads` meets its contract.
 use Rattle.octets.proofs.SameBytes.{parts}
 use native.Mathlib.Omega.{arith}
-use Rattle.sameness.proofs.SameTurns.{
-  left-stands,
-  left-known,
-  tags-first,
-  tags-second,
-  both-inside,
-  heads-refused,
-  heads-room,
-  heads-short,
-  heads-bytes,
-  heads-agree,
-}
+use Rattle.sameness.proofs.SameTurns.{left-stands, tags-first, tags-second, both-inside, heads-room, heads-short, heads-bytes, heads-agree}
 use borrow.Author.Needs.{needs}
 use Rattle.sameness.proofs.same_heads.Statement.{statement}
 use Rattle.sameness.proofs.same_heads.Tie as tie
@@ -26,13 +16,13 @@ returns : tie.Need-returns
 returns c = tags-first _ _ _ _ (c .if1 .taken)
 
 add-if2 : tie.Need-add-if2
-add-if2 c = let z = both-inside _ _ _ _ (c .before .before .before .before .pre) in omega arith
+add-if2 c = search needs
 
 shared-slice-read-if2 : tie.Need-shared-slice-read-if2
 shared-slice-read-if2 c = let z = both-inside _ _ _ _ (c .before .before .before .before .before .pre) in omega arith
 
 add-if2-2 : tie.Need-add-if2-2
-add-if2-2 c = let z = both-inside _ _ _ _ (c .before .before .before .before .before .pre) in omega arith
+add-if2-2 c = search needs
 
 shared-slice-read-if2-2 : tie.Need-shared-slice-read-if2-2
 shared-slice-read-if2-2 c = let z = both-inside _ _ _ _ (c .before .before .before .before .before .before .pre) in omega arith
@@ -43,72 +33,50 @@ returns-2 c = tags-second _ _ _ _ (c .if2 .taken)
 known-head-requires : tie.Need-known-head-requires
 known-head-requires c κs = left-stands _ _ _ _ (c .before .before .before .before .before .before .before .pre)
 
-enum-known-h : tie.Need-enum-known-h
-enum-known-h c = search needs
-
-enum-known-h-2 : tie.Need-enum-known-h-2
-enum-known-h-2 c = search needs
-
 sub-n : tie.Need-sub-n
 sub-n c =
-    let c₁ = c .before .before .before in
-    let c₂ = c₁ .before .before .before .before .before .before .before .before in
-    let z = heads-room _ _ _ _ _ (left-known _ _ _ _ (c₂ .pre) _ (c₁ .known-head .ensures)) _ _ _ _ _ _ _
-    (c .before .h2 .given .1) (c₂ .pre) in omega arith
+    let c₁ = c .before in
+    let z = heads-room _ _ _ _ _ (c₁ .known-head .ensures) (c₁ .before .before .before .before .before .before .before .before .pre) in
+    omega arith
 
 sub-if3 : tie.Need-sub-if3
-sub-if3 c =
-    let c₁ = c .before .before .before in
-    let c₂ = c₁ .before .before .before .before .before .before .before .before in
-    let z = heads-room _ _ _ _ _ (left-known _ _ _ _ (c₂ .pre) _ (c₁ .known-head .ensures)) _ _ _ _ _ _ _
-    (c .before .h2 .given .1) (c₂ .pre) in omega arith
+sub-if3 c = search needs
 
 returns-3 : tie.Need-returns-3
-returns-3 c =
-    let c₁ = c .before .before .before .before in
-    let c₂ = c₁ .before .before .before .before .before .before .before .before in
-    heads-short _ _ _ _ _ (left-known _ _ _ _ (c₂ .pre) _ (c₁ .known-head .ensures)) _ _ _ _ _ _ _
-    (c .before .before .h2 .given .1) (c .if3 .taken)
+returns-3 c = heads-short _ _ _ _ _ (c .before .before .known-head .ensures) (c .if3 .taken)
 
 same-bytes-requires : tie.Need-same-bytes-requires
 same-bytes-requires c κs =
-    let c₁ = c .before .before .before .before in
-    let c₂ = c₁ .before .before .before .before .before .before .before .before in
-    let z = heads-room _ _ _ _ _ (left-known _ _ _ _ (c₂ .pre) _ (c₁ .known-head .ensures)) _ _ _ _ _ _ _
-    (c .before .before .h2 .given .1) (c₂ .pre) in omega arith
+    let c₁ = c .before .before in
+    let z = heads-room _ _ _ _ _ (c₁ .known-head .ensures) (c₁ .before .before .before .before .before .before .before .before .pre) in
+    omega arith
 
 add-q : tie.Need-add-q
-add-q c =
-    let c₁ = c .before .before .before .before in
-    let c₂ = c₁ .before .before in
-    let c₃ = c₂ .before .before .before .before .before .before .before .before in
-    let z = heads-room _ _ _ _ _ (left-known _ _ _ _ (c₃ .pre) _ (c₂ .known-head .ensures)) _ _ _ _ _ _ _
-    (c₁ .h2 .given .1) (c₃ .pre) in omega arith
+add-q c = search needs
+
+first-of-requires : tie.Need-first-of-requires
+first-of-requires c κs = search needs
+
+later-of-requires : tie.Need-later-of-requires
+later-of-requires c κs = search needs
 
 returns-4 : tie.Need-returns-4
 returns-4 c =
-    let c₁ = c .before .before .before in
-    let c₂ = c₁ .before .before .before .before .before .before .before .before in
-    heads-refused _ _ _ _ _ (left-known _ _ _ _ (c₂ .pre) _ (c₁ .known-head .ensures)) (c₂ .pre) _ (c .before .h .given .1)
+    let c₁ = c .before .before in
+    let c₂ = c₁ .before .before in
+    let c₃ = c₂ .before .before in
+    let z = heads-room _ _ _ _ _ (c₃ .known-head .ensures) (c₃ .before .before .before .before .before .before .before .before .pre) in
+    heads-agree _ _ _ _ _ (c₃ .known-head .ensures) _
+    (parts _ _ _ _ (omega arith) (omega arith) _ (c₁ .before .same-bytes .ensures)) (c₁ .if4 .taken) (c₂ .if3 .left) _ _
+    (c .before .first-of .ensures) (c .later-of .ensures)
 
 returns-5 : tie.Need-returns-5
 returns-5 c =
-    let c₁ = c .before .before .before .before in
-    let c₂ = c₁ .before .before in
-    let c₃ = c₂ .before .before .before .before .before .before .before .before in
-    heads-agree _ _ _ _ _ (left-known _ _ _ _ (c₃ .pre) _ (c₂ .known-head .ensures)) _ _ _ _ _ _ _ (c₁ .h2 .given .1) _
-    (let z = heads-room _ _ _ _ _ (left-known _ _ _ _ (c₃ .pre) _ (c₂ .known-head .ensures)) _ _ _ _ _ _ _ (c₁ .h2 .given .1)
-    (c₃ .pre) in parts _ _ _ _ (omega arith) (omega arith) _ (c .before .same-bytes .ensures)) (c .if4 .taken)
-    (c .before .before .if3 .left)
-
-returns-6 : tie.Need-returns-6
-returns-6 c =
-    let c₁ = c .before .before .before .before in
-    let c₂ = c₁ .before .before in
-    let c₃ = c₂ .before .before .before .before .before .before .before .before in
-    heads-bytes _ _ _ _ _ (left-known _ _ _ _ (c₃ .pre) _ (c₂ .known-head .ensures)) _ _ _ _ _ _ _ (c₁ .h2 .given .1) _
-    (let z = heads-room _ _ _ _ _ (left-known _ _ _ _ (c₃ .pre) _ (c₂ .known-head .ensures)) _ _ _ _ _ _ _ (c₁ .h2 .given .1)
-    (c₃ .pre) in parts _ _ _ _ (omega arith) (omega arith) _ (c .before .same-bytes .ensures)) (c .if4 .left)
+    let c₁ = c .before in
+    let c₂ = c₁ .before .before .before in
+    let z = heads-room _ _ _ _ _ (c₂ .known-head .ensures) (c₂ .before .before .before .before .before .before .before .before .pre) in
+    heads-bytes _ _ _ _ _ (c₂ .known-head .ensures) _
+    (parts _ _ _ _ (omega arith) (omega arith) _ (c₁ .same-bytes .ensures)) (c .if4 .left)
 
 pub same-heads-spec : {M : Type 1} → statement M
 same-heads-spec =
@@ -123,13 +91,12 @@ same-heads-spec =
     shared-slice-read-if2-2
     returns-2
     known-head-requires
-    enum-known-h
-    enum-known-h-2
     sub-n
     sub-if3
     returns-3
     same-bytes-requires
     add-q
+    first-of-requires
+    later-of-requires
     returns-4
-    returns-5
-    returns-6)
+    returns-5)
