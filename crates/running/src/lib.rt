@@ -23,11 +23,13 @@ fn rounds(held: &mut [u8], start: usize, budget: u32) -> Ended
     ensures { λ r. ⌜ RoundsPost (now (held .entry)) start budget (now (held .exit)) r ⌝ }
 {
     let mut scratch = [0u8; 4096];
+    let mut leaves = [0u16; 2048];
+    let mut table = [0u16; 2048];
     let mut n = start;
     let mut left = budget;
     let mut count: u32 = 0;
     loop {
-        let next = first_step(&held[..n], &mut scratch);
+        let next = first_step(&held[..n], &mut leaves, &mut table, &mut scratch);
         match next {
             Next::Rests => {
                 return Ended {

@@ -7,6 +7,8 @@ use nav::nexts;
 use reading::FrameAnswer;
 use rewriter::dispatch::decide;
 use splicing::splice;
+ghost use mathlib.Core.Path.{_≡_};
+ghost use lib.ListN.{length};
 ghost use Rattle.searching.specs.SearchPosts.{AtPre, AtPost, SearchPre, SearchPost, FirstPre, FirstPost};
 
 // The first step of a frame: there is none, or the new frame's bytes are in the scratch buffer, so many (4,097: too many).
@@ -58,10 +60,15 @@ fn search(
 }
 
 // The first step of an accepted frame. What was accepted once stays accepted from step to step: so the frame is read again,
-// but neither its names nor its types are checked again.
-pub fn first_step(s: &[u8], scratch: &mut [u8; 4096]) -> Next
-    requires { ⌜ FirstPre (now s) (now scratch) ⌝ }
-    ensures { λ r. ⌜ FirstPost (now (s .entry)) (now (scratch .exit)) r ⌝ }
+// but neither its names nor its types are checked again. The tables are lent, whatever they hold, so that a run clears them once.
+pub fn first_step(
+    s: &[u8],
+    leaves: &mut [u16; 2048],
+    table: &mut [u16; 2048],
+    scratch: &mut [u8; 4096],
+) -> Next
+    requires { ⌜ FirstPre (now s) (now scratch) × (length (now leaves) ≡ 2048) × (length (now table) ≡ 2048) ⌝ }
+    ensures { λ r. ⌜ FirstPost (now (s .entry)) (now (scratch .exit)) r × (length (now (leaves .exit)) ≡ 2048) × (length (now (table .exit)) ≡ 2048) ⌝ }
 {
     let read = reading::read_again(s);
     let answer = read.answer;
@@ -69,12 +76,10 @@ pub fn first_step(s: &[u8], scratch: &mut [u8; 4096]) -> Next
         FrameAnswer::Refused(_c) => Next::Rests,
         FrameAnswer::Nodes(n) => {
             let starts = read.starts;
-            let mut leaves = [0u16; 2048];
             // an accepted frame is closed: only the table is wanted
-            let closed = binding_ok(s, &mut leaves);
-            let mut table = [0u16; 2048];
-            nexts(s, n, &starts, &mut table);
-            search(s, n, &starts, &table, &leaves, scratch)
+            let closed = binding_ok(s, leaves);
+            nexts(s, n, &starts, table);
+            search(s, n, &starts, table, leaves, scratch)
         }
     }
 }
