@@ -1,12 +1,14 @@
 -- The code's tables of tags say what `table` and `formAt` say, for every tag: each table by one computed test and one law.
--- Main results: form-code, code-form, code-small, beyond; row-far, row-none, row-some, row-form, row-zero (the ways out of `row_of` and `form_of`).
+-- Main results: form-code, code-form, code-small, beyond; word-none, word-past (indices that a table of words does not have);
+-- form-found (`form_of`); row-far, row-none, row-some (the ways out of `row_of`).
 use mathlib.Core.Path.{_≡_, refl, sym, ap, _∙_, subst}
 use mathlib.Core.Bool.{Bool, true, false, _&&_}
+use mathlib.Core.List.{List, [], _∷_}
 use Prim.Native.Nat.{ℕ, _+_, _*_, _/_, _%_, _^_, _≤_, _<_}
 use native.Mathlib.Omega.{arith}
-use lib.ListN.{getD}
+use native.Mathlib.Nat.{zero-div}
 use lib.Dec.{ltb, leb, eqb}
-use borrow.Author.Tests.{leb-true, leb-false, ltb-true, lt-leb, le-leb, eqb-true}
+use borrow.Author.Tests.{leb-true, leb-false, ltb-true, lt-leb, le-leb, eqb-true, ne-eqb}
 use Rattle.frame.specs.Tags.{
   pick,
   Class,
@@ -67,9 +69,10 @@ use Rattle.frame.specs.Tags.{
   formAt,
   formOf,
 }
-use Rattle.tags.specs.TagCodes.{formAtCode, formCode, blockEntry, rowOf, formWords}
+use Rattle.tags.specs.TagCodes.{formAtCode, formCode, Word, word, wordAt, formWords, blockEntry, rowOf}
 use Rattle.frame.proofs.Booleans.{both-true}
 use Rattle.frame.proofs.EveryTag.{alongRows, every-tag, unlisted-past}
+use Rattle.frame.proofs.Tables.{allBelow, below}
 
 -- ---- the form of a class has its number
 pub form-code : (c : Class) → formAtCode (formCode c) ≡ formAt c
@@ -193,51 +196,69 @@ pub beyond : (t : ℕ) → 901 < t → formCode (classOf t) ≡ 0
 unfolding formCode
 beyond t h = ap formCode (unlisted-past t h)
 
--- ---- rows of tags
--- the form that the code finds in its words
-abbrev pub formAtRow : ℕ → ℕ
-formAtRow r = getD formWords (r / 12) 0 / 2 ^ (5 * (r % 12)) % 32
+-- ---- tables of words
+-- an index that is none of the table's, as the last arm of a match over them has it
+abbrev pub NoneOf : Type 0 → ℕ → List Word → Type 0
+NoneOf P i [] = P
+NoneOf P i (word k w ∷ ws) = NoneOf (P × (i ≡ k → ⊥)) i ws
 
-abbrev tagRight : ℕ → Class → Bool
-tagRight t c = ltb (rowOf t) 121 && (eqb (formAtRow (rowOf t)) (formCode c) && ltb (formAtRow (rowOf t)) 20)
+none-under : (P : Type 0) (i : ℕ) (ws : List Word) → NoneOf P i ws → P × (wordAt ws i ≡ 0)
+none-under P i [] h = (h, refl)
+none-under P i (word k w ∷ ws) h =
+    let r = none-under (P × (i ≡ k → ⊥)) i ws h in
+    (r .0 .0, rw (ne-eqb i k (r .0 .1)) (r .1))
 
+pub word-none : (i : ℕ) (ws : List Word) → NoneOf (Unit {0}) i ws → 0 ≡ wordAt ws i
+word-none i ws h = sym (none-under (Unit {0}) i ws h .1)
+
+-- an index past the last
+abbrev pub endsBefore : ℕ → List Word → Bool
+endsBefore n [] = true
+endsBefore n (word k w ∷ ws) = ltb k n && endsBefore n ws
+
+pub word-past : (n : ℕ) (ws : List Word) → endsBefore n ws ≡ true → (i : ℕ) → n ≤ i → wordAt ws i ≡ 0
+word-past n [] e i h = refl
+word-past n (word k w ∷ ws) e i h =
+    let p = both-true (ltb k n) (endsBefore n ws) e in
+    let l = ltb-true k n (p .0) in
+    rw (ne-eqb i k (λ z. absurd (omega arith))) (word-past n ws (p .1) i h)
+
+-- ---- the form that the code finds in its words
+abbrev formIn : ℕ → ℕ → ℕ
+formIn w t = w / 2 ^ (5 * (t % 8)) % 32
+
+abbrev formRight : ℕ → Class → Bool
+formRight t c = eqb (formIn (wordAt formWords (t / 8)) t) (formCode c)
+
+-- every tag that has a word, by one evaluation
+forms-right : alongRows formRight 904 0 table ≡ true
+unfolding formCode
+forms-right = refl
+
+form-far : (t : ℕ) → 113 ≤ t / 8 → formIn (wordAt formWords (t / 8)) t ≡ formCode (classOf t)
+form-far t h =
+    rw (word-past 113 formWords refl (t / 8) h) (rw (zero-div (2 ^ (5 * (t % 8)))) (sym (beyond t (omega arith))))
+
+form-by : (t : ℕ) (b : Bool) → leb 113 (t / 8) ≡ b → formIn (wordAt formWords (t / 8)) t ≡ formCode (classOf t)
+form-by t true e = form-far t (leb-true 113 (t / 8) e)
+form-by t false e = let h = leb-false 113 (t / 8) e in eqb-true _ _ (every-tag formRight 904 forms-right t (omega arith))
+
+pub form-found : (t w : ℕ) → w ≡ wordAt formWords (t / 8)
+    → (w / 2 ^ (5 * (t % 8)) % 32 ≡ formCode (classOf t)) × (w / 2 ^ (5 * (t % 8)) % 32 < 20)
+form-found t w e =
+    let z : formIn w t ≡ formCode (classOf t) = ap (λ (x : ℕ). formIn x t) e ∙ form-by t (leb 113 (t / 8)) refl in
+    (z, subst (λ (x : ℕ). x < 20) (sym z) (code-small (classOf t)))
+
+-- ---- rows of tags: the ways out of `row_of`
 -- every tag below 1,000, by one evaluation
-tags-right : alongRows tagRight 1000 0 table ≡ true
-unfolding formCode rowOf
-tags-right = refl
-
--- what the test says of a tag, and what tags beyond it have
-record Right (t : ℕ) : Type 0 where
-  small : rowOf t < 121
-  form : formAtRow (rowOf t) ≡ formCode (classOf t)
-  few : formAtRow (rowOf t) < 20
+rows-small : allBelow 1000 (λ t. ltb (rowOf t) 121) ≡ true
+unfolding rowOf
+rows-small = refl
 
 far-row : (t : ℕ) → 20 ≤ t / 50 → rowOf t ≡ 0
 unfolding rowOf
 far-row t h = rw (le-leb 20 (t / 50) h)
 
-right-far : (t : ℕ) → 20 ≤ t / 50 → Right t
-right-far t h =
-    let z = far-row t h in
-    record { small = rw z (omega arith); form = rw z (sym (beyond t (omega arith))); few = rw z (omega arith) }
-
-right-near : (t : ℕ) → t < 1000 → Right t
-right-near t h =
-    let a = ltb (rowOf t) 121 in
-    let b = eqb (formAtRow (rowOf t)) (formCode (classOf t)) in
-    let c = ltb (formAtRow (rowOf t)) 20 in
-    let p = both-true a (b && c) (every-tag tagRight 1000 tags-right t h) in
-    let q = both-true b c (p .1) in
-    record { small = ltb-true _ _ (p .0); form = eqb-true _ _ (q .0); few = ltb-true _ _ (q .1) }
-
-by-block : (t : ℕ) (b : Bool) → leb 20 (t / 50) ≡ b → Right t
-by-block t true e = right-far t (leb-true 20 (t / 50) e)
-by-block t false e = let h = leb-false 20 (t / 50) e in right-near t (omega arith)
-
-right : (t : ℕ) → Right t
-right t = by-block t (leb 20 (t / 50)) refl
-
--- the ways out of `row_of`
 pub row-far : (t : ℕ) → 20 ≤ t / 50 → (0 ≡ rowOf t) × (0 < 121)
 row-far t h = (sym (far-row t h), omega arith)
 
@@ -252,12 +273,4 @@ module _ (t : ℕ) (h : t / 50 < 20) (entry : ℕ) (e : entry ≡ blockEntry (t 
   pub row-some : t % 50 < entry / 256 → (entry % 256 + t % 50 ≡ rowOf t) × (entry % 256 + t % 50 < 121)
   row-some l =
       let z : entry % 256 + t % 50 ≡ rowOf t = sym (near-row ∙ rw (lt-leb (entry / 256) (t % 50) l) refl) in
-      (z, subst (λ (x : ℕ). x < 121) (sym z) (right t .small))
-
--- the form at a tag's row
-pub row-form : (t r w : ℕ) → r ≡ rowOf t → w ≡ getD formWords (r / 12) 0
-    → (w / 2 ^ (5 * (r % 12)) % 32 ≡ formCode (classOf t)) × (w / 2 ^ (5 * (r % 12)) % 32 < 20)
-row-form t r w e ew = rw ew (rw e (right t .form, right t .few))
-
-pub row-zero : (t r : ℕ) → r ≡ rowOf t → r ≡ 0 → (0 ≡ formCode (classOf t)) × (0 < 20)
-row-zero t r e z = (let y : rowOf t ≡ 0 = sym e ∙ z in ap formAtRow (sym y) ∙ right t .form, omega arith)
+      (z, subst (λ (x : ℕ). x < 121) (sym z) (ltb-true _ _ (below 1000 (λ i. ltb (rowOf i) 121) rows-small t (omega arith))))

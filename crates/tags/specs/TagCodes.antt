@@ -4,7 +4,7 @@ use Prim.Native.Nat.{ℕ, zero, suc, _+_, _*_, _/_, _%_, _^_}
 use mathlib.Core.Bool.{Bool, true, false}
 use mathlib.Core.List.{List, [], _∷_}
 use lib.ListN.{length, getD}
-use lib.Dec.{leb}
+use lib.Dec.{leb, eqb}
 use Rattle.frame.specs.Tags.{
   pick,
   Sort,
@@ -242,7 +242,45 @@ fixedOf (payload w) = 0
 fixedOf (counted lo hi e) = 0
 fixedOf (binding lo hi es) = length es
 
--- ---- tags by row, as the code has them: a table is a list of words, and an entry is a few bits of a word
+-- ---- a table of words as the code has it: the words that are not 0, each with its index; an entry is a few bits of a word
+pub data Word : Type 0 where
+  word : ℕ → ℕ → Word
+
+abbrev pub wordAt : List Word → ℕ → ℕ
+wordAt [] i = 0
+wordAt (word k w ∷ ws) i = pick (eqb i k) w (wordAt ws i)
+
+-- the forms of the tags, eight to a word, five bits each
+abbrev pub formWords : List Word
+formWords =
+    word 0 587694528
+    ∷ word 12 70934069248
+    ∷ word 13 70936234050
+    ∷ word 14 2
+    ∷ word 25 461085521312
+    ∷ word 26 461085521325
+    ∷ word 27 461085521325
+    ∷ word 28 439725
+    ∷ word 31 3244032
+    ∷ word 37 638406623232
+    ∷ word 38 608850
+    ∷ word 43 206158430208
+    ∷ word 44 6
+    ∷ word 50 353572791584
+    ∷ word 51 10823977
+    ∷ word 75 352
+    ∷ word 76 33792
+    ∷ word 77 5242880
+    ∷ word 87 134217728
+    ∷ word 93 412316860416
+    ∷ word 94 415641996
+    ∷ word 95 12988800
+    ∷ word 100 642656
+    ∷ word 106 8650752
+    ∷ word 112 234881024
+    ∷ []
+
+-- ---- tags by row
 -- blocks of fifty tags, four to a word: where the rows of a block begin, and 256 times how many it has
 abbrev pub blockWords : List ℕ
 blockWords = 5362343978862080 ∷ 232507341657807891 ∷ 20829466109021501 ∷ 1108169590361232714 ∷ 2710182298736 ∷ []
@@ -253,9 +291,3 @@ blockEntry b = getD blockWords (b / 4) 0 / 2 ^ (16 * (b % 4)) % 65536
 -- the row of a tag; 0 is that of the unlisted
 unfoldable pub rowOf : ℕ → ℕ
 rowOf t = pick (leb 20 (t / 50)) 0 (pick (leb (blockEntry (t / 50) / 256) (t % 50)) 0 (blockEntry (t / 50) % 256 + t % 50))
-
--- the forms of the rows, twelve to a word
-abbrev pub formWords : List ℕ
-formWords =
-    74382030926217664 ∷ 483482752740558914 ∷ 483483211609322925 ∷ 15108850362791341 ∷ 216826530446770275 ∷ 370749043029353478 ∷ 360778 ∷
-    5629499534213153 ∷ 13619756937220 ∷ 9289348105515404 ∷ 7 ∷ []

@@ -6,7 +6,7 @@ ghost use mathlib.Core.Path.{_≡_};
 ghost use Prim.Native.Nat.{_≤_, _<_};
 ghost use lib.ListN.{length, getD};
 ghost use Rattle.frame.specs.Tags.{sameSort, width, inRange, payloadOf, typesOf, sortsOf, classOf};
-ghost use Rattle.tags.specs.TagCodes.{formCode, formAtCode, sortFor, firstSort, laterSort, layoutKind, lowOf, highOf, fixedOf, blockWords, formWords, rowOf};
+ghost use Rattle.tags.specs.TagCodes.{formCode, formAtCode, sortFor, firstSort, laterSort, layoutKind, lowOf, highOf, fixedOf, wordAt, formWords, blockWords, rowOf};
 
 // By form, two bits: how many bytes the number takes that follows the tag; 3 stands for 8.
 const WIDTHS: usize = 0x5760015000;
@@ -30,6 +30,47 @@ const LATERS: usize = 0xe30a4;
 
 // The forms from here on are those of expressions.
 const FIRST_EXPRESSION: usize = 9;
+
+// The forms of the tags, eight to a word, five bits each: the word of the tags from 8 * i on. Most have no tag that is listed.
+fn form_word(i: usize) -> usize
+    ensures { λ r. ⌜ r ≡ wordAt formWords i ⌝ }
+{
+    match i {
+        0 => 0x230781c0,
+        12 => 0x1084000000,
+        13 => 0x1084210842,
+        14 => 0x2,
+        25 => 0x6b5ad6b5a0,
+        26 => 0x6b5ad6b5ad,
+        27 => 0x6b5ad6b5ad,
+        28 => 0x6b5ad,
+        31 => 0x318000,
+        37 => 0x94a4000000,
+        38 => 0x94a52,
+        43 => 0x3000000000,
+        44 => 0x6,
+        50 => 0x525294a520,
+        51 => 0xa52929,
+        75 => 0x160,
+        76 => 0x8400,
+        77 => 0x500000,
+        87 => 0x8000000,
+        93 => 0x6000000000,
+        94 => 0x18c6318c,
+        95 => 0xc63180,
+        100 => 0x9ce60,
+        106 => 0x840000,
+        112 => 0xe000000,
+        _ => 0,
+    }
+}
+
+// The form of a tag.
+pub fn form_of(tag: usize) -> usize
+    ensures { λ r. ⌜ (r ≡ formCode (classOf tag)) × (r < 20) ⌝ }
+{
+    (form_word(tag / 8) >> (5 * (tag % 8))) % 32
+}
 
 // Tags come in blocks of fifty, four of them to a word, 16 bits each: where the rows of a block begin, and in the high byte how
 // many it has.
@@ -61,37 +102,6 @@ pub fn row_of(tag: usize) -> usize
         return 0;
     }
     entry % 256 + offset
-}
-
-// The forms of the rows, twelve to a word, five bits each.
-fn form_word(i: usize) -> usize
-    requires { ⌜ i < 11 ⌝ }
-    ensures { λ r. ⌜ r ≡ getD formWords i 0 ⌝ }
-{
-    match i {
-        0 => 0x1084210230781c0,
-        1 => 0x6b5ad0084210842,
-        2 => 0x6b5ad6b5ad6b5ad,
-        3 => 0x35ad6b5ad6b5ad,
-        4 => 0x3025294a5290063,
-        5 => 0x5252a4a5294a406,
-        6 => 0x5814a,
-        7 => 0x14000000000021,
-        8 => 0xc6318c63004,
-        9 => 0x21009ce606318c,
-        _ => 0x7,
-    }
-}
-
-// The form of a tag.
-pub fn form_of(tag: usize) -> usize
-    ensures { λ r. ⌜ (r ≡ formCode (classOf tag)) × (r < 20) ⌝ }
-{
-    let row = row_of(tag);
-    if row == 0 {
-        return 0;
-    }
-    (form_word(row / 12) >> (5 * (row % 12))) % 32
 }
 
 // Whether the form is that of an expression where e, else that of a predicate.
