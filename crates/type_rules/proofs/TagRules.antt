@@ -1,13 +1,14 @@
 -- The code's tables of typing rules say what `ruleAt` says, for every tag: by one computed test, and one law.
--- Main results: row-rule (the rule of a tag), rule-row (the four patterns of a rule), pair-packed .. result-packed
--- (their words), pattern-last (the last arm of `pattern`).
-use mathlib.Core.Path.{_≡_, refl, sym, ap, subst}
+-- Main results: tag-rule (the rule of a tag), rule-row (the four patterns of a rule), pair-packed .. result-packed
+-- (their words), word-none and pattern-last (the last arms of `rule_word` and `pattern`).
+use mathlib.Core.Path.{_≡_, refl, sym, ap, subst, _∙_}
 use mathlib.Core.Bool.{Bool, true, false, _&&_}
+use mathlib.Core.List.{List, [], _∷_}
 use Prim.Native.Nat.{ℕ, _*_, _/_, _%_, _^_, _≤_, _<_}
 use native.Mathlib.Omega.{arith}
 use lib.ListN.{getD, List·getD-eq-default}
 use lib.Dec.{ltb, leb, eqb}
-use borrow.Author.Tests.{leb-true, leb-false, ltb-true, eqb-true}
+use borrow.Author.Tests.{leb-true, leb-false, ltb-true, eqb-true, ne-eqb}
 use Rattle.frame.specs.Tags.{
   table,
   classOf,
@@ -65,46 +66,73 @@ use Rattle.frame.specs.Tags.{
   comprehension,
   unlisted,
 }
-use Rattle.tags.specs.TagCodes.{rowOf}
-use Rattle.frame.proofs.Tables.{NoneBelow, past-all}
-use Rattle.tags.proofs.TagTables.{row-far}
+use Rattle.frame.proofs.Tables.{entry, NoneBelow, past-all}
 use Rattle.frame.proofs.EveryTag.{alongRows, every-tag, unlisted-past}
 use Rattle.frame.proofs.Booleans.{both-true}
 use Rattle.type_rules.specs.Patterns.{Rule, ruleAt}
-use Rattle.type_rules.specs.RuleNumbers.{ruleNumber, ruleWords, rowWords, patternWords, lastPattern, packs, Packed, patternAt, RowOf}
+use Rattle.type_rules.specs.RuleNumbers.{Word, word, wordAt, ruleNumber, ruleWords, rowWords, patternWords, lastPattern, packs, Packed, patternAt, RowOf}
+
+-- ---- the words of the rules
+-- a number at which no word stands, as the last arm of a match has it: one inequation for each word, behind what is known already
+abbrev NoneOf : Type 0 → ℕ → List Word → Type 0
+NoneOf P i [] = P
+NoneOf P i (word k w ∷ ws) = NoneOf (P × (i ≡ k → ⊥)) i ws
+
+no-word : (P : Type 0) (i : ℕ) (ws : List Word) → NoneOf P i ws → P × (wordAt ws i ≡ 0)
+no-word P i [] r = (r, refl)
+no-word P i (word k w ∷ ws) r =
+    let p = no-word (P × (i ≡ k → ⊥)) i ws r in
+    (p .0 .0, rw (ne-eqb i k (p .0 .1)) (p .1))
+
+pub word-none : (i : ℕ) → NoneOf (Unit {0}) i ruleWords → 0 ≡ wordAt ruleWords i
+word-none i r = sym (no-word (Unit {0}) i ruleWords r .1)
+
+-- past the last word there is none
+abbrev within : ℕ → List Word → Bool
+within n [] = true
+within n (word k w ∷ ws) = ltb k n && within n ws
+
+word-past : (n : ℕ) (ws : List Word) → within n ws ≡ true → (i : ℕ) → n ≤ i → wordAt ws i ≡ 0
+word-past n [] e i h = refl
+word-past n (word k w ∷ ws) e i h =
+    let p = both-true (ltb k n) (within n ws) e in
+    let l = ltb-true k n (p .0) in
+    rw (ne-eqb i k (omega arith)) (word-past n ws (p .1) i h)
 
 -- ---- the rule of a tag
 -- the rule that the code finds in its words
-abbrev ruleAtRow : ℕ → ℕ
-ruleAtRow r = getD ruleWords (r / 10) 0 / 2 ^ (6 * (r % 10)) % 64
+abbrev ruleIn : ℕ → ℕ
+ruleIn t = wordAt ruleWords (t / 8) / 2 ^ (6 * (t % 8)) % 64
 
 abbrev RuleOf : ℕ → ℕ → Type 0
 RuleOf t r = (r ≡ ruleNumber (classOf t)) × (r < 49)
 
 abbrev tagRight : ℕ → Class → Bool
-tagRight t c = eqb (ruleAtRow (rowOf t)) (ruleNumber c) && ltb (ruleAtRow (rowOf t)) 49
+tagRight t c = eqb (ruleIn t) (ruleNumber c) && ltb (ruleIn t) 49
 
--- every tag below 1,000, by one evaluation
-tags-right : alongRows tagRight 1000 0 table ≡ true
-unfolding ruleNumber rowOf
+-- every tag of the 113 eights up to the last that is listed, by one evaluation
+tags-right : alongRows tagRight 904 0 table ≡ true
+unfolding ruleNumber
 tags-right = refl
 
-right-near : (t : ℕ) → t < 1000 → RuleOf t (ruleAtRow (rowOf t))
+right-near : (t : ℕ) → t < 904 → RuleOf t (ruleIn t)
 right-near t h =
-    let p = both-true (eqb (ruleAtRow (rowOf t)) (ruleNumber (classOf t))) (ltb (ruleAtRow (rowOf t)) 49) (every-tag tagRight 1000 tags-right t h) in
+    let p = both-true (eqb (ruleIn t) (ruleNumber (classOf t))) (ltb (ruleIn t) 49) (every-tag tagRight 904 tags-right t h) in
     (eqb-true _ _ (p .0), ltb-true _ _ (p .1))
 
--- tags beyond it are not listed, and have the first row
-right-far : (t : ℕ) → 20 ≤ t / 50 → RuleOf t (ruleAtRow (rowOf t))
+-- tags beyond them are not listed, and have no word
+right-far : (t : ℕ) → 113 ≤ t / 8 → RuleOf t (ruleIn t)
 unfolding ruleNumber
-right-far t h = subst (λ (r : ℕ). RuleOf t (ruleAtRow r)) (row-far t h .0) (sym (ap ruleNumber (unlisted-past t (omega arith))), omega arith)
+right-far t h =
+    let z : 0 / 2 ^ (6 * (t % 8)) % 64 ≡ 0 = entry (λ k. 0 / 2 ^ (6 * k) % 64) (λ k. 0) 8 refl (t % 8) (omega arith) in
+    rw (word-past 113 ruleWords refl (t / 8) h) (z ∙ sym (ap ruleNumber (unlisted-past t (omega arith))), omega (arith, z))
 
-right : (t : ℕ) (b : Bool) → leb 20 (t / 50) ≡ b → RuleOf t (ruleAtRow (rowOf t))
-right t true e = right-far t (leb-true 20 (t / 50) e)
-right t false e = let h = leb-false 20 (t / 50) e in right-near t (omega arith)
+right : (t : ℕ) (b : Bool) → leb 113 (t / 8) ≡ b → RuleOf t (ruleIn t)
+right t true e = right-far t (leb-true 113 (t / 8) e)
+right t false e = let h = leb-false 113 (t / 8) e in right-near t (omega arith)
 
-pub row-rule : (t r w : ℕ) → r ≡ rowOf t → w ≡ getD ruleWords (r / 10) 0 → RuleOf t (w / 2 ^ (6 * (r % 10)) % 64)
-row-rule t r w e ew = rw ew (rw e (right t (leb 20 (t / 50)) refl))
+pub tag-rule : (t w : ℕ) → w ≡ wordAt ruleWords (t / 8) → RuleOf t (w / 2 ^ (6 * (t % 8)) % 64)
+tag-rule t w e = rw e (right t (leb 113 (t / 8)) refl)
 
 -- ---- the patterns of a rule
 pub pattern-last : (i : ℕ) → NoneBelow i 26 → lastPattern ≡ patternAt i

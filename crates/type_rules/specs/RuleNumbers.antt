@@ -119,11 +119,21 @@ ruleNumber comprehension = 48
 ruleNumber unlisted = 0
 
 -- ---- the tables, as the code has them: a table is a list of words, and an entry is a few bits of a word
--- the rules of the rows of tags, ten to a word
-abbrev pub ruleWords : List ℕ
+-- the rules of eight tags in a row, six bits each: which eight, and the word. An eight that is not among them has the word 0.
+pub data Word : Type 0 where
+  word : ℕ → ℕ → Word
+
+abbrev pub wordAt : List Word → ℕ → ℕ
+wordAt [] i = 0
+wordAt (word k w ∷ ws) i = pick (eqb i k) w (wordAt ws i)
+
+abbrev pub ruleWords : List Word
 ruleWords =
-    164416590385250368 ∷ 3145371151274569 ∷ 366006826859316499 ∷ 475804405952238868 ∷ 219552575034345243 ∷ 234343554502227904 ∷
-    685141401017663501 ∷ 15033712870 ∷ 7633633280 ∷ 731554426795327488 ∷ 805018434125077096 ∷ 4002274665565101 ∷ 16 ∷ []
+    word 0 19614138432 ∷ word 12 40140764348416 ∷ word 13 49146407457353 ∷ word 14 11 ∷ word 25 89357135463616 ∷
+    word 26 102689787692308 ∷ word 27 125098881816152 ∷ word 28 7984924 ∷ word 31 204472320 ∷ word 37 142901078130688 ∷
+    word 38 9320609 ∷ word 43 57174604644352 ∷ word 44 13 ∷ word 50 9285275896064 ∷ word 51 84949414 ∷ word 75 896 ∷
+    word 76 1863680 ∷ word 77 251658240 ∷ word 87 15032385536 ∷ word 93 171523813933056 ∷ word 94 46886459944 ∷
+    word 95 783731456 ∷ word 100 12778432 ∷ word 106 238551040 ∷ word 112 17179869184 ∷ []
 
 -- the numbers of a rule's four patterns, two rules to a word
 abbrev pub rowWords : List ℕ

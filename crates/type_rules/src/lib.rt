@@ -1,33 +1,44 @@
 // Typing rules as tables (specs/Patterns.antt): the rule of a tag, the patterns of a rule, the symbols of a pattern.
 // A constant array is laid out anew where it is read, so a table is a few words chosen by a match: its entries stand in a word one
 // after the other, the first in the lowest bits. A pattern is a word too, four bits a symbol.
-use tags::row_of;
 ghost use mathlib.Core.Path.{_≡_};
 ghost use Prim.Native.Nat.{_<_};
 ghost use lib.ListN.{getD};
 ghost use Rattle.frame.specs.Tags.{classOf};
 ghost use Rattle.type_rules.specs.Patterns.{ruleAt};
-ghost use Rattle.type_rules.specs.RuleNumbers.{ruleNumber, ruleWords, rowWords, patternWords, lastPattern, RowOf};
+ghost use Rattle.type_rules.specs.RuleNumbers.{ruleNumber, wordAt, ruleWords, rowWords, patternWords, lastPattern, RowOf};
 
-// The rules of the rows of tags, ten to a word, six bits each.
+// The rules of eight tags in a row, six bits each; most eights have no tag that is listed, and the word 0.
 fn rule_word(i: usize) -> usize
-    requires { ⌜ i < 13 ⌝ }
-    ensures { λ r. ⌜ r ≡ getD ruleWords i 0 ⌝ }
+    ensures { λ r. ⌜ r ≡ wordAt ruleWords i ⌝ }
 {
     match i {
-        0 => 0x248200491180040,
-        1 => 0xb2cb2ca289249,
-        2 => 0x514514514514513,
-        3 => 0x69a659617595514,
-        4 => 0x30c01e75c71c71b,
-        5 => 0x3408e38a181f7c0,
-        6 => 0x9821c796492400d,
-        7 => 0x3801440e6,
-        8 => 0x1c7000000,
-        9 => 0xa2700e00f000000,
-        10 => 0xb2c00002baa9a68,
-        11 => 0xe380c2fbc0bad,
-        _ => 0x10,
+        0 => 0x491180040,
+        12 => 0x248200000000,
+        13 => 0x2cb2ca289249,
+        14 => 0xb,
+        25 => 0x5145145144c0,
+        26 => 0x5d6554514514,
+        27 => 0x71c6da699658,
+        28 => 0x79d71c,
+        31 => 0xc300000,
+        37 => 0x81f7c0000000,
+        38 => 0x8e38a1,
+        43 => 0x340000000000,
+        44 => 0xd,
+        50 => 0x871e5924900,
+        51 => 0x51039a6,
+        75 => 0x380,
+        76 => 0x1c7000,
+        77 => 0xf000000,
+        87 => 0x380000000,
+        93 => 0x9c0000000000,
+        94 => 0xaeaa69a28,
+        95 => 0x2eb6cb00,
+        100 => 0xc2fbc0,
+        106 => 0xe380000,
+        112 => 0x400000000,
+        _ => 0,
     }
 }
 
@@ -35,8 +46,7 @@ fn rule_word(i: usize) -> usize
 pub fn rule_of(tag: usize) -> usize
     ensures { λ r. ⌜ (r ≡ ruleNumber (classOf tag)) × (r < 49) ⌝ }
 {
-    let row = row_of(tag);
-    (rule_word(row / 10) >> (6 * (row % 10))) % 64
+    (rule_word(tag / 8) >> (6 * (tag % 8))) % 64
 }
 
 // Two rules to a word, 32 bits each: the numbers of a rule's four patterns (two operands in a row, the first, the last, the result).

@@ -1,10 +1,7 @@
-use Rattle.type_rules.proofs.TagRules.{row-rule}
+use Rattle.type_rules.proofs.TagRules.{tag-rule}
 use borrow.Author.Needs.{needs}
 use Rattle.type_rules.proofs.rule_of.Statement.{statement}
 use Rattle.type_rules.proofs.rule_of.Tie as tie
-
-row-of-requires : tie.Need-row-of-requires
-row-of-requires c κs = search needs
 
 rule-word-requires : tie.Need-rule-word-requires
 rule-word-requires c κs = search needs
@@ -16,8 +13,7 @@ shr-result : tie.Need-shr-result
 shr-result c = search needs
 
 returns : tie.Need-returns
-returns c = row-rule (c .before .before .args .tag) _ _ (c .before .row-of .ensures .0) (c .rule-word .ensures)
+returns c = tag-rule (c .before .args .tag) _ (c .rule-word .ensures)
 
 pub rule-of-spec : {M : Type 1} → statement M
-rule-of-spec =
-    tie.close (tie.spec row-of-requires rule-word-requires mul-result shr-result returns)
+rule-of-spec = tie.close (tie.spec rule-word-requires mul-result shr-result returns)
