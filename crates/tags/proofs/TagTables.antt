@@ -1,16 +1,15 @@
 -- The code's tables of tags say what `table` and `formAt` say, for every tag: each table by one computed test and one law.
 -- Main results: form-code, code-form, code-small, beyond; word-none, word-past (indices that a table of words does not have);
--- form-found (`form_of`); row-far, row-none, row-some (the ways out of `row_of`).
+-- form-found (`form_of`).
 use mathlib.Core.Path.{_≡_, refl, sym, ap, _∙_, subst}
 use mathlib.Core.Bool.{Bool, true, false, _&&_}
 use mathlib.Core.List.{List, [], _∷_}
-use Prim.Native.Nat.{ℕ, _+_, _*_, _/_, _%_, _^_, _≤_, _<_}
+use Prim.Native.Nat.{ℕ, _*_, _/_, _%_, _^_, _≤_, _<_}
 use native.Mathlib.Omega.{arith}
 use native.Mathlib.Nat.{zero-div}
 use lib.Dec.{ltb, leb, eqb}
-use borrow.Author.Tests.{leb-true, leb-false, ltb-true, lt-leb, le-leb, eqb-true, ne-eqb}
+use borrow.Author.Tests.{leb-true, leb-false, ltb-true, eqb-true, ne-eqb}
 use Rattle.frame.specs.Tags.{
-  pick,
   Class,
   literalPred,
   equality,
@@ -69,10 +68,9 @@ use Rattle.frame.specs.Tags.{
   formAt,
   formOf,
 }
-use Rattle.tags.specs.TagCodes.{formAtCode, formCode, Word, word, wordAt, formWords, blockEntry, rowOf}
+use Rattle.tags.specs.TagCodes.{formAtCode, formCode, Word, word, wordAt, formWords}
 use Rattle.frame.proofs.Booleans.{both-true}
 use Rattle.frame.proofs.EveryTag.{alongRows, every-tag, unlisted-past}
-use Rattle.frame.proofs.Tables.{allBelow, below}
 
 -- ---- the form of a class has its number
 pub form-code : (c : Class) → formAtCode (formCode c) ≡ formAt c
@@ -248,29 +246,3 @@ pub form-found : (t w : ℕ) → w ≡ wordAt formWords (t / 8)
 form-found t w e =
     let z : formIn w t ≡ formCode (classOf t) = ap (λ (x : ℕ). formIn x t) e ∙ form-by t (leb 113 (t / 8)) refl in
     (z, subst (λ (x : ℕ). x < 20) (sym z) (code-small (classOf t)))
-
--- ---- rows of tags: the ways out of `row_of`
--- every tag below 1,000, by one evaluation
-rows-small : allBelow 1000 (λ t. ltb (rowOf t) 121) ≡ true
-unfolding rowOf
-rows-small = refl
-
-far-row : (t : ℕ) → 20 ≤ t / 50 → rowOf t ≡ 0
-unfolding rowOf
-far-row t h = rw (le-leb 20 (t / 50) h)
-
-pub row-far : (t : ℕ) → 20 ≤ t / 50 → (0 ≡ rowOf t) × (0 < 121)
-row-far t h = (sym (far-row t h), omega arith)
-
-module _ (t : ℕ) (h : t / 50 < 20) (entry : ℕ) (e : entry ≡ blockEntry (t / 50)) where
-  near-row : rowOf t ≡ pick (leb (entry / 256) (t % 50)) 0 (entry % 256 + t % 50)
-  unfolding rowOf
-  near-row = rw e (rw (lt-leb 20 (t / 50) h) refl)
-
-  pub row-none : entry / 256 ≤ t % 50 → (0 ≡ rowOf t) × (0 < 121)
-  row-none l = (sym (near-row ∙ rw (le-leb (entry / 256) (t % 50) l) refl), omega arith)
-
-  pub row-some : t % 50 < entry / 256 → (entry % 256 + t % 50 ≡ rowOf t) × (entry % 256 + t % 50 < 121)
-  row-some l =
-      let z : entry % 256 + t % 50 ≡ rowOf t = sym (near-row ∙ rw (lt-leb (entry / 256) (t % 50) l) refl) in
-      (z, subst (λ (x : ℕ). x < 121) (sym z) (ltb-true _ _ (below 1000 (λ i. ltb (rowOf i) 121) rows-small t (omega arith))))

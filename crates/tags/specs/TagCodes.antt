@@ -1,10 +1,10 @@
 -- Forms by number, as the code has them: tags that ask for the same have one number, and 0 is that of the unlisted.
 -- `proofs/TagTables.antt` shows that the code's tables say what `formAt` and `table` of frame/specs/Tags.antt say, for every tag.
-use Prim.Native.Nat.{ℕ, zero, suc, _+_, _*_, _/_, _%_, _^_}
+use Prim.Native.Nat.{ℕ, zero, suc}
 use mathlib.Core.Bool.{Bool, true, false}
 use mathlib.Core.List.{List, [], _∷_}
-use lib.ListN.{length, getD}
-use lib.Dec.{leb, eqb}
+use lib.ListN.{length}
+use lib.Dec.{eqb}
 use Rattle.frame.specs.Tags.{
   pick,
   Sort,
@@ -279,15 +279,3 @@ formWords =
     ∷ word 106 8650752
     ∷ word 112 234881024
     ∷ []
-
--- ---- tags by row
--- blocks of fifty tags, four to a word: where the rows of a block begin, and 256 times how many it has
-abbrev pub blockWords : List ℕ
-blockWords = 5362343978862080 ∷ 232507341657807891 ∷ 20829466109021501 ∷ 1108169590361232714 ∷ 2710182298736 ∷ []
-
-abbrev pub blockEntry : ℕ → ℕ
-blockEntry b = getD blockWords (b / 4) 0 / 2 ^ (16 * (b % 4)) % 65536
-
--- the row of a tag; 0 is that of the unlisted
-unfoldable pub rowOf : ℕ → ℕ
-rowOf t = pick (leb 20 (t / 50)) 0 (pick (leb (blockEntry (t / 50) / 256) (t % 50)) 0 (blockEntry (t / 50) % 256 + t % 50))

@@ -4,9 +4,9 @@
 // the word one after the other, the first in the lowest bits.
 ghost use mathlib.Core.Path.{_≡_};
 ghost use Prim.Native.Nat.{_≤_, _<_};
-ghost use lib.ListN.{length, getD};
+ghost use lib.ListN.{length};
 ghost use Rattle.frame.specs.Tags.{sameSort, width, inRange, payloadOf, typesOf, sortsOf, classOf};
-ghost use Rattle.tags.specs.TagCodes.{formCode, formAtCode, sortFor, firstSort, laterSort, layoutKind, lowOf, highOf, fixedOf, wordAt, formWords, blockWords, rowOf};
+ghost use Rattle.tags.specs.TagCodes.{formCode, formAtCode, sortFor, firstSort, laterSort, layoutKind, lowOf, highOf, fixedOf, wordAt, formWords};
 
 // By form, two bits: how many bytes the number takes that follows the tag; 3 stands for 8.
 const WIDTHS: usize = 0x5760015000;
@@ -70,38 +70,6 @@ pub fn form_of(tag: usize) -> usize
     ensures { λ r. ⌜ (r ≡ formCode (classOf tag)) × (r < 20) ⌝ }
 {
     (form_word(tag / 8) >> (5 * (tag % 8))) % 32
-}
-
-// Tags come in blocks of fifty, four of them to a word, 16 bits each: where the rows of a block begin, and in the high byte how
-// many it has.
-fn block_word(i: usize) -> usize
-    requires { ⌜ i < 5 ⌝ }
-    ensures { λ r. ⌜ r ≡ getD blockWords i 0 ⌝ }
-{
-    match i {
-        0 => 0x130d0600060600,
-        1 => 0x33a0832032f1c13,
-        2 => 0x4a004a004a0d3d,
-        3 => 0xf61025f005f154a,
-        _ => 0x27703740470,
-    }
-}
-
-// The row of a tag: its number among the tags of all blocks, from each block's first to its last that is listed. The first row
-// is that of no tag that is listed.
-pub fn row_of(tag: usize) -> usize
-    ensures { λ r. ⌜ (r ≡ rowOf tag) × (r < 121) ⌝ }
-{
-    let block = tag / 50;
-    if 20 <= block {
-        return 0;
-    }
-    let entry = (block_word(block / 4) >> (16 * (block % 4))) % 65536;
-    let offset = tag % 50;
-    if entry / 256 <= offset {
-        return 0;
-    }
-    entry % 256 + offset
 }
 
 // Whether the form is that of an expression where e, else that of a predicate.

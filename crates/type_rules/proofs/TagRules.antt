@@ -1,6 +1,6 @@
 -- The code's tables of typing rules say what `ruleAt` says, for every tag: by one computed test, and one law.
 -- Main results: tag-rule (the rule of a tag), rule-row (the four patterns of a rule), pair-packed .. result-packed
--- (their words), word-none and pattern-last (the last arms of `rule_word` and `pattern`).
+-- (their words), pattern-last (the last arm of `pattern`).
 use mathlib.Core.Path.{_≡_, refl, sym, ap, subst, _∙_}
 use mathlib.Core.Bool.{Bool, true, false, _&&_}
 use mathlib.Core.List.{List, [], _∷_}
@@ -69,35 +69,10 @@ use Rattle.frame.specs.Tags.{
 use Rattle.frame.proofs.Tables.{entry, NoneBelow, past-all}
 use Rattle.frame.proofs.EveryTag.{alongRows, every-tag, unlisted-past}
 use Rattle.frame.proofs.Booleans.{both-true}
+use Rattle.tags.specs.TagCodes.{wordAt}
+use Rattle.tags.proofs.TagTables.{word-past}
 use Rattle.type_rules.specs.Patterns.{Rule, ruleAt}
-use Rattle.type_rules.specs.RuleNumbers.{Word, word, wordAt, ruleNumber, ruleWords, rowWords, patternWords, lastPattern, packs, Packed, patternAt, RowOf}
-
--- ---- the words of the rules
--- a number at which no word stands, as the last arm of a match has it: one inequation for each word, behind what is known already
-abbrev NoneOf : Type 0 → ℕ → List Word → Type 0
-NoneOf P i [] = P
-NoneOf P i (word k w ∷ ws) = NoneOf (P × (i ≡ k → ⊥)) i ws
-
-no-word : (P : Type 0) (i : ℕ) (ws : List Word) → NoneOf P i ws → P × (wordAt ws i ≡ 0)
-no-word P i [] r = (r, refl)
-no-word P i (word k w ∷ ws) r =
-    let p = no-word (P × (i ≡ k → ⊥)) i ws r in
-    (p .0 .0, rw (ne-eqb i k (p .0 .1)) (p .1))
-
-pub word-none : (i : ℕ) → NoneOf (Unit {0}) i ruleWords → 0 ≡ wordAt ruleWords i
-word-none i r = sym (no-word (Unit {0}) i ruleWords r .1)
-
--- past the last word there is none
-abbrev within : ℕ → List Word → Bool
-within n [] = true
-within n (word k w ∷ ws) = ltb k n && within n ws
-
-word-past : (n : ℕ) (ws : List Word) → within n ws ≡ true → (i : ℕ) → n ≤ i → wordAt ws i ≡ 0
-word-past n [] e i h = refl
-word-past n (word k w ∷ ws) e i h =
-    let p = both-true (ltb k n) (within n ws) e in
-    let l = ltb-true k n (p .0) in
-    rw (ne-eqb i k (omega arith)) (word-past n ws (p .1) i h)
+use Rattle.type_rules.specs.RuleNumbers.{ruleNumber, ruleWords, rowWords, patternWords, lastPattern, packs, Packed, patternAt, RowOf}
 
 -- ---- the rule of a tag
 -- the rule that the code finds in its words

@@ -62,6 +62,7 @@ use Rattle.frame.specs.Tags.{
   comprehension,
   unlisted,
 }
+use Rattle.tags.specs.TagCodes.{Word, word}
 use Rattle.type_rules.specs.Patterns.{Rule}
 
 unfoldable pub ruleNumber : Class → ℕ
@@ -120,13 +121,6 @@ ruleNumber unlisted = 0
 
 -- ---- the tables, as the code has them: a table is a list of words, and an entry is a few bits of a word
 -- the rules of eight tags in a row, six bits each: which eight, and the word. An eight that is not among them has the word 0.
-pub data Word : Type 0 where
-  word : ℕ → ℕ → Word
-
-abbrev pub wordAt : List Word → ℕ → ℕ
-wordAt [] i = 0
-wordAt (word k w ∷ ws) i = pick (eqb i k) w (wordAt ws i)
-
 abbrev pub ruleWords : List Word
 ruleWords =
     word 0 19614138432 ∷ word 12 40140764348416 ∷ word 13 49146407457353 ∷ word 14 11 ∷ word 25 89357135463616 ∷

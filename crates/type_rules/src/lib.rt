@@ -5,8 +5,9 @@ ghost use mathlib.Core.Path.{_≡_};
 ghost use Prim.Native.Nat.{_<_};
 ghost use lib.ListN.{getD};
 ghost use Rattle.frame.specs.Tags.{classOf};
+ghost use Rattle.tags.specs.TagCodes.{wordAt};
 ghost use Rattle.type_rules.specs.Patterns.{ruleAt};
-ghost use Rattle.type_rules.specs.RuleNumbers.{ruleNumber, wordAt, ruleWords, rowWords, patternWords, lastPattern, RowOf};
+ghost use Rattle.type_rules.specs.RuleNumbers.{ruleNumber, ruleWords, rowWords, patternWords, lastPattern, RowOf};
 
 // The rules of eight tags in a row, six bits each; most eights have no tag that is listed, and the word 0.
 fn rule_word(i: usize) -> usize

@@ -1,4 +1,5 @@
-use Rattle.type_rules.proofs.TagRules.{word-none}
+use Rattle.tags.proofs.TagTables.{word-none}
+use Rattle.type_rules.specs.RuleNumbers.{ruleWords}
 use borrow.Author.Needs.{needs}
 use Rattle.type_rules.proofs.rule_word.Statement.{statement}
 use Rattle.type_rules.proofs.rule_word.Tie as tie
@@ -79,7 +80,7 @@ returns-25 : tie.Need-returns-25
 returns-25 c = rw (c .match .keys25)
 
 returns-26 : tie.Need-returns-26
-returns-26 c = word-none (c .before .args .i) (c .match .rest)
+returns-26 c = word-none (c .before .args .i) ruleWords (c .match .rest)
 
 pub rule-word-spec : {M : Type 1} → statement M
 rule-word-spec =
