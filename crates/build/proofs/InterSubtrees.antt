@@ -27,9 +27,9 @@ use Rattle.put.proofs.Puts.{puts-then, puts-as}
 use Rattle.templates.proofs.Joins.{plain-bytes, inter-bytes, union-bytes}
 use Rattle.decision.specs.Decision.{ApartMeans}
 use Rattle.decision.proofs.Shapes.{Counts, few-of, some-two, place-few}
-use Rattle.rows.specs.Rows.{CopyPost, rowOf, RowAt, RowPre, RowPost, MinusRowPost}
+use Rattle.build.specs.Rows.{CopyPost, rowOf, RowAt, RowPre, RowPost, MinusRowPost}
 use Rattle.build.specs.Subtree.{joinedBytes, BuildPre, BuildPost, OfApart, OfWithin}
-use Rattle.rows.specs.declared.Share.the-variants.{Besides, Minuend, Subtrahend}
+use Rattle.build.specs.declared.rows.Share.the-variants.{Besides, Minuend, Subtrahend}
 use Rattle.build.proofs.SubtreeTurns.{many-then, new-is}
 
 -- ---- an ∩ has from 2 to 255 operands

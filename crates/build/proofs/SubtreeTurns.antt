@@ -28,9 +28,9 @@ use Rattle.templates.proofs.Joins.{counted-bytes}
 use Rattle.decision.specs.Decision.{At, joint, eachFilled, EachMeans}
 use Rattle.decision.proofs.Shapes.{place-few}
 use Rattle.filling.specs.Operands.{FillAt, FillPre, FillPost}
-use Rattle.rows.specs.Rows.{KeptPre, KeptPost}
+use Rattle.build.specs.Rows.{KeptPre, KeptPost}
 use Rattle.build.specs.Subtree.{manyBytes, joinedBytes, BinderAt, FillRowPre, FillRowPost, BuildPre, BuildPost, OfEach, OfKept}
-use Rattle.rows.proofs.RowTurns.{split-row}
+use Rattle.build.proofs.RowTurns.{split-row}
 
 -- ---- a pattern for each child
 module _ (s : List ℕ) (n : ℕ) (st nx leaves : List ℕ) (pattern c m binder : ℕ) where

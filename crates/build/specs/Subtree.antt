@@ -16,7 +16,7 @@ use Rattle.put.specs.Out.{Puts}
 use Rattle.decision.specs.Decision.{Bound, eachFilled, EachMeans, KeptMeans, ApartMeans, WithinMeans, Means}
 use Rattle.decision.specs.declared.Decision.{Decision}
 use Rattle.filling.specs.Operands.{Held}
-use Rattle.rows.specs.Rows.{RowAt}
+use Rattle.build.specs.Rows.{RowAt}
 
 -- ---- heads of operators over a list
 abbrev pub manyBytes : ℕ → ℕ → List ℕ

@@ -1,4 +1,12 @@
 // The new subtree by the kind of the decision.
+pub mod rows; // rows.rt: subtrees of the frame, one after the other
+pub mod splicing; // splicing.rt: the new frame in the scratch buffer
+
+use crate::rows::Share;
+use crate::rows::copy_at;
+use crate::rows::count_minus;
+use crate::rows::put_kept;
+use crate::rows::put_row;
 use decision::Decision;
 use filling::fill;
 use nav::arity_at;
@@ -6,11 +14,6 @@ use nav::next_at;
 use nav::tag_at;
 use put::put_byte;
 use put::put_word;
-use rows::Share;
-use rows::copy_at;
-use rows::count_minus;
-use rows::put_kept;
-use rows::put_row;
 ghost use mathlib.Core.Path.{_≡_};
 ghost use Prim.Native.Nat.{_≤_, _<_};
 ghost use Rattle.put.specs.Out.{Puts};

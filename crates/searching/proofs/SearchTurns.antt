@@ -38,7 +38,7 @@ use Rattle.decision.specs.declared.Decision.the-variants as D
 use Rattle.filling.specs.Operands.{Held}
 use Rattle.step.specs.Step.{Stepped, isPredicate, stepTree}
 use Rattle.step.proofs.Steps.{step-predicate, step-expression}
-use Rattle.splicing.specs.SplicePosts.{Decided, SplicePre, SplicePost}
+use Rattle.build.specs.SplicePosts.{Decided, SplicePre, SplicePost}
 use Rattle.decision.proofs.Series.{changes}
 use Rattle.run.specs.Run.{next, nowhere, orNext, firstFrom, firstStep}
 use Rattle.searching.specs.SearchPosts.{AtPost, SearchPre, SearchPost, FirstPost}

@@ -1,12 +1,12 @@
 // The first place in prefix order where a rule applies, and the frame after a step there.
 use binding::binding_ok;
+use build::splicing::splice;
 use decision::Decision;
 use decision::contains::rests;
 use nav::is_expression_at;
 use nav::nexts;
 use reading::FrameAnswer;
 use rewriter::dispatch::decide;
-use splicing::splice;
 ghost use mathlib.Core.Path.{_≡_};
 ghost use lib.ListN.{length};
 ghost use Rattle.searching.specs.SearchPosts.{AtPre, AtPost, SearchPre, SearchPost, FirstPre, FirstPost};

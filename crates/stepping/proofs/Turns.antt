@@ -51,7 +51,7 @@ use Rattle.step.proofs.Steps.{step-predicate, step-expression}
 use Rattle.checking.specs.Posts.{TreePost}
 use Rattle.typing.specs.declared.CheckAnswer.{CheckAnswer}
 use Rattle.typing.specs.declared.CheckAnswer.the-variants as C
-use Rattle.splicing.specs.SplicePosts.{Decided, SplicePre, SplicePost}
+use Rattle.build.specs.SplicePosts.{Decided, SplicePre, SplicePost}
 use Rattle.output.specs.OutPosts.{OutPre, OutPost}
 use Rattle.checking.specs.Posts.{ReadPre as WasRead}
 use Rattle.typing.proofs.Answers.{accepted-is, refused-is}

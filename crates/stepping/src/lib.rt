@@ -10,8 +10,8 @@ ghost use mathlib.Core.Path.{_≡_};
 ghost use lib.ListN.{length};
 ghost use Rattle.step.specs.Step.{step as stepped, stepAnswer, stepOutput};
 ghost use Rattle.stepping.specs.Posts.{HeldPre, ReadPre, StepPost};
+use build::splicing::splice;
 use output::write_out;
-use splicing::splice;
 use typing::CheckAnswer;
 
 // The step at place k of an accepted frame with n nodes.

@@ -1,4 +1,4 @@
--- What the code of src/lib.rt asks and answers.
+-- What the code of src/rows.rt asks and answers.
 use mathlib.Core.Path.{_≡_}
 use mathlib.Core.List.{List, [], _++_}
 use Prim.Native.Nat.{ℕ, _+_, _-_, _≤_}
@@ -12,8 +12,8 @@ use Rattle.nav.specs.PlaceTables.{Table}
 use Rattle.rules.specs.EqualsEmptySet.{minusOf, minuend, withSubtrahend, subtrahends}
 use Rattle.put.specs.Out.{Puts}
 use Rattle.decision.specs.Decision.{At}
-use Rattle.rows.specs.declared.Share.{Share}
-use Rattle.rows.specs.declared.Share.the-variants.{Besides, Minuend, Subtrahend}
+use Rattle.build.specs.declared.rows.Share.{Share}
+use Rattle.build.specs.declared.rows.Share.the-variants.{Besides, Minuend, Subtrahend}
 
 pub record CopyPost (s : List ℕ) (n : ℕ) (st nx : List ℕ) (k : ℕ) (o : List ℕ) (at : ℕ) (p : List ℕ) (r : ℕ) : Type 0 where
   pub puts : (t : Tree) (Γ : Ctx) (v : Tree) → Table s t st nx n → find t [] k ≡ found Γ v → Puts o at p r (enc v)

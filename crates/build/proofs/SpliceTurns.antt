@@ -25,12 +25,12 @@ use Rattle.put.specs.Copied.{between}
 use Rattle.put.proofs.Puts.{wrote-none, between-front, between-back}
 use Rattle.decision.specs.declared.Decision.{Decision}
 use Rattle.filling.specs.Operands.{Held}
 use Rattle.build.specs.Subtree.{BuildPre, BuildPost, Formed, OfDecision}
 use Rattle.filling.proofs.Subtrees.{span-at}
 use Rattle.step.specs.Step.{wrote}
 use Rattle.step.proofs.Places.{accepted-at}
 use Rattle.step.proofs.Steps.{as-predicate}
-use Rattle.splicing.specs.SplicePosts.{Decided, SplicePre, SplicePost}
+use Rattle.build.specs.SplicePosts.{Decided, SplicePre, SplicePost}
 
 -- ---- `splice`
 -- what the rules build at a predicate of an accepted tree is well formed

@@ -1,4 +1,4 @@
--- The ways out of the functions of src/lib.rt.
+-- The ways out of the functions of src/rows.rt.
 -- Main results: copy-range, copy-done; the shares (besides-none .. subtrahend-none); row-none, row-first, row-rest, row-more; minus-none,
 -- minus-yes, minus-no; kept-none, kept-place, kept-rest, kept-more.
 use mathlib.Core.Path.{_≡_, refl, sym, ap, _∙_, subst}
@@ -21,9 +21,9 @@ use Rattle.put.specs.Copied.{between}
 use Rattle.put.proofs.Puts.{puts-nil, puts-then, puts-as, between-span}
 use Rattle.decision.specs.Decision.{At}
 use Rattle.decision.proofs.Shapes.{Double, double, place-few}
-use Rattle.rows.specs.Rows.{CopyPost, shareOf, rowOf, ShareOfPost, RowAt, RowPre, RowPost, MinusRowPost, KeptPre, KeptPost}
-use Rattle.rows.specs.declared.Share.{Share}
-use Rattle.rows.specs.declared.Share.the-variants.{Besides, Minuend, Subtrahend}
+use Rattle.build.specs.Rows.{CopyPost, shareOf, rowOf, ShareOfPost, RowAt, RowPre, RowPost, MinusRowPost, KeptPre, KeptPost}
+use Rattle.build.specs.declared.rows.Share.{Share}
+use Rattle.build.specs.declared.rows.Share.the-variants.{Besides, Minuend, Subtrahend}
 use Rattle.filling.proofs.Subtrees.{span-at}
 
 -- ---- a subtree

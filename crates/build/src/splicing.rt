@@ -1,10 +1,10 @@
 // The new frame in the scratch buffer: the old one with one subtree replaced.
-use build::build;
+use crate::build;
 use decision::Decision;
 use nav::end_at;
 use nav::start_at;
 use put::put_copy;
-ghost use Rattle.splicing.specs.SplicePosts.{SplicePre, SplicePost};
+ghost use Rattle.build.specs.SplicePosts.{SplicePre, SplicePost};
 
 // The frame's bytes with those of the decision's subtree in the place of the subtree at place k, in the scratch buffer. The
 // answer is how many they are; 4,097 if they don't fit.

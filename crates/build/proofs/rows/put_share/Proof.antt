@@ -1,6 +1,6 @@
 use Rattle.nav.proofs.PlaceTurns.{end-place}
 use mathlib.Core.List.{[]}
-use Rattle.rows.proofs.RowTurns.{
+use Rattle.build.proofs.RowTurns.{
   in-placed,
   besides-none,
   besides-some,
@@ -12,8 +12,8 @@ use Rattle.rows.proofs.RowTurns.{
   subtrahend-none,
 }
 use borrow.Author.Needs.{needs}
-use Rattle.rows.proofs.put_share.Statement.{statement}
-use Rattle.rows.proofs.put_share.Tie as tie
+use Rattle.build.proofs.rows.put_share.Statement.{statement}
+use Rattle.build.proofs.rows.put_share.Tie as tie
 
 enum-known-share : tie.Need-enum-known-share
 enum-known-share c = search needs

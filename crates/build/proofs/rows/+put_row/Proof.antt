@@ -1,16 +1,16 @@
 use Rattle.nav.proofs.PlaceTurns.{end-place}
-use Rattle.rows.proofs.RowTurns.{row-none, row-first, row-rest, row-more}
+use Rattle.build.proofs.RowTurns.{row-none, row-first, row-rest, row-more}
 use native.Mathlib.Omega.{arith}
 use Prim.Native.Nat.{ℕ, _<_}
 use borrow.Fn.Kinds.{In}
 use borrow.Fn.PlainCycle.{Measures, is, falls, and}
-use Rattle.rows.proofs.put_row.Reads as put-row
-use Rattle.rows.proofs.put_row.Kinds as put-row-kinds
-use Rattle.rows.proofs.+put_row.Lts-put_row as put-row-lts
-use Rattle.rows.proofs.put_share.Reads as put-share-reads
+use Rattle.build.proofs.rows.put_row.Reads as put-row
+use Rattle.build.proofs.rows.put_row.Kinds as put-row-kinds
+use Rattle.build.proofs.rows.+put_row.Lts-put_row as put-row-lts
+use Rattle.build.proofs.rows.put_share.Reads as put-share-reads
 use Rattle.nav.proofs.next_at.Reads as next-at-reads
-use Rattle.rows.proofs.+put_row.{statement}
-use Rattle.rows.proofs.+put_row.Tie.{close}
+use Rattle.build.proofs.rows.+put_row.{statement}
+use Rattle.build.proofs.rows.+put_row.Tie.{close}
 
 abbrev μ-put-row : Measures 4 put-row-kinds.ps ℕ
 μ-put-row κs a = a .1 .1 .1 .1 .1 .0

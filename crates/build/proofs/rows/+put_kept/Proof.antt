@@ -1,16 +1,16 @@
-use Rattle.rows.proofs.RowTurns.{kept-none, kept-place, kept-rest, kept-more}
+use Rattle.build.proofs.RowTurns.{kept-none, kept-place, kept-rest, kept-more}
 use Prim.Native.Nat.{_-_, _<_}
 use native.Mathlib.Omega.{arith}
 use Prim.Native.Nat.{ℕ}
 use borrow.Fn.Kinds.{In}
 use borrow.Fn.PlainCycle.{Measures, is, falls, and}
-use Rattle.rows.proofs.put_kept.Reads as put-kept
-use Rattle.rows.proofs.put_kept.Kinds as put-kept-kinds
-use Rattle.rows.proofs.+put_kept.Lts-put_kept as put-kept-lts
-use Rattle.rows.proofs.copy_at.Reads as copy-at-reads
+use Rattle.build.proofs.rows.put_kept.Reads as put-kept
+use Rattle.build.proofs.rows.put_kept.Kinds as put-kept-kinds
+use Rattle.build.proofs.rows.+put_kept.Lts-put_kept as put-kept-lts
+use Rattle.build.proofs.rows.copy_at.Reads as copy-at-reads
 use Rattle.octets.proofs.wide16.Reads as wide16-reads
-use Rattle.rows.proofs.+put_kept.{statement}
-use Rattle.rows.proofs.+put_kept.Tie.{close}
+use Rattle.build.proofs.rows.+put_kept.{statement}
+use Rattle.build.proofs.rows.+put_kept.Tie.{close}
 
 abbrev μ-put-kept : Measures 5 put-kept-kinds.ps ℕ
 μ-put-kept κs a = a .1 .1 .1 .1 .1 .1 .0 - a .1 .1 .1 .1 .1 .0

@@ -1,8 +1,8 @@
 use Rattle.nav.proofs.PlaceTurns.{end-place}
-use Rattle.rows.proofs.RowTurns.{copy-range, copy-done}
+use Rattle.build.proofs.RowTurns.{copy-range, copy-done}
 use borrow.Author.Needs.{needs}
-use Rattle.rows.proofs.copy_at.Statement.{statement}
-use Rattle.rows.proofs.copy_at.Tie as tie
+use Rattle.build.proofs.rows.copy_at.Statement.{statement}
+use Rattle.build.proofs.rows.copy_at.Tie as tie
 
 start-at-requires : tie.Need-start-at-requires
 start-at-requires c κs = end-place _ _ _ _ _ (c .before .pre)

@@ -6,7 +6,7 @@ use nav::tag_at;
 use octets::wide16;
 use put::put_copy;
 ghost use Rattle.nav.specs.PlaceTables.{PlacedIn};
-ghost use Rattle.rows.specs.Rows.{CopyPost, ShareOfPost, RowPre, RowPost, KeptPre, KeptPost, MinusRowPre, MinusRowPost};
+ghost use Rattle.build.specs.Rows.{CopyPost, ShareOfPost, RowPre, RowPost, KeptPre, KeptPost, MinusRowPre, MinusRowPost};
 
 // What of each child goes into a row.
 pub enum Share {

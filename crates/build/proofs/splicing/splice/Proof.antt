@@ -1,6 +1,6 @@
-use Rattle.splicing.proofs.SpliceTurns.{splice-few, splice-in, splice-build, splice-range, splice-rest, splice-done}
-use Rattle.splicing.proofs.splice.Statement.{statement}
-use Rattle.splicing.proofs.splice.Tie as tie
+use Rattle.build.proofs.SpliceTurns.{splice-few, splice-in, splice-build, splice-range, splice-rest, splice-done}
+use Rattle.build.proofs.splicing.splice.Statement.{statement}
+use Rattle.build.proofs.splicing.splice.Tie as tie
 
 start-at-requires : tie.Need-start-at-requires
 start-at-requires c κs = splice-few _ _ _ _ _ _ _ _ _ (c .before .pre)

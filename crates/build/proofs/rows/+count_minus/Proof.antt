@@ -1,16 +1,16 @@
 use Rattle.nav.proofs.PlaceTurns.{end-place}
-use Rattle.rows.proofs.RowTurns.{in-placed, row-first, row-rest, minus-none, minus-yes, minus-no}
+use Rattle.build.proofs.RowTurns.{in-placed, row-first, row-rest, minus-none, minus-yes, minus-no}
 use native.Mathlib.Omega.{arith}
 use Prim.Native.Nat.{ℕ, _<_}
 use borrow.Fn.Kinds.{In}
 use borrow.Fn.PlainCycle.{Measures, is, falls, and}
-use Rattle.rows.proofs.count_minus.Reads as count-minus
-use Rattle.rows.proofs.count_minus.Kinds as count-minus-kinds
-use Rattle.rows.proofs.+count_minus.Lts-count_minus as count-minus-lts
+use Rattle.build.proofs.rows.count_minus.Reads as count-minus
+use Rattle.build.proofs.rows.count_minus.Kinds as count-minus-kinds
+use Rattle.build.proofs.rows.+count_minus.Lts-count_minus as count-minus-lts
 use Rattle.nav.proofs.next_at.Reads as next-at-reads
 use Rattle.nav.proofs.tag_at.Reads as tag-at-reads
-use Rattle.rows.proofs.+count_minus.{statement}
-use Rattle.rows.proofs.+count_minus.Tie.{close}
+use Rattle.build.proofs.rows.+count_minus.{statement}
+use Rattle.build.proofs.rows.+count_minus.Tie.{close}
 
 abbrev μ-count-minus : Measures 3 count-minus-kinds.ps ℕ
 μ-count-minus κs a = a .1 .1 .1 .1 .1 .0
