@@ -17,65 +17,25 @@ use Rattle.typing.specs.Check.{accepted, check, checkAnswer}
 use Rattle.type_bytes.specs.Buffers.{Copied}
 use Rattle.typing.specs.Signature.{signature}
 use Rattle.typing.proofs.Checked.{check-accepts, check-back}
-use Rattle.put.specs.Out.{Wrote}
-use Rattle.put.proofs.Puts.{wrote-held, wrote-full}
 use Rattle.step.proofs.Steps.{step-accepted}
 use Rattle.output.proofs.OutTurns.{copied-front}
 use Rattle.typing.specs.declared.CheckAnswer.{CheckAnswer}
 use Rattle.typing.specs.declared.CheckAnswer.the-variants as C
 use Rattle.typing.proofs.Answers.{accepted-is, refused-is}
-use Rattle.run.specs.Run.{
-  First,
-  next,
-  nowhere,
-  firstStep,
-  Word,
-  REST,
-  SPENT,
-  FULL,
-  ran,
-  atEnd,
-  goOn,
-  runTree,
-  RunOutcome,
-  ended,
-  turnedDown,
-  endedBy,
-  runOn,
-  run,
-  wordAnswer,
-  runAnswer,
-  runOutput,
-}
+use Rattle.run.specs.Run.{next, firstStep, runTree, RunOutcome, ended, turnedDown, endedBy, runOn, run, wordAnswer, runAnswer, runOutput}
 use Rattle.run.proofs.Runs.{first-step}
+use Rattle.run.specs.declared.RunAnswer.{RunAnswer}
 use Rattle.run.specs.declared.RunAnswer.the-variants as A
-use Rattle.searching.specs.SearchPosts.{Gives, FirstPre, FirstPost}
+use Rattle.turn.specs.TurnPosts.{TurnPre, GoesOn, Follows, TurnPost}
+use Rattle.turn.specs.declared.Next.{Next}
+use Rattle.turn.specs.declared.Turned.{Turned}
+use Rattle.turn.specs.declared.Turned.the-variants as T
+use Rattle.searching.specs.SearchPosts.{FirstPre, FirstPost}
 use Rattle.running.specs.Posts.{RoundsPre, RunEnded, RoundsPost, CheckedPre, RunPost}
-use Rattle.searching.specs.declared.Next.{Next}
-use Rattle.searching.specs.declared.Next.the-variants as N
 use Rattle.running.specs.declared.Ended.{Ended}
 
 -- ---- `rounds`
--- one step in the run of a tree
-spent-run : (u w : Tree) (n : ℕ) → firstStep u ≡ next w → runTree 0 n u ≡ ran SPENT n u
-unfolding runTree
-spent-run u w n e = ap (λ (f : First). atEnd f n u) e
-
-rest-run : (b : ℕ) (u : Tree) (n : ℕ) → firstStep u ≡ nowhere → runTree b n u ≡ ran REST n u
-unfolding runTree
-rest-run zero u n e = ap (λ (f : First). atEnd f n u) e
-rest-run (suc b) u n e = ap (λ (f : First). goOn f n u (runTree b (n + 1))) e
-
-full-run : (b : ℕ) (u w : Tree) (n : ℕ) → firstStep u ≡ next w → 4096 < length (enc w) → runTree (suc b) n u ≡ ran FULL n u
-unfolding runTree
-full-run b u w n e h = ap (λ (f : First). goOn f n u (runTree b (n + 1))) e ∙ ap (λ (x : Bool). pick x (ran FULL n u) (runTree b (n + 1) w))
-    (lt-ltb 4096 (length (enc w)) h)
-
-on-run : (b : ℕ) (u w : Tree) (n : ℕ) → firstStep u ≡ next w → length (enc w) ≤ 4096 → runTree (suc b) n u ≡ runTree b (n + 1) w
-unfolding runTree
-on-run b u w n e h = ap (λ (f : First). goOn f n u (runTree b (n + 1))) e ∙ ap (λ (x : Bool). pick x (ran FULL n u) (runTree b (n + 1) w))
-    (le-ltb 4096 (length (enc w)) h)
-
+-- the first n bytes of bytes
 take-short : (n : ℕ) (l : List ℕ) → length (take n l) ≤ n
 take-short zero l = omega arith
 take-short (suc n) [] = omega arith
@@ -114,86 +74,66 @@ module _ (held₀ : List ℕ) (start budget : ℕ) where
     pub going-first : FirstPre (take n held) scratch
     going-first = let x = g .goes (p .t) (p .checks) in record { t = x .0; checks = x .1 .0; room = g .scratch-long }
 
-    module _ (bytes : Bytes held) where
-      -- the frame that is held, as a tree's bytes
-      held-bytes : (u : Tree) → check (take n held) ≡ accepted u → (enc u ≡ take n held) × (n ≡ length (enc u))
-      held-bytes u e =
-          let a = check-accepts (take n held) (bytes-take n held bytes) u e .bytes in
-          (a, sym (ap length a ∙ length-take-le n held (omega (arith, g .fits, g .long))))
+    -- the frame that is held, as a tree's bytes
+    held-bytes : Bytes held → (u : Tree) → check (take n held) ≡ accepted u → (enc u ≡ take n held) × (n ≡ length (enc u))
+    held-bytes bytes u e =
+        let a = check-accepts (take n held) (bytes-take n held bytes) u e .bytes in
+        (a, sym (ap length a ∙ length-take-le n held (omega (arith, g .fits, g .long))))
 
-      -- the run has ended here
-      ends : (w : Word) → ((u : Tree) → check (take n held) ≡ accepted u → runTree left count u ≡ ran w count u) → (r : Ended)
-          → r .answer ≡ wordAnswer w count n → r .length ≡ n → RoundsPost held₀ start budget held r
-      ends w h r ea el =
-          record {
-            ends = λ t e.
-                (let x = g .goes t e in
-                let u = x .0 in
-                let b = held-bytes u (x .1 .0) in
-                record {
-                  word = w;
-                  count = count;
-                  last = u;
-                  ended = x .1 .1 ∙ h u (x .1 .0);
-                  answer = ea ∙ ap (wordAnswer w count) (b .1);
-                  length-is = el ∙ b .1;
-                  bytes = ap (λ (i : ℕ). take i held) el ∙ sym (b .0);
-                  fits = omega (arith, g .fits);
-                });
-            long = g .long;
-          }
+    module _ (q : List ℕ) (x : Next) (pf : FirstPost (take n held) q x) where
+      pub going-turn : budget < 4294967296 → TurnPre q left count held
+      going-turn b = record { room = pf .room; long = g .long; sum = omega (arith, g .sum) }
 
-      pub going-rests : (q : List ℕ) (x : Next) → FirstPost (take n held) q x → x ≡ N.Rests → (r : Ended) → r .answer ≡ A.Rest count n
-          → r .length ≡ n → RoundsPost held₀ start budget held r
-      going-rests q x pf e r ea el = ends REST (λ u c. rest-run left u count (gives-none u c)) r ea el
-        where
-          gives-none : (u : Tree) → check (take n held) ≡ accepted u → firstStep u ≡ nowhere
-          gives-none u c = subst (λ (y : Next). Gives y q (firstStep u)) e (pf .gives u c)
+      module _ (held' : List ℕ) (r : Turned) (pt : TurnPost x q n left count held held' r) where
+        -- what follows, at the answer that was matched
+        at : (y : Turned) → r ≡ y → (u : Tree) → check (take n held) ≡ accepted u → Follows u n left count held held' y
+        at y e u c = subst (Follows u n left count held held') e (pt .follows u (pf .gives u c))
 
-      module _ (q : List ℕ) (x : Next) (pf : FirstPost (take n held) q x) (m : ℕ) (e : x ≡ N.Writes m) where
-        writes : (u : Tree) → check (take n held) ≡ accepted u → (w : Tree) × (firstStep u ≡ next w) × Wrote q m (enc w)
-        writes u c = subst (λ (y : Next). Gives y q (firstStep u)) e (pf .gives u c)
+        pub going-ends : Bytes held → (a : RunAnswer) → r ≡ T.Ends a → RoundsPost held₀ start budget held' (record { answer = a; length = n })
+        going-ends bytes a e =
+            record {
+              ends = λ t c.
+                  (let y = g .goes t c in
+                  let u = y .0 in
+                  let b = held-bytes bytes u (y .1 .0) in
+                  let z = at (T.Ends a) e u (y .1 .0) in
+                  record {
+                    word = z .word;
+                    count = count;
+                    last = u;
+                    ended = y .1 .1 ∙ z .ended;
+                    answer = z .answer ∙ ap (wordAnswer (z .word) count) (b .1);
+                    length-is = b .1;
+                    bytes = ap (take n) (z .kept) ∙ sym (b .0);
+                    fits = g .fits;
+                  });
+              long = pt .long;
+            }
 
-        pub going-spent : left ≡ 0 → (r : Ended) → r .answer ≡ A.Spent count n → r .length ≡ n → RoundsPost held₀ start budget held r
-        going-spent z r ea el =
-            ends SPENT (λ u c. (let w = writes u c in ap (λ (i : ℕ). runTree i count u) z ∙ spent-run u (w .0) count (w .1))) r ea el
+        module _ (m l c : ℕ) (e : r ≡ T.On m l c) where
+          here : GoesOn (g .goes (p .t) (p .checks) .0) left count held' m l c
+          here = let y = g .goes (p .t) (p .checks) in at (T.On m l c) e (y .0) (y .1 .0)
 
-        module _ (some : left ≡ 0 → ⊥) where
-          less : left ≡ suc (left - 1)
-          less = omega (arith, some)
+          pub going-less : l < left
+          going-less = omega (arith, here .less)
 
-          pub going-full : 4096 < m → (r : Ended) → r .answer ≡ A.Full count n → r .length ≡ n → RoundsPost held₀ start budget held r
-          going-full h r ea el =
-              ends FULL (λ u c. (let w = writes u c in ap (λ (i : ℕ). runTree i count u) less ∙ full-run (left - 1) u (w .0) count (w .1)
-              (wrote-full q m (enc (w .0)) (w .2) h))) r ea el
-
-          module _ (h : m ≤ 4096) where
-            pub going-copy : (0 ≤ m) × (m ≤ length q) × (0 + (m - 0) ≤ length held)
-            going-copy = (omega arith, omega (arith, pf .room), omega (arith, g .long))
-
-            pub going-on : (held' : List ℕ) → Copied q 0 (m - 0) held held' 0 → Going held' q m (left - 1) (count + 1)
-            going-on held' c =
-                record {
-                  goes = λ t a.
-                      (let y = g .goes t a in
-                      let u = y .0 in
-                      let w = writes u (y .1 .0) in
-                      let v = wrote-held q m (enc (w .0)) (w .2) h in
-                      let l : length (enc (w .0)) ≤ 4096 = omega (arith, v .0) in
-                      let o = copied-front q m held held' (enc (w .0)) c (v .0) (v .1) (omega (arith, g .long)) in
-                      let front : take m held' ≡ enc (w .0) = ap (take m) o ∙ take-at (enc (w .0)) (drop (length (enc (w .0))) held) m (sym (v .0)) in (
-                        w .0,
-                        (
-                          ap check front ∙ next-checks (take n held) (bytes-take n held bytes) u (w .0) (y .1 .0) (w .1) l,
-                          y .1 .1 ∙ ap
-                              (λ (i : ℕ). runTree i count u) less ∙ on-run (left - 1) u (w .0) count (w .1) l,
-                        ),
-                      ));
-                  fits = h;
-                  long = c .long ∙ g .long;
-                  scratch-long = pf .room;
-                  sum = omega (arith, g .sum, some);
-                }
+          pub going-on : Bytes held → Going held' q m l c
+          going-on bytes =
+              record {
+                goes = λ t a.
+                    (let y = g .goes t a in
+                    let u = y .0 in
+                    let z = at (T.On m l c) e u (y .1 .0) in
+                    let w = z .after in
+                    let k : length (enc w) ≤ 4096 = omega (arith, ap length (z .bytes), take-short m held', z .fits) in (
+                      w,
+                      (ap check (z .bytes) ∙ next-checks (take n held) (bytes-take n held bytes) u w (y .1 .0) (z .step) k, y .1 .1 ∙ z .same),
+                    ));
+                fits = here .fits;
+                long = pt .long;
+                scratch-long = pf .room;
+                sum = omega (arith, g .sum, here .less, here .more);
+              }
 
 -- ---- `run_checked`
 module _ (s : List ℕ) (b : Bytes s) (budget : ℕ) (o : List ℕ) (p : CheckedPre s o) where

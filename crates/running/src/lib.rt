@@ -7,8 +7,9 @@ ghost use mathlib.Core.Path.{_≡_};
 ghost use lib.ListN.{length};
 ghost use Rattle.run.specs.Run.{run as ran, runAnswer, runOutput};
 ghost use Rattle.running.specs.Posts.{RoundsPre, RoundsPost, CheckedPre, RunPost};
-use searching::Next;
 use searching::first_step;
+use turn::Turned;
+use turn::turn;
 use typing::CheckAnswer;
 
 // How a run ended: what it answers, and the length of the last frame.
@@ -30,30 +31,18 @@ fn rounds(held: &mut [u8], start: usize, budget: u32) -> Ended
     let mut count: u32 = 0;
     loop {
         let next = first_step(&held[..n], &mut leaves, &mut table, &mut scratch);
-        match next {
-            Next::Rests => {
+        let turned = turn(next, &scratch, n, left, count, held);
+        match turned {
+            Turned::Ends(a) => {
                 return Ended {
-                    answer: RunAnswer::Rest(count, n),
+                    answer: a,
                     length: n,
                 };
             }
-            Next::Writes(m) => {
-                if left == 0 {
-                    return Ended {
-                        answer: RunAnswer::Spent(count, n),
-                        length: n,
-                    };
-                }
-                if FRAME_LIMIT < m {
-                    return Ended {
-                        answer: RunAnswer::Full(count, n),
-                        length: n,
-                    };
-                }
-                copy_in(&scratch, 0, m, held, 0);
+            Turned::On(m, rest, made) => {
                 n = m;
-                left -= 1;
-                count += 1;
+                left = rest;
+                count = made;
             }
         }
     }

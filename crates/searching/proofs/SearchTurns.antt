@@ -42,8 +42,8 @@ use Rattle.build.specs.SplicePosts.{Decided, SplicePre, SplicePost}
 use Rattle.decision.proofs.Series.{changes}
 use Rattle.run.specs.Run.{next, nowhere, orNext, firstFrom, firstStep}
 use Rattle.searching.specs.SearchPosts.{AtPost, SearchPre, SearchPost, FirstPost}
-use Rattle.searching.specs.declared.Next.{Next}
-use Rattle.searching.specs.declared.Next.the-variants as N
+use Rattle.turn.specs.declared.Next.{Next}
+use Rattle.turn.specs.declared.Next.the-variants as N
 
 -- ---- `decide_at`
 module _ (s st nx : List ℕ) (k : ℕ) (b : Bool) (pb : SortPost s st k b) where

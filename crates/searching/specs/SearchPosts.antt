@@ -5,21 +5,19 @@ use mathlib.Core.List.{List, []}
 use Prim.Native.Nat.{ℕ}
 use lib.ListN.{length}
 use Rattle.frame.specs.Trees.{Tree}
-use Rattle.frame.specs.Encoding.{enc}
 use Rattle.frame.specs.Places.{Ctx, found, find}
 use Rattle.typing.specs.Check.{accepted, check}
 use Rattle.nav.specs.PlaceTables.{Table}
 use Rattle.rules.specs.Dispatch.{dispatch}
-use Rattle.put.specs.Out.{Wrote}
 use Rattle.decision.specs.Decision.{Means}
 use Rattle.decision.specs.Dispatching.{DispatchPre}
 use Rattle.decision.specs.declared.Decision.{Decision}
 use Rattle.decision.specs.declared.Decision.the-variants as D
 use Rattle.filling.specs.Operands.{Held}
 use Rattle.step.specs.Step.{isPredicate}
-use Rattle.run.specs.Run.{First, next, nowhere, firstStep}
-use Rattle.searching.specs.declared.Next.{Next}
-use Rattle.searching.specs.declared.Next.the-variants as N
+use Rattle.run.specs.Run.{firstStep}
+use Rattle.turn.specs.TurnPosts.{Gives}
+use Rattle.turn.specs.declared.Next.{Next}
 
 -- ---- what the rules decide at a place: nothing at an expression
 abbrev pub AtPre : List ℕ → List ℕ → List ℕ → ℕ → List ℕ → Type 0
@@ -32,11 +30,6 @@ pub record AtPost (s st nx : List ℕ) (k : ℕ) (lent : List ℕ) (r : Decision
   pub rests : (t : Tree) (n : ℕ) (Γ : Ctx) (v : Tree) → Table s t st nx n → find t [] k ≡ found Γ v → isPredicate v ≡ false → r ≡ D.Rests
 
 -- ---- the first step
--- the answer says what `firstStep` gives; the new frame's bytes are in the scratch buffer
-abbrev pub Gives : Next → List ℕ → First → Type 0
-Gives N.Rests scratch f = f ≡ nowhere
-Gives (N.Writes m) scratch f = (u : Tree) × (f ≡ next u) × Wrote scratch m (enc u)
-
 pub record SearchPre (s : List ℕ) (n : ℕ) (st nx leaves scratch : List ℕ) : Type 0 where
   pub t : Tree
   pub table : Table s t st nx n

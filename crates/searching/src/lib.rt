@@ -7,15 +7,10 @@ use nav::is_expression_at;
 use nav::nexts;
 use reading::FrameAnswer;
 use rewriter::dispatch::decide;
+use turn::Next;
 ghost use mathlib.Core.Path.{_≡_};
 ghost use lib.ListN.{length};
 ghost use Rattle.searching.specs.SearchPosts.{AtPre, AtPost, SearchPre, SearchPost, FirstPre, FirstPost};
-
-// The first step of a frame: there is none, or the new frame's bytes are in the scratch buffer, so many (4,097: too many).
-pub enum Next {
-    Rests,
-    Writes(usize),
-}
 
 // What the rules decide at place k; at an expression, nothing.
 fn decide_at(

@@ -1,6 +1,6 @@
 use lib.Seq.{length-take-le}
 use borrow.Author.Needs.{needs}
-use Rattle.running.proofs.Turns.{Going, going-starts, going-first, going-rests, going-spent, going-full, going-copy, going-on}
+use Rattle.running.proofs.Turns.{Going, going-starts, going-first, going-turn, going-ends, going-less, going-on}
 use Rattle.frame.specs.Spans.{Bytes}
 use native.Mathlib.Omega.{arith}
 use lib.ListN.{length}
@@ -30,93 +30,51 @@ first-step-requires c κs =
     let l = c .before .before .before .before .loop .inv in
     (going-first _ _ _ (c .before .before .before .before .before .before .pre) _ _ _ _ _ (l .0), l .2, l .3)
 
-enum-told : tie.Need-enum-told Inv-loop μ-loop
-enum-told c = search needs
+turn-requires : tie.Need-turn-requires Inv-loop μ-loop
+turn-requires c κs =
+    let c₁ = c .before .before in
+    let c₂ = c₁ .before .before .before .before .before in
+    let c₃ = c₂ .before .before in
+    going-turn _ _ _ (c₃ .pre) _ _ _ _ _ (c₂ .loop .inv .0) _ _ (c₁ .first-step .ensures .0) (let z = c₃ .fits .budget in omega arith)
+
+enum-known-turned : tie.Need-enum-known-turned Inv-loop μ-loop
+enum-known-turned c = search needs
 
 same-length : tie.Need-same-length Inv-loop μ-loop
 same-length c =
-    let c₁ = c .before .before .before .before .before .before .before in
-    let c₂ = c₁ .before .before in
-    c₁ .loop .inv .0 .long ∙ sym (c₂ .pre .long)
+    let c₁ = c .before .before .before .before .before in
+    let c₂ = c₁ .before .before .before .before .before .before .before .before .before .before in
+    c₁ .turn .ensures .long ∙ sym (c₂ .pre .long)
 
 returns : tie.Need-returns Inv-loop μ-loop
 returns c =
-    let c₁ = c .before .before .before .before .before .before .before in
-    let c₂ = c₁ .before .before in
-    going-rests _ _ _ (c₂ .pre) _ _ _ _ _ (c₁ .loop .inv .0) (c₁ .loop .inv .1) _ _ (c .before .before .first-step .ensures .0)
-    (c .enum-told .given .1) _ refl refl
-
-enum-known-next : tie.Need-enum-known-next Inv-loop μ-loop
-enum-known-next c = search needs
-
-same-length-2 : tie.Need-same-length-2 Inv-loop μ-loop
-same-length-2 c =
-    let c₁ = c .before .before .before .before .before .before .before .before .before in
-    let c₂ = c₁ .before .before in
-    c₁ .loop .inv .0 .long ∙ sym (c₂ .pre .long)
-
-returns-2 : tie.Need-returns-2 Inv-loop μ-loop
-returns-2 c =
-    let c₁ = c .before .before .before .before in
-    let c₂ = c₁ .before .before .before .before .before in
-    let c₃ = c₂ .before .before in
-    going-spent _ _ _ (c₃ .pre) _ _ _ _ _ (c₂ .loop .inv .0) (c₂ .loop .inv .1) _ _ (c₁ .first-step .ensures .0) _
-    (c .before .before .next .given .1) (c .if1 .taken) _ refl refl
-
-same-length-3 : tie.Need-same-length-3 Inv-loop μ-loop
-same-length-3 c =
-    let c₁ = c .before .before .before .before .before .before .before .before .before .before in
-    let c₂ = c₁ .before .before in
-    c₁ .loop .inv .0 .long ∙ sym (c₂ .pre .long)
-
-returns-3 : tie.Need-returns-3 Inv-loop μ-loop
-returns-3 c =
-    let c₁ = c .before .before .before in
-    let c₂ = c₁ .before .before in
+    let c₁ = c .before .before .before .before .before in
+    let c₂ = c₁ .before .before .before in
     let c₃ = c₂ .before .before .before .before .before in
     let c₄ = c₃ .before .before in
-    going-full _ _ _ (c₄ .pre) _ _ _ _ _ (c₃ .loop .inv .0) (c₃ .loop .inv .1) _ _ (c₂ .first-step .ensures .0) _ (c₁ .next .given .1)
-    (c .before .if1 .left) (c .if2 .taken) _ refl refl
+    going-ends _ _ _ (c₄ .pre) _ _ _ _ _ (c₃ .loop .inv .0) _ _ (c₂ .first-step .ensures .0) _ _ (c₁ .turn .ensures) (c₃ .loop .inv .1) _ (c .before .turned .given .1)
 
-slice-aggregate-copy-in : tie.Need-slice-aggregate-copy-in Inv-loop μ-loop
-slice-aggregate-copy-in c = search needs
-
-copy-in-requires : tie.Need-copy-in-requires Inv-loop μ-loop
-copy-in-requires c κs =
-    let c₁ = c .before .before .before in
-    let c₂ = c₁ .before .before in
-    let c₃ = c₂ .before .before in
-    let c₄ = c₃ .before .before .before .before .before in
-    let c₅ = c₄ .before .before in
-    going-copy _ _ _ (c₅ .pre) _ _ _ _ _ (c₄ .loop .inv .0) (c₄ .loop .inv .1) _ _ (c₃ .first-step .ensures .0) _ (c₂ .next .given .1)
-    (c₁ .if1 .left) (c .before .before .if2 .left)
-
-sub-left : tie.Need-sub-left Inv-loop μ-loop
-sub-left c = let z = c .before .before .before .before .before .before .if1 .left in omega arith
-
-add-count : tie.Need-add-count Inv-loop μ-loop
-add-count c =
-    let c₁ = c .before .before .before .before .before .before in
-    let c₂ = c₁ .before .before .before .before .before .before .before .before .before in
-    let c₃ = c₂ .before .before in
-    let z = c₁ .if1 .left in let y = c₂ .loop .inv .0 .sum in let w = c₃ .fits .budget in omega arith
+enum-known-turned-2 : tie.Need-enum-known-turned-2 Inv-loop μ-loop
+enum-known-turned-2 c = search needs
 
 loop-less : tie.Need-loop-less Inv-loop μ-loop
-loop-less c = let z = c .before .before .before .before .before .before .if1 .left in omega arith
+loop-less c =
+    let c₁ = c .before .before .before .before .before in
+    let c₂ = c₁ .before .before .before in
+    let c₃ = c₂ .before .before .before .before .before in
+    let c₄ = c₃ .before .before in
+    going-less _ _ _ (c₄ .pre) _ _ _ _ _ (c₃ .loop .inv .0) _ _ (c₂ .first-step .ensures .0) _ _ (c₁ .turn .ensures) _ _ _ (c .before .turned2 .given .1)
 
 loop-again : tie.Need-loop-again Inv-loop μ-loop
 loop-again c =
     let c₁ = c .before .before .before .before .before in
-    let c₂ = c₁ .before in
-    let c₃ = c₂ .before .before in
-    let c₄ = c₃ .before .before in
-    let c₅ = c₄ .before .before .before .before .before in
-    let c₆ = c₅ .before .before in (
-      going-on _ _ _ (c₆ .pre) _ _ _ _ _ (c₅ .loop .inv .0) (c₅ .loop .inv .1) _ _ (c₄ .first-step .ensures .0) _ (c₃ .next .given .1)
-          (c₂ .if1 .left) (c₁ .if2 .left) _ (c .before .before .copy-in .ensures),
-      λ i. c .slice-known2 .given i .fits,
-      c₄ .first-step .ensures .1,
-      c₄ .first-step .ensures .2,
+    let c₂ = c₁ .before .before .before in
+    let c₃ = c₂ .before .before .before .before .before in
+    let c₄ = c₃ .before .before in (
+      going-on _ _ _ (c₄ .pre) _ _ _ _ _ (c₃ .loop .inv .0) _ _ (c₂ .first-step .ensures .0) _ _ (c₁ .turn .ensures) _ _ _ (c .before .turned2 .given .1) (c₃ .loop .inv .1),
+      λ i. c .before .before .before .slice-known2 .given i .fits,
+      c₂ .first-step .ensures .1,
+      c₂ .first-step .ensures .2,
     )
 
 pub rounds-spec : {M : Type 1} → statement M
@@ -129,17 +87,10 @@ rounds-spec =
     slice-reshare-prefix-first-step
     slice-aggregate-first-step
     first-step-requires
-    enum-told
+    turn-requires
+    enum-known-turned
     same-length
     returns
-    enum-known-next
-    same-length-2
-    returns-2
-    same-length-3
-    returns-3
-    slice-aggregate-copy-in
-    copy-in-requires
-    sub-left
-    add-count
+    enum-known-turned-2
     loop-less
     loop-again)
