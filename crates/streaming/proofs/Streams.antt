@@ -17,7 +17,7 @@ use Rattle.lines.specs.declared.LineState.{LineState}
 use Rattle.lines.proofs.LineTurns.{count-said}
 use Rattle.program.specs.Text.{newline, lineText}
 use Rattle.program.specs.Stream.{wholeOf, inPieces, answersAt, answers, lastLineAt, lastLine, lastAnswer, simplified}
-use Rattle.answers.specs.Posts.{longest, Holds, LinePost}
+use Rattle.streaming.specs.AnswerPosts.{longest, Holds, LinePost}
 use Rattle.streaming.specs.StreamPosts.{NoEnd, EndPost, Fed, FinishPost}
 use Rattle.printing.proofs.Writes.{appends-none, appends-then, appends-as}
 

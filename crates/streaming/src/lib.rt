@@ -1,5 +1,7 @@
 // The input in pieces of any size: the lines that end in a piece, and the line that goes on after it.
-use answers::put_line;
+mod answers; // answers.rt: a line and its answer
+
+use crate::answers::put_line;
 use lines::LineState;
 use lines::line_piece;
 use lines::line_start;

@@ -1,6 +1,6 @@
 use denote.Ref.{now}
 use Rattle.streaming.proofs.Streams.{fed-start, fed-part, fed-end}
-use Rattle.answers.specs.Posts.{longest}
+use Rattle.streaming.specs.AnswerPosts.{longest}
 use Rattle.streaming.specs.StreamPosts.{Fed}
 use native.Mathlib.Omega.{arith}
 use lib.ListN.{length, take}

@@ -7,7 +7,7 @@ use printing::put_refused;
 use run::RunAnswer;
 ghost use Prim.Native.Nat.{_+_, _≤_};
 ghost use lib.ListN.{length};
-ghost use Rattle.answers.specs.Posts.{longest, AnswerPre, AnswerPost, FramePost, HeldPost, LinePost};
+ghost use Rattle.streaming.specs.AnswerPosts.{longest, AnswerPre, AnswerPost, FramePost, HeldPost, LinePost};
 
 // Every line is run with this budget.
 const BUDGET: u32 = 65535;

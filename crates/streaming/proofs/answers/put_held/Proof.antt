@@ -1,9 +1,9 @@
 use lib.Seq.{length-take-le}
 use mathlib.Core.Path.{sym}
-use Rattle.answers.proofs.LineTexts.{held-none, held-frame}
+use Rattle.streaming.proofs.LineTexts.{held-none, held-frame}
 use borrow.Author.Needs.{needs}
-use Rattle.answers.proofs.put_held.Statement.{statement}
-use Rattle.answers.proofs.put_held.Tie as tie
+use Rattle.streaming.proofs.answers.put_held.Statement.{statement}
+use Rattle.streaming.proofs.answers.put_held.Tie as tie
 
 returns : tie.Need-returns
 returns c = held-none _ _ _ _ (c .if1 .taken)

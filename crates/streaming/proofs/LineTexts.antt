@@ -1,4 +1,4 @@
--- Answers of runs and of lines, on plain values: the ways out of src/lib.rt.
+-- Answers of runs and of lines, on plain values: the ways out of src/answers.rt.
 -- Main results: ended-fits, ended-room, ended-post (a run that ended, for any of the three words); refused-room, refused-post; run-answers, run-post;
 -- held-none, held-frame; line-refused,
 -- line-frame (a line by what reading it answers).
@@ -28,7 +28,7 @@ use Rattle.run.specs.declared.RunAnswer.the-variants.{Refused}
 use Rattle.run.proofs.Sizes.{run-small}
 use Rattle.program.specs.Text.{budget, lent, wordText, endedText, refusedText, answerText, lineOutcome, lineText}
 use Rattle.printing.specs.PrintPosts.{Appends}
-use Rattle.answers.specs.Posts.{longest, Small, Answers, AnswerPre, AnswerPost, FramePost, HeldPost, LinePost}
+use Rattle.streaming.specs.AnswerPosts.{longest, Small, Answers, AnswerPre, AnswerPost, FramePost, HeldPost, LinePost}
 use Rattle.printing.proofs.Writes.{appends-as, ended-length, refused-length, digits-3, digits-5}
 
 -- ---- an answer and the outcome that it is the answer of

@@ -1,9 +1,9 @@
 use lib.ListN.{replicate}
-use Rattle.answers.proofs.LineTexts.{run-answers, run-post}
+use Rattle.streaming.proofs.LineTexts.{run-answers, run-post}
 use mathlib.Core.Path.{refl}
 use borrow.Author.Needs.{needs}
-use Rattle.answers.proofs.put_run.Statement.{statement}
-use Rattle.answers.proofs.put_run.Tie as tie
+use Rattle.streaming.proofs.answers.put_run.Statement.{statement}
+use Rattle.streaming.proofs.answers.put_run.Tie as tie
 
 slice-aggregate-run : tie.Need-slice-aggregate-run
 slice-aggregate-run c = search needs

@@ -1,8 +1,8 @@
-use Rattle.answers.proofs.LineTexts.{refused-room, line-refused, line-frame}
+use Rattle.streaming.proofs.LineTexts.{refused-room, line-refused, line-frame}
 use native.Mathlib.Omega.{arith}
 use borrow.Author.Needs.{needs}
-use Rattle.answers.proofs.put_line.Statement.{statement}
-use Rattle.answers.proofs.put_line.Tie as tie
+use Rattle.streaming.proofs.answers.put_line.Statement.{statement}
+use Rattle.streaming.proofs.answers.put_line.Tie as tie
 
 line-end-requires : tie.Need-line-end-requires
 line-end-requires c κs = search needs
