@@ -18,8 +18,8 @@ use Rattle.run.specs.Steps.{Steps, none, more}
 use Rattle.run.proofs.Calls.{series-holds}
 use Rattle.meaning.specs.Meaning.{Interpretation, truth, isTrue}
 use Rattle.meaning.specs.Premises.{SingleIntegers, NoInterOverNothing}
-use Rattle.meaning.proofs.Sound.{Keeps, keeps-at-place}
-use Rattle.meaning.proofs.EquationKeeps.{equation-keeps}
+use Rattle.truth.proofs.Sound.{Keeps, keeps-at-place}
+use Rattle.truth.proofs.EquationKeeps.{equation-keeps}
 use Rattle.weight.specs.Weight.{weight}
 use Rattle.weight.proofs.Positive.{weight-positive}
 use Rattle.weight.proofs.Monotone.{weight-at-place}

@@ -1,1 +1,1 @@
-// What a predicate means, and that each equation keeps its truth.
+// What a predicate means: its truth in an interpretation.

@@ -14,14 +14,15 @@ use Rattle.typing.specs.Typing.{element, relation, typeOf, typesIn}
 use Rattle.typing.specs.TypeExpression.{toExpression}
 use Rattle.typing.specs.Accepted.{Accepted}
 use Rattle.rules.specs.Equations.{⊤, ⊥ᵖ, ⋀, ⋁, _≐_, fin, _≐∅}
 use Rattle.meaning.specs.Lists.{any, all}
 use Rattle.meaning.specs.Operations.{partition, opAt, opOf}
 use Rattle.meaning.specs.Meaning.{Interpretation, Vals, truth, setOf, equals, holds, disjointFrom, disjoint, partitions, means, meansAll}
 use Rattle.meaning.specs.Premises.{NoInt, SingleIntegers, NoInterOverNothing}
 use Rattle.meaning.proofs.Sets.{is-empty}
-use Rattle.meaning.proofs.Sound.{Formula, Keeps, keeps-truth}
 use Rattle.meaning.proofs.Kit as kit
-use Rattle.meaning.proofs.Many as many
+use Rattle.truth.proofs.Sound.{Formula, Keeps, keeps-truth}
+use Rattle.truth.proofs.Premises as premise
+use Rattle.truth.proofs.Many as many
 
 or-last : (a b : Bool) → (a || (b || (true || false))) ≡ true
 or-last true b = refl
@@ -43,18 +44,18 @@ module _ (I : Interpretation) (σ : ℕ → Ty) (Γ : Ctx) where
   -- ∅, BOOL, {a, …, b}
   pub finite-top-keeps : (s : Tree) → Keeps I Γ (fin s) ⊤
   unfolding means holds opOf opAt classOf lookup formAt
-  finite-top-keeps s = finite-keeps s ⊤ (refl, refl) (kit.leaf-single I Γ #BTrue (refl, refl))
-      (λ a. kit.leaf-alive I Γ #BTrue (refl, refl)) (λ ρ. refl)
+  finite-top-keeps s = finite-keeps s ⊤ (refl, refl) (premise.leaf-single I Γ #BTrue (refl, refl))
+      (λ a. premise.leaf-alive I Γ #BTrue (refl, refl)) (λ ρ. refl)
 
   finite-finite : (s r : Tree) → SingleIntegers r Γ → (NoInterOverNothing I s Γ → NoInterOverNothing I r Γ) → Keeps I Γ (fin s) (fin r)
   unfolding classOf lookup formAt
-  finite-finite s r h l = finite-keeps s (fin r) (refl, refl) (kit.one-single I Γ #Finite (refl, refl) r h)
-      (λ a. kit.one-alive I Γ #Finite (refl, refl) r (l a)) (fin-truth r)
+  finite-finite s r h l = finite-keeps s (fin r) (refl, refl) (premise.one-single I Γ #Finite (refl, refl) r h)
+      (λ a. premise.one-alive I Γ #Finite (refl, refl) r (l a)) (fin-truth r)
 
   -- no set of integers passes the premise
   no-integers : (e : Tree) → typeOf e Γ ≡ pow int → SingleIntegers (fin e) Γ → ⊥
   unfolding SingleIntegers classOf lookup formAt
-  no-integers e h s = kit.no-int e Γ int (s .3 .0) h
+  no-integers e h s = premise.no-int e Γ int (s .3 .0) h
 
   pub finite-naturals-keeps : SingleIntegers (fin (leaf #Natural)) Γ → Keeps I Γ (fin (leaf #Natural)) ⊥ᵖ
   unfolding typeOf classOf lookup
@@ -76,7 +77,7 @@ module _ (I : Interpretation) (σ : ℕ → Ty) (Γ : Ctx) where
 
     pub finite-carried-keeps : SingleIntegers (fin (typed g (relation s t))) Γ → Keeps I Γ (fin (typed g (relation s t))) (fin (toExpression s))
     finite-carried-keeps h =
-        finite-finite (typed g (relation s t)) (toExpression s) (kit.type-single s Γ (carried-source h)) (λ a. kit.type-alive I s Γ)
+        finite-finite (typed g (relation s t)) (toExpression s) (premise.type-single s Γ (carried-source h)) (λ a. premise.type-alive I s Γ)
 
   -- S ∪ … ∪ T
   fins-truth : (ρ : Vals I Γ) (ks : Forest) → all (λ d. truth I d ρ) (meansAll I (mapF fin ks) Γ) ≡ true
@@ -88,18 +89,18 @@ module _ (I : Interpretation) (σ : ℕ → Ty) (Γ : Ctx) where
   unfolding SingleIntegers NoInterOverNothing opOf opAt classOf lookup formAt
   finite-union-keeps ks s =
       finite-keeps (many #BUnion ks) (⋀ (mapF fin ks)) (refl, refl)
-      (kit.many-single I Γ #LAnd (refl, refl) (mapF fin ks)
-      (many.map-single fin Γ Γ (kit.one-single I Γ #Finite (refl, refl)) ks (s .3 .0 .3)))
-      (λ a. kit.many-alive I Γ #LAnd (refl, refl) (mapF fin ks)
-      (many.map-alive I fin Γ Γ (kit.one-alive I Γ #Finite (refl, refl)) ks (a .2)))
+      (premise.many-single I Γ #LAnd (refl, refl) (mapF fin ks)
+      (many.map-single fin Γ Γ (premise.one-single I Γ #Finite (refl, refl)) ks (s .3 .0 .3)))
+      (λ a. premise.many-alive I Γ #LAnd (refl, refl) (mapF fin ks)
+      (many.map-alive I fin Γ Γ (premise.one-alive I Γ #Finite (refl, refl)) ks (a .2)))
       (λ ρ. kit.and-truth I Γ (mapF fin ks) ρ ∙ fins-truth ρ ks)
 
   -- ℙ S, r⁻¹, S ◁ r: the first operand
   pub finite-first-keeps : (g : ℕ) (s : Tree) (ks : Forest) → SingleIntegers (fin (many g (cons s ks))) Γ
       → Keeps I Γ (fin (many g (cons s ks))) (fin s)
   unfolding SingleIntegers NoInterOverNothing classOf lookup formAt
-  finite-first-keeps g s ks h = finite-finite (many g (cons s ks)) s (kit.kids-single I Γ g (cons s ks) (h .3 .0) .0)
-      (λ a. kit.kids-alive I Γ g (cons s ks) a .0)
+  finite-first-keeps g s ks h = finite-finite (many g (cons s ks)) s (premise.kids-single I Γ g (cons s ks) (h .3 .0) .0)
+      (λ a. premise.kids-alive I Γ g (cons s ks) a .0)
 
   -- S × T: S = ∅, or T = ∅, or both are finite
   module _ (s t : Tree) where
@@ -117,25 +118,25 @@ module _ (I : Interpretation) (σ : ℕ → Ty) (Γ : Ctx) where
         let ht = h .3 .0 .3 .1 .0 in
         let ds = cons (_≐∅ Γ s) (pair (_≐∅ Γ t) (⋀ (pair (fin s) (fin t)))) in
         finite-keeps (two #CProd s t) product-new (refl, refl)
-        (kit.many-single I Γ #LOr (refl, refl) ds (
-          kit.empty-single I Γ s hs,
+        (premise.many-single I Γ #LOr (refl, refl) ds (
+          premise.empty-single I Γ s hs,
           (
-            kit.empty-single I Γ t ht,
+            premise.empty-single I Γ t ht,
             (
-              kit.many-single I Γ #LAnd (refl, refl) (pair (fin s) (fin t))
-                  (kit.one-single I Γ #Finite (refl, refl) s hs, (kit.one-single I Γ #Finite (refl, refl) t ht, tt)),
+              premise.many-single I Γ #LAnd (refl, refl) (pair (fin s) (fin t))
+                  (premise.one-single I Γ #Finite (refl, refl) s hs, (premise.one-single I Γ #Finite (refl, refl) t ht, tt)),
               tt,
             ),
           ),
         ))
-        (λ a. kit.many-alive I Γ #LOr (refl, refl) ds (
-          kit.empty-alive I Γ s (a .2 .0),
+        (λ a. premise.many-alive I Γ #LOr (refl, refl) ds (
+          premise.empty-alive I Γ s (a .2 .0),
           (
-            kit.empty-alive I Γ t (a .2 .1 .0),
+            premise.empty-alive I Γ t (a .2 .1 .0),
             (
-              kit.many-alive I Γ #LAnd (refl, refl) (pair (fin s) (fin t)) (
-                kit.one-alive I Γ #Finite (refl, refl) s (a .2 .0),
-                (kit.one-alive I Γ #Finite (refl, refl) t (a .2 .1 .0), tt),
+              premise.many-alive I Γ #LAnd (refl, refl) (pair (fin s) (fin t)) (
+                premise.one-alive I Γ #Finite (refl, refl) s (a .2 .0),
+                (premise.one-alive I Γ #Finite (refl, refl) t (a .2 .1 .0), tt),
               ),
               tt,
             ),
@@ -177,8 +178,8 @@ module _ (I : Interpretation) (σ : ℕ → Ty) (Γ : Ctx) where
   unfolding Accepted SingleIntegers NoInterOverNothing typeOf opOf opAt classOf lookup formAt
   partition-none-keeps s a h =
       let e = a .fits in
-      keeps-truth I (many #Partition (sole s)) (_≐∅ Γ s) Γ (refl, refl) (refl, refl) (kit.empty-single I Γ s (h .3 .0))
-      (λ l. kit.empty-alive I Γ s (l .2 .0))
+      keeps-truth I (many #Partition (sole s)) (_≐∅ Γ s) Γ (refl, refl) (refl, refl) (premise.empty-single I Γ s (h .3 .0))
+      (λ l. premise.empty-alive I Γ s (l .2 .0))
       (λ l ρ. partition-none s (element (typeOf s Γ)) (cc) ρ)
 
   pub partition-one-keeps : (s t : Tree) → Accepted σ (many #Partition (pair s t)) Γ predicate → SingleIntegers (many #Partition (pair s t)) Γ
@@ -187,6 +188,6 @@ module _ (I : Interpretation) (σ : ℕ → Ty) (Γ : Ctx) where
   partition-one-keeps s t a h =
       let e = a .fits in
       keeps-truth I (many #Partition (pair s t)) (s ≐ t) Γ (refl, refl) (refl, refl)
-      (kit.two-single I Γ #Equal (refl, refl) s t (h .3 .0) (h .3 .1 .0))
-      (λ l. kit.two-alive I Γ #Equal (refl, refl) s t (l .2 .0) (l .2 .1 .0))
+      (premise.two-single I Γ #Equal (refl, refl) s t (h .3 .0) (h .3 .1 .0))
+      (λ l. premise.two-alive I Γ #Equal (refl, refl) s t (l .2 .0) (l .2 .1 .0))
       (λ l ρ. partition-one s (element (typeOf s Γ)) (cc) ρ t)

@@ -70,16 +70,16 @@ use Rattle.rules.specs.Equations.{
   «SIMP_EXISTS_IMP»,
 }
 use Rattle.rules.proofs.LogicAccepted.{emptiness-accepted, fullness-accepted}
 use Rattle.meaning.specs.Meaning.{Interpretation}
 use Rattle.meaning.specs.Premises.{SingleIntegers}
-use Rattle.meaning.proofs.Sound.{Keeps}
-use Rattle.meaning.proofs.Emptied.{emptiness-keeps, emptiness-single, fullness-keeps, fullness-single}
-use Rattle.meaning.proofs.FiniteRules as fin
-use Rattle.meaning.proofs.Connectives as con
-use Rattle.meaning.proofs.Junctions as jun
-use Rattle.meaning.proofs.Quantifiers as qua
-use Rattle.meaning.proofs.EmptyRulesAll.{empties-emptied}
-use Rattle.meaning.proofs.TypeRules.{fills-filled}
+use Rattle.truth.proofs.Sound.{Keeps}
+use Rattle.truth.proofs.Emptied.{emptiness-keeps, emptiness-single, fullness-keeps, fullness-single}
+use Rattle.truth.proofs.FiniteRules as fin
+use Rattle.truth.proofs.Connectives as con
+use Rattle.truth.proofs.Junctions as jun
+use Rattle.truth.proofs.Quantifiers as qua
+use Rattle.truth.proofs.EmptyRulesAll.{empties-emptied}
+use Rattle.truth.proofs.TypeRules.{fills-filled}
 
 pub equation-keeps : (I : Interpretation) (σ : ℕ → Ty) (Γ : Ctx) (place : ℕ) (l r : Tree) → TysOk σ Γ → Equation Γ place l r
     → Accepted σ l Γ predicate → SingleIntegers l Γ → Keeps I Γ l r

@@ -85,13 +85,13 @@ use Rattle.rules.proofs.OldNodes.{
   of-qunion,
 }
 use Rattle.rules.proofs.Operands.{subtracted-same, every-mid, minuends}
 use Rattle.meaning.specs.Meaning.{Interpretation}
 use Rattle.meaning.specs.Premises.{SingleIntegers}
-use Rattle.meaning.proofs.Many.{Each, each-alike}
-use Rattle.meaning.proofs.Emptied.{Emptied}
-use Rattle.meaning.proofs.EmptyRules as rule
-use Rattle.meaning.proofs.EmptyRulesMany as many-rule
-use Rattle.meaning.proofs.EmptyRulesCaps as cap-rule
+use Rattle.truth.proofs.Many.{Each, each-alike}
+use Rattle.truth.proofs.Emptied.{Emptied}
+use Rattle.truth.proofs.EmptyRules as rule
+use Rattle.truth.proofs.EmptyRulesMany as many-rule
+use Rattle.truth.proofs.EmptyRulesCaps as cap-rule
 
 -- operands of one type have that type
 types-of : (σ : ℕ → Ty) (Γ : Ctx) (e : Sort) (t : Ty) (ks : Forest) → nodes.Each σ Γ e t ks → Each t (typesIn ks Γ)

@@ -11,32 +11,34 @@ use Rattle.frame.specs.Places.{Ctx}
 use Rattle.typing.specs.Typing.{ty, typeOf, typesIn}
 use Rattle.rules.specs.Equations.{¬ᵖ, _∈ᵖ_, _⊆_, ext, inters, over, Subtracted, none, minus, other}
 use Rattle.rules.proofs.Operands.{every-mid, minuends-every, subtrahends-every}
 use Rattle.meaning.specs.Lists.{any, all}
 use Rattle.meaning.specs.Operations.{opAt, opOf}
 use Rattle.meaning.specs.Meaning.{Interpretation, Vals, Val, Den, val, setOf, some, equals, valueOf, means, meansAll}
 use Rattle.meaning.specs.Premises.{NoInt, SingleIntegers, SingleIntegersIn, NoInterOverNothing, NoInterOverNothingIn}
 use Rattle.meaning.proofs.Sets.{within-is}
-use Rattle.meaning.proofs.EmptySetsMore as more
-use Rattle.meaning.proofs.Kit.{NoInter}
 use Rattle.meaning.proofs.Kit as kit
-use Rattle.meaning.proofs.Many.{append-means, single-each, single-all, alive-each, alive-all}
-use Rattle.meaning.proofs.Emptied.{Emptied, emptied}
-use Rattle.meaning.proofs.EmptyRulesKit.{within-emptied}
+use Rattle.truth.proofs.EmptySetsMore as more
+use Rattle.truth.proofs.Premises.{NoInter}
+use Rattle.truth.proofs.Premises as premise
+use Rattle.truth.proofs.Many.{append-means, single-each, single-all, alive-each, alive-all}
+use Rattle.truth.proofs.Emptied.{Emptied, emptied}
+use Rattle.truth.proofs.EmptyRulesKit.{within-emptied}
 
 -- ---- ∩ and ∪ over the operands that are left
 over-single : (Γ : Ctx) (g : ℕ) → ((ks : Forest) → typeOf (many g ks) Γ ≡ ty 0 (typesIn ks Γ)) → (ks : Forest) → SingleIntegersIn ks Γ
     → SingleIntegers (over g ks) Γ
 unfolding SingleIntegers typeOf
-over-single Γ g h nil s = kit.node-single Γ g nil (rw (h nil) tt) tt
+over-single Γ g h nil s = premise.node-single Γ g nil (rw (h nil) tt) tt
 over-single Γ g h (cons a nil) s = s .0
-over-single Γ g h (cons a (cons b ks)) s = kit.node-single Γ g (cons a (cons b ks)) (rw (h (cons a (cons b ks))) (kit.single-type a Γ (s .0))) s
+over-single Γ g h (cons a (cons b ks)) s =
+    premise.node-single Γ g (cons a (cons b ks)) (rw (h (cons a (cons b ks))) (premise.single-type a Γ (s .0))) s
 
 module _ (I : Interpretation) (Γ : Ctx) where
   over-alive : (g : ℕ) → NoInter g → (ks : Forest) → NoInterOverNothingIn I ks Γ → NoInterOverNothing I (over g ks) Γ
   unfolding NoInterOverNothing
-  over-alive g f nil a = kit.many-alive I Γ g f nil tt
+  over-alive g f nil a = premise.many-alive I Γ g f nil tt
   over-alive g f (cons k nil) a = a .0
-  over-alive g f (cons k (cons l ks)) a = kit.many-alive I Γ g f (cons k (cons l ks)) a
+  over-alive g f (cons k (cons l ks)) a = premise.many-alive I Γ g f (cons k (cons l ks)) a
 
   module _ (ρ : Vals I Γ) (u : Ty) (x : Val I u) where
     cap-is : (ks : Forest) → setOf I (means I (inters ks) Γ) ρ u x ≡ all (λ k. setOf I k ρ u x) (meansAll I ks Γ)
@@ -84,12 +86,13 @@ module _ (I : Interpretation) (σ : ℕ → Ty) (Γ : Ctx) (a : Tree) (left righ
   single-emptied u he ha s =
       let r = every-mid (λ k. SingleIntegers k Γ) left (ext (sole a)) right (single-each Γ with-a (s .3)) in
       emptied I σ Γ (inters with-a) (¬ᵖ (a ∈ᵖ rest)) u he (refl, refl)
-      (kit.one-single I Γ #Not (refl, refl) (a ∈ᵖ rest) (kit.two-single I Γ #In (refl, refl) a rest (r .0 .3 .0)
+      (premise.one-single I Γ #Not (refl, refl) (a ∈ᵖ rest) (premise.two-single I Γ #In (refl, refl) a rest (r .0 .3 .0)
       (over-single Γ #BInter (λ k. refl) (append left right) (single-all Γ (append left right) (r .1)))))
       (λ l. (let k = every-mid (λ k. NoInterOverNothing I k Γ) left (ext (sole a)) right (alive-each I Γ with-a (l .2)) in
-      kit.one-alive I Γ #Not (refl, refl) (a ∈ᵖ rest) (kit.two-alive I Γ #In (refl, refl) a rest (k .0 .2 .0)
+      premise.one-alive I Γ #Not (refl, refl) (a ∈ᵖ rest) (premise.two-alive I Γ #In (refl, refl) a rest (k .0 .2 .0)
       (over-alive I Γ #BInter (refl, refl) (append left right) (alive-all I Γ (append left right) (k .1))))))
-      (λ l ρ. kit.not-truth I Γ (a ∈ᵖ rest) ρ ∙ ap not (kit.member-truth I Γ a rest u ha ρ ∙ sym (single-some u (kit.no-int (inters with-a) Γ u s he) ρ)))
+      (λ l ρ. kit.not-truth I Γ (a ∈ᵖ rest) ρ ∙ ap not (kit.member-truth I Γ a rest u ha ρ
+      ∙ sym (single-some u (premise.no-int (inters with-a) Γ u s he) ρ)))
 
 -- ---- (A ∖ B) ∩ C ∩ (D ∖ E) = ∅ is A ∩ C ∩ D ⊆ B ∪ E
 module _ (I : Interpretation) (Γ : Ctx) where

@@ -11,15 +11,16 @@ use Rattle.frame.specs.Places.{Ctx}
 use Rattle.typing.specs.Typing.{typeOf}
 use Rattle.typing.specs.Accepted.{Accepted}
 use Rattle.rules.specs.Equations.{⊤, ⊥ᵖ, ¬ᵖ, _⇒_, _⇔_, ⋀, _≐_, Among, Opposite, negated, restored}
 use Rattle.meaning.specs.Values.{same}
 use Rattle.meaning.specs.Operations.{opAt, opOf}
 use Rattle.meaning.specs.Meaning.{Interpretation, Vals, truth, val, leInt, holds, valueOf, means, meansAll}
 use Rattle.meaning.specs.Premises.{SingleIntegers, NoInterOverNothing}
 use Rattle.meaning.proofs.Lists.{so-imp, so-all, beq-true, beq-false}
-use Rattle.meaning.proofs.Sound.{Formula, Keeps, keeps-truth, accepted-formula}
-use Rattle.meaning.proofs.Kit.{NoInter}
 use Rattle.meaning.proofs.Kit as kit
-use Rattle.meaning.proofs.Many as many
+use Rattle.truth.proofs.Sound.{Formula, Keeps, keeps-truth, accepted-formula}
+use Rattle.truth.proofs.Premises.{NoInter}
+use Rattle.truth.proofs.Premises as premise
+use Rattle.truth.proofs.Many as many
 
 -- ---- laws of truth values
 not-beq-right : (a b : Bool) → not (Bool·beq a b) ≡ Bool·beq a (not b)
@@ -104,8 +105,9 @@ module _ (I : Interpretation) (σ : ℕ → Ty) (Γ : Ctx) where
         → SingleIntegers (¬ᵖ (two g a b)) Γ → Keeps I Γ (¬ᵖ (two g a b)) (two h a b)
     unfolding SingleIntegers NoInterOverNothing opOf opAt classOf lookup formAt
     order-keeps g h f n t s =
-        keeps-truth I (¬ᵖ (two g a b)) (two h a b) Γ (refl, refl) f (kit.many-single I Γ h f (pair a b) (kit.kids-single I Γ g (pair a b) (s .3 .0)))
-        (λ l. kit.many-alive I Γ h n (pair a b) (kit.kids-alive I Γ g (pair a b) (l .2 .0))) (λ l ρ. kit.not-truth I Γ (two g a b) ρ ∙ t ρ)
+        keeps-truth I (¬ᵖ (two g a b)) (two h a b) Γ (refl, refl) f
+        (premise.many-single I Γ h f (pair a b) (premise.kids-single I Γ g (pair a b) (s .3 .0)))
+        (λ l. premise.many-alive I Γ h n (pair a b) (premise.kids-alive I Γ g (pair a b) (l .2 .0))) (λ l ρ. kit.not-truth I Γ (two g a b) ρ ∙ t ρ)
 
     pub not-le-keeps : SingleIntegers (¬ᵖ (two #Le a b)) Γ → Keeps I Γ (¬ᵖ (two #Le a b)) (two #Gt a b)
     unfolding means holds opOf opAt classOf lookup formAt
@@ -158,16 +160,16 @@ module _ (I : Interpretation) (σ : ℕ → Ty) (Γ : Ctx) where
         let h = a .kids .0 .fits in
         let k = f .type in
         keeps-truth I (¬ᵖ (e ≐ x)) (e ≐ y) Γ (refl, refl) (refl, refl)
-        (kit.two-single I Γ #Equal (refl, refl) e y (s .3 .0 .3 .0) (f .single))
-        (λ l. kit.two-alive I Γ #Equal (refl, refl) e y (l .2 .0 .2 .0) (f .alive))
+        (premise.two-single I Γ #Equal (refl, refl) e y (s .3 .0 .3 .0) (f .single))
+        (λ l. premise.two-alive I Γ #Equal (refl, refl) e y (l .2 .0 .2 .0) (f .alive))
         (λ l ρ. kit.not-truth I Γ (e ≐ x) ρ ∙ right-truth (cc) ρ)
 
     left-keeps : typeOf y Γ ≡ bool → SingleIntegers (¬ᵖ (x ≐ e)) Γ → Keeps I Γ (¬ᵖ (x ≐ e)) (y ≐ e)
     unfolding SingleIntegers NoInterOverNothing opOf opAt classOf lookup formAt
     left-keeps h s =
         keeps-truth I (¬ᵖ (x ≐ e)) (y ≐ e) Γ (refl, refl) (refl, refl)
-        (kit.two-single I Γ #Equal (refl, refl) y e (f .single) (s .3 .0 .3 .1 .0))
-        (λ l. kit.two-alive I Γ #Equal (refl, refl) y e (f .alive) (l .2 .0 .2 .1 .0))
+        (premise.two-single I Γ #Equal (refl, refl) y e (f .single) (s .3 .0 .3 .1 .0))
+        (λ l. premise.two-alive I Γ #Equal (refl, refl) y e (f .alive) (l .2 .0 .2 .1 .0))
         (λ l ρ. kit.not-truth I Γ (x ≐ e) ρ ∙ left-truth h ρ)
 
   module _ (e : Tree) where
@@ -195,18 +197,18 @@ module _ (I : Interpretation) (σ : ℕ → Ty) (Γ : Ctx) where
 
     pub imp-bottom-left-keeps : Keeps I Γ (⊥ᵖ ⇒ p) ⊤
     unfolding means holds opOf opAt classOf lookup formAt
-    imp-bottom-left-keeps = keeps-truth I (⊥ᵖ ⇒ p) ⊤ Γ (refl, refl) (refl, refl) (kit.leaf-single I Γ #BTrue (refl, refl))
-        (λ l. kit.leaf-alive I Γ #BTrue (refl, refl)) (λ l ρ. refl)
+    imp-bottom-left-keeps = keeps-truth I (⊥ᵖ ⇒ p) ⊤ Γ (refl, refl) (refl, refl) (premise.leaf-single I Γ #BTrue (refl, refl))
+        (λ l. premise.leaf-alive I Γ #BTrue (refl, refl)) (λ l ρ. refl)
 
     pub imp-top-right-keeps : Keeps I Γ (p ⇒ ⊤) ⊤
     unfolding means holds opOf opAt classOf lookup formAt
-    imp-top-right-keeps = keeps-truth I (p ⇒ ⊤) ⊤ Γ (refl, refl) (refl, refl) (kit.leaf-single I Γ #BTrue (refl, refl))
-        (λ l. kit.leaf-alive I Γ #BTrue (refl, refl)) (λ l ρ. or-true (not (Truth ρ p)))
+    imp-top-right-keeps = keeps-truth I (p ⇒ ⊤) ⊤ Γ (refl, refl) (refl, refl) (premise.leaf-single I Γ #BTrue (refl, refl))
+        (λ l. premise.leaf-alive I Γ #BTrue (refl, refl)) (λ l ρ. or-true (not (Truth ρ p)))
 
     pub imp-self-keeps : Keeps I Γ (p ⇒ p) ⊤
     unfolding means holds opOf opAt classOf lookup formAt
-    imp-self-keeps = keeps-truth I (p ⇒ p) ⊤ Γ (refl, refl) (refl, refl) (kit.leaf-single I Γ #BTrue (refl, refl))
-        (λ l. kit.leaf-alive I Γ #BTrue (refl, refl)) (λ l ρ. imp-self (Truth ρ p))
+    imp-self-keeps = keeps-truth I (p ⇒ p) ⊤ Γ (refl, refl) (refl, refl) (premise.leaf-single I Γ #BTrue (refl, refl))
+        (λ l. premise.leaf-alive I Γ #BTrue (refl, refl)) (λ l ρ. imp-self (Truth ρ p))
 
     pub imp-not-left-keeps : Accepted σ (¬ᵖ p ⇒ p) Γ predicate → SingleIntegers (¬ᵖ p ⇒ p) Γ → Keeps I Γ (¬ᵖ p ⇒ p) p
     unfolding Accepted SingleIntegers NoInterOverNothing means holds opOf opAt classOf lookup formAt
@@ -233,7 +235,8 @@ module _ (I : Interpretation) (σ : ℕ → Ty) (Γ : Ctx) where
   pub imp-among-keeps : (ps : Forest) (q : Tree) → Among q ps → Keeps I Γ (⋀ ps ⇒ q) ⊤
   unfolding classOf lookup formAt
   imp-among-keeps ps q i =
-      keeps-truth I (⋀ ps ⇒ q) ⊤ Γ (refl, refl) (refl, refl) (kit.leaf-single I Γ #BTrue (refl, refl)) (λ l. kit.leaf-alive I Γ #BTrue (refl, refl))
+      keeps-truth I (⋀ ps ⇒ q) ⊤ Γ (refl, refl) (refl, refl) (premise.leaf-single I Γ #BTrue (refl, refl))
+      (λ l. premise.leaf-alive I Γ #BTrue (refl, refl))
       (λ l ρ. kit.implies-truth I Γ (⋀ ps) q ρ ∙ so-imp (Truth ρ (⋀ ps)) (Truth ρ q) .1 (among-true ps q i ρ) ∙ sym (top-truth ρ))
     where
       top-truth : (ρ : Vals I Γ) → truth I (means I ⊤ Γ) ρ ≡ true
@@ -242,8 +245,8 @@ module _ (I : Interpretation) (σ : ℕ → Ty) (Γ : Ctx) where
   pub imp-opposite-keeps : (ps : Forest) (q m : Tree) → Opposite q m → Among m ps → SingleIntegers (⋀ ps ⇒ q) Γ → Keeps I Γ (⋀ ps ⇒ q) (¬ᵖ (⋀ ps))
   unfolding SingleIntegers NoInterOverNothing opOf opAt classOf lookup formAt
   imp-opposite-keeps ps q m o i s =
-      keeps-truth I (⋀ ps ⇒ q) (¬ᵖ (⋀ ps)) Γ (refl, refl) (refl, refl) (kit.one-single I Γ #Not (refl, refl) (⋀ ps) (s .3 .0))
-      (λ l. kit.one-alive I Γ #Not (refl, refl) (⋀ ps) (l .2 .0))
+      keeps-truth I (⋀ ps ⇒ q) (¬ᵖ (⋀ ps)) Γ (refl, refl) (refl, refl) (premise.one-single I Γ #Not (refl, refl) (⋀ ps) (s .3 .0))
+      (λ l. premise.one-alive I Γ #Not (refl, refl) (⋀ ps) (l .2 .0))
       (λ l ρ. kit.implies-truth I Γ (⋀ ps) q ρ ∙ imp-apart (Truth ρ (⋀ ps)) (Truth ρ q)
       (λ h. rw (opposite-truth o ρ) at (among-true ps m i ρ h)) ∙ sym (kit.not-truth I Γ (⋀ ps) ρ))
 
@@ -261,18 +264,18 @@ module _ (I : Interpretation) (σ : ℕ → Ty) (Γ : Ctx) where
 
     pub eqv-self-keeps : Keeps I Γ (p ⇔ p) ⊤
     unfolding means holds opOf opAt classOf lookup formAt
-    eqv-self-keeps = keeps-truth I (p ⇔ p) ⊤ Γ (refl, refl) (refl, refl) (kit.leaf-single I Γ #BTrue (refl, refl))
-        (λ l. kit.leaf-alive I Γ #BTrue (refl, refl)) (λ l ρ. beq-self (Truth ρ p))
+    eqv-self-keeps = keeps-truth I (p ⇔ p) ⊤ Γ (refl, refl) (refl, refl) (premise.leaf-single I Γ #BTrue (refl, refl))
+        (λ l. premise.leaf-alive I Γ #BTrue (refl, refl)) (λ l ρ. beq-self (Truth ρ p))
 
     pub eqv-not-right-keeps : Keeps I Γ (p ⇔ ¬ᵖ p) ⊥ᵖ
     unfolding means holds opOf opAt classOf lookup formAt
-    eqv-not-right-keeps = keeps-truth I (p ⇔ ¬ᵖ p) ⊥ᵖ Γ (refl, refl) (refl, refl) (kit.leaf-single I Γ #BFalse (refl, refl))
-        (λ l. kit.leaf-alive I Γ #BFalse (refl, refl)) (λ l ρ. beq-not-right (Truth ρ p))
+    eqv-not-right-keeps = keeps-truth I (p ⇔ ¬ᵖ p) ⊥ᵖ Γ (refl, refl) (refl, refl) (premise.leaf-single I Γ #BFalse (refl, refl))
+        (λ l. premise.leaf-alive I Γ #BFalse (refl, refl)) (λ l ρ. beq-not-right (Truth ρ p))
 
     pub eqv-not-left-keeps : Keeps I Γ (¬ᵖ p ⇔ p) ⊥ᵖ
     unfolding means holds opOf opAt classOf lookup formAt
-    eqv-not-left-keeps = keeps-truth I (¬ᵖ p ⇔ p) ⊥ᵖ Γ (refl, refl) (refl, refl) (kit.leaf-single I Γ #BFalse (refl, refl))
-        (λ l. kit.leaf-alive I Γ #BFalse (refl, refl)) (λ l ρ. beq-not-left (Truth ρ p))
+    eqv-not-left-keeps = keeps-truth I (¬ᵖ p ⇔ p) ⊥ᵖ Γ (refl, refl) (refl, refl) (premise.leaf-single I Γ #BFalse (refl, refl))
+        (λ l. premise.leaf-alive I Γ #BFalse (refl, refl)) (λ l ρ. beq-not-left (Truth ρ p))
 
     -- ---- ¬
     pub not-not-keeps : Accepted σ (¬ᵖ (¬ᵖ p)) Γ predicate → SingleIntegers (¬ᵖ (¬ᵖ p)) Γ → Keeps I Γ (¬ᵖ (¬ᵖ p)) p
@@ -296,10 +299,10 @@ module _ (I : Interpretation) (σ : ℕ → Ty) (Γ : Ctx) where
 
   pub not-top-keeps : Keeps I Γ (¬ᵖ ⊤) ⊥ᵖ
   unfolding means holds opOf opAt classOf lookup formAt
-  not-top-keeps = keeps-truth I (¬ᵖ ⊤) ⊥ᵖ Γ (refl, refl) (refl, refl) (kit.leaf-single I Γ #BFalse (refl, refl))
-      (λ l. kit.leaf-alive I Γ #BFalse (refl, refl)) (λ l ρ. refl)
+  not-top-keeps = keeps-truth I (¬ᵖ ⊤) ⊥ᵖ Γ (refl, refl) (refl, refl) (premise.leaf-single I Γ #BFalse (refl, refl))
+      (λ l. premise.leaf-alive I Γ #BFalse (refl, refl)) (λ l ρ. refl)
 
   pub not-bottom-keeps : Keeps I Γ (¬ᵖ ⊥ᵖ) ⊤
   unfolding means holds opOf opAt classOf lookup formAt
-  not-bottom-keeps = keeps-truth I (¬ᵖ ⊥ᵖ) ⊤ Γ (refl, refl) (refl, refl) (kit.leaf-single I Γ #BTrue (refl, refl))
-      (λ l. kit.leaf-alive I Γ #BTrue (refl, refl)) (λ l ρ. refl)
+  not-bottom-keeps = keeps-truth I (¬ᵖ ⊥ᵖ) ⊤ Γ (refl, refl) (refl, refl) (premise.leaf-single I Γ #BTrue (refl, refl))
+      (λ l. premise.leaf-alive I Γ #BTrue (refl, refl)) (λ l ρ. refl)

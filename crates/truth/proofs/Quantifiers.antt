@@ -12,15 +12,16 @@ use Rattle.frame.specs.Places.{Ctx, push}
 use Rattle.typing.specs.Typing.{typeOf, typesIn}
 use Rattle.typing.specs.Accepted.{Accepted}
 use Rattle.rules.specs.Equations.{_⇒_, ⋀, ⋁, ∀ᵖ, ∃ᵖ}
 use Rattle.meaning.specs.Lists.{any, all}
 use Rattle.meaning.specs.Operations.{opAt, opOf}
 use Rattle.meaning.specs.Meaning.{Interpretation, Vals, truth, choices, holds, quantified, means, meansAll}
 use Rattle.meaning.specs.Premises.{AllSingle, AllNoInt, SingleIntegers, SingleIntegersIn, NoInterOverNothing, NoInterOverNothingIn}
 use Rattle.meaning.proofs.Lists.{all-swap, any-swap, any-imp}
-use Rattle.meaning.proofs.Sound.{Formula, Keeps, keeps-truth}
-use Rattle.meaning.proofs.Kit.{NoInter}
 use Rattle.meaning.proofs.Kit as kit
-use Rattle.meaning.proofs.Many as many-law
+use Rattle.truth.proofs.Sound.{Formula, Keeps, keeps-truth}
+use Rattle.truth.proofs.Premises.{NoInter}
+use Rattle.truth.proofs.Premises as premise
+use Rattle.truth.proofs.Many as many-law
 
 module _ (I : Interpretation) (σ : ℕ → Ty) (Γ : Ctx) (xs : List Ty) where
   module _ (ps : Forest) where
@@ -46,10 +47,10 @@ module _ (I : Interpretation) (σ : ℕ → Ty) (Γ : Ctx) (xs : List Ty) where
         → Keeps I Γ l (many g (mapF (tree.quantified q xs) ps))
     spread q g fq b nq fg ng l fl s n r k t =
         keeps-truth I l (many g (mapF (tree.quantified q xs) ps)) Γ fl fg
-        (kit.many-single I Γ g fg (mapF (tree.quantified q xs) ps)
-        (many-law.map-single (tree.quantified q xs) (push xs Γ) Γ (λ p h. kit.bound-single I Γ q fq b xs p s n h) ps r))
-        (λ a. kit.many-alive I Γ g ng (mapF (tree.quantified q xs) ps)
-        (many-law.map-alive I (tree.quantified q xs) (push xs Γ) Γ (λ p h. kit.bound-alive I Γ q fq b xs p nq h) ps (k a)))
+        (premise.many-single I Γ g fg (mapF (tree.quantified q xs) ps)
+        (many-law.map-single (tree.quantified q xs) (push xs Γ) Γ (λ p h. premise.bound-single I Γ q fq b xs p s n h) ps r))
+        (λ a. premise.many-alive I Γ g ng (mapF (tree.quantified q xs) ps)
+        (many-law.map-alive I (tree.quantified q xs) (push xs Γ) Γ (λ p h. premise.bound-alive I Γ q fq b xs p nq h) ps (k a)))
         (λ a. t)
 
     -- ∀x·(P ∧ … ∧ Q) is (∀x·P) ∧ … ∧ (∀x·Q)
@@ -73,10 +74,10 @@ module _ (I : Interpretation) (σ : ℕ → Ty) (Γ : Ctx) (xs : List Ty) where
   unfolding SingleIntegers NoInterOverNothing means holds quantified typeOf opOf opAt classOf lookup formAt
   exists-imp-keeps p q s =
       keeps-truth I (∃ᵖ xs (p ⇒ q)) (∀ᵖ xs p ⇒ ∃ᵖ xs q) Γ (refl, refl) (refl, refl)
-      (kit.two-single I Γ #LImp (refl, refl) (∀ᵖ xs p) (∃ᵖ xs q)
-      (kit.bound-single I Γ #Forall (refl, refl) (λ us. refl) xs p (s .0) (s .2) (s .3 .0 .3 .0))
-      (kit.bound-single I Γ #Exists (refl, refl) (λ us. refl) xs q (s .0) (s .2) (s .3 .0 .3 .1 .0)))
-      (λ l. kit.two-alive I Γ #LImp (refl, refl) (∀ᵖ xs p) (∃ᵖ xs q)
-      (kit.bound-alive I Γ #Forall (refl, refl) (λ us. refl) xs p (refl, refl) (l .2 .0 .2 .0))
-      (kit.bound-alive I Γ #Exists (refl, refl) (λ us. refl) xs q (refl, refl) (l .2 .0 .2 .1 .0)))
+      (premise.two-single I Γ #LImp (refl, refl) (∀ᵖ xs p) (∃ᵖ xs q)
+      (premise.bound-single I Γ #Forall (refl, refl) (λ us. refl) xs p (s .0) (s .2) (s .3 .0 .3 .0))
+      (premise.bound-single I Γ #Exists (refl, refl) (λ us. refl) xs q (s .0) (s .2) (s .3 .0 .3 .1 .0)))
+      (λ l. premise.two-alive I Γ #LImp (refl, refl) (∀ᵖ xs p) (∃ᵖ xs q)
+      (premise.bound-alive I Γ #Forall (refl, refl) (λ us. refl) xs p (refl, refl) (l .2 .0 .2 .0))
+      (premise.bound-alive I Γ #Exists (refl, refl) (λ us. refl) xs q (refl, refl) (l .2 .0 .2 .1 .0)))
       (λ l ρ. any-imp (truth I (means I p (push xs Γ))) (truth I (means I q (push xs Γ))) (choices I xs Γ ρ))

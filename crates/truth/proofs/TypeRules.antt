@@ -68,14 +68,15 @@ use Rattle.rules.proofs.OldNodes.{
   of-pprod,
   of-qinter,
 }
 use Rattle.meaning.specs.Lists.{any, all}
 use Rattle.meaning.specs.Operations.{opAt, opOf}
 use Rattle.meaning.specs.Meaning.{Interpretation, Vals, truth, setOf, some, every, equals, choices, valueOf, boundSet, means, meansAll}
 use Rattle.meaning.specs.Premises.{NoInt, SingleIntegers, NoInterOverNothing}
-use Rattle.meaning.proofs.TypeSets as set
 use Rattle.meaning.proofs.Kit as kit
-use Rattle.meaning.proofs.Emptied.{Filled, filled, filled-by}
-use Rattle.meaning.proofs.Many.{Each, each-alike, map-single, map-alive, fulls-all}
+use Rattle.truth.proofs.TypeSets as set
+use Rattle.truth.proofs.Premises as premise
+use Rattle.truth.proofs.Emptied.{Filled, filled, filled-by}
+use Rattle.truth.proofs.Many.{Each, each-alike, map-single, map-alive, fulls-all}
 
 module _ (I : Interpretation) (σ : ℕ → Ty) (Γ : Ctx) where
   -- ---- E = Ty is p ∧ q, where p and q say that a set is full or empty
@@ -85,8 +86,8 @@ module _ (I : Interpretation) (σ : ℕ → Ty) (Γ : Ctx) where
       → Filled I σ Γ e (⋀ (pair p q))
   unfolding SingleIntegers NoInterOverNothing means classOf lookup formAt all
   both e p q u he sp sq l k =
-      filled I σ Γ e (⋀ (pair p q)) u he (refl, refl) (kit.many-single I Γ #LAnd (refl, refl) (pair p q) (sp, (sq, tt)))
-      (λ a. kit.many-alive I Γ #LAnd (refl, refl) (pair p q) (l a .0, (l a .1, tt))) (λ a ρ. kit.and-truth I Γ (pair p q) ρ ∙ k ρ)
+      filled I σ Γ e (⋀ (pair p q)) u he (refl, refl) (premise.many-single I Γ #LAnd (refl, refl) (pair p q) (sp, (sq, tt)))
+      (λ a. premise.many-alive I Γ #LAnd (refl, refl) (pair p q) (l a .0, (l a .1, tt))) (λ a ρ. kit.and-truth I Γ (pair p q) ρ ∙ k ρ)
 
   -- p says of a set a what f tells: that it is full, that it is empty
   record Says (a p : Tree) (f : Vals I Γ → Bool) : Type 0 where
@@ -95,10 +96,10 @@ module _ (I : Interpretation) (σ : ℕ → Ty) (Γ : Ctx) where
     truly : (ρ : Vals I Γ) → truth I (means I p Γ) ρ ≡ f ρ
 
   full-says : (a : Tree) (u : Ty) → typeOf a Γ ≡ pow u → Says a (_≐Ty Γ a) (λ ρ. every I u (setOf I (means I a Γ) ρ u))
-  full-says a u h = record { single = kit.full-single I Γ a; alive = kit.full-alive I Γ a; truly = kit.full-truth I Γ a u h }
+  full-says a u h = record { single = premise.full-single I Γ a; alive = premise.full-alive I Γ a; truly = kit.full-truth I Γ a u h }
 
   none-says : (a : Tree) (u : Ty) → typeOf a Γ ≡ pow u → Says a (_≐∅ Γ a) (λ ρ. not (some I u (setOf I (means I a Γ) ρ u)))
-  none-says a u h = record { single = kit.empty-single I Γ a; alive = kit.empty-alive I Γ a; truly = kit.empty-truth I Γ a u h }
+  none-says a u h = record { single = premise.empty-single I Γ a; alive = premise.empty-alive I Γ a; truly = kit.empty-truth I Γ a u h }
 
   module _ (e a b : Tree) (t : Ty) (he : typeOf e Γ ≡ pow t) (s : SingleIntegers a Γ × SingleIntegers b Γ)
       (l : NoInterOverNothing I e Γ → NoInterOverNothing I a Γ × NoInterOverNothing I b Γ) where
@@ -128,14 +129,14 @@ module _ (I : Interpretation) (σ : ℕ → Ty) (Γ : Ctx) where
   unfolding SingleIntegers NoInterOverNothing typeOf means valueOf opOf opAt classOf lookup formAt
   minus-filled a b u ha hb s =
       full-none (two #SetMinus a b) a b u u u ha ha hb (s .3 .0, s .3 .1 .0) (λ l. (l .2 .0, l .2 .1 .0))
-      (λ ρ. set.minus-full (I .size) u (kit.no-int a Γ u (s .3 .0) ha) (setOf I (means I a Γ) ρ u) (setOf I (means I b Γ) ρ u))
+      (λ ρ. set.minus-full (I .size) u (premise.no-int a Γ u (s .3 .0) ha) (setOf I (means I a Γ) ρ u) (setOf I (means I b Γ) ρ u))
 
   times-filled : (a b : Tree) (u v : Ty) → typeOf a Γ ≡ pow u → typeOf b Γ ≡ pow v → SingleIntegers (two #CProd a b) Γ
       → Filled I σ Γ (two #CProd a b) (⋀ (pair (_≐Ty Γ a) (_≐Ty Γ b)))
   unfolding SingleIntegers NoInterOverNothing typeOf means valueOf opOf opAt classOf lookup formAt
   times-filled a b u v ha hb s =
       full-full (two #CProd a b) a b (prod u v) u v (rw (ha, hb)) ha hb (s .3 .0, s .3 .1 .0) (λ l. (l .2 .0, l .2 .1 .0))
-      (λ ρ. set.times-full (I .size) u v (kit.no-int a Γ u (s .3 .0) ha) (kit.no-int b Γ v (s .3 .1 .0) hb) (setOf I (means I a Γ) ρ u)
+      (λ ρ. set.times-full (I .size) u v (premise.no-int a Γ u (s .3 .0) ha) (premise.no-int b Γ v (s .3 .1 .0) hb) (setOf I (means I a Γ) ρ u)
       (setOf I (means I b Γ) ρ v))
 
   -- ---- S ◁ r, S ⩤ r
@@ -143,14 +144,14 @@ module _ (I : Interpretation) (σ : ℕ → Ty) (Γ : Ctx) where
     domres-filled : SingleIntegers (two #DomRes a r) Γ → Filled I σ Γ (two #DomRes a r) (⋀ (pair (_≐Ty Γ a) (_≐Ty Γ r)))
     unfolding SingleIntegers NoInterOverNothing typeOf means valueOf opOf opAt classOf lookup formAt
     domres-filled s =
-        let n = kit.no-int r Γ (prod u v) (s .3 .1 .0) hr in
+        let n = premise.no-int r Γ (prod u v) (s .3 .1 .0) hr in
         full-full (two #DomRes a r) a r (prod u v) u (prod u v) hr ha hr (s .3 .0, s .3 .1 .0) (λ l. (l .2 .0, l .2 .1 .0))
         (λ ρ. set.domres-full (I .size) u v (n .0) (n .1) (setOf I (means I r Γ) ρ (prod u v)) (setOf I (means I a Γ) ρ u))
 
     domsub-filled : SingleIntegers (two #DomSub a r) Γ → Filled I σ Γ (two #DomSub a r) (⋀ (pair (_≐∅ Γ a) (_≐Ty Γ r)))
     unfolding SingleIntegers NoInterOverNothing typeOf means valueOf opOf opAt classOf lookup formAt
     domsub-filled s =
-        let n = kit.no-int r Γ (prod u v) (s .3 .1 .0) hr in
+        let n = premise.no-int r Γ (prod u v) (s .3 .1 .0) hr in
         none-full (two #DomSub a r) a r (prod u v) u (prod u v) hr ha hr (s .3 .0, s .3 .1 .0) (λ l. (l .2 .0, l .2 .1 .0))
         (λ ρ. set.domsub-full (I .size) u v (n .0) (n .1) (setOf I (means I r Γ) ρ (prod u v)) (setOf I (means I a Γ) ρ u))
 
@@ -159,14 +160,14 @@ module _ (I : Interpretation) (σ : ℕ → Ty) (Γ : Ctx) where
     ranres-filled : SingleIntegers (two #RanRes r b) Γ → Filled I σ Γ (two #RanRes r b) (⋀ (pair (_≐Ty Γ b) (_≐Ty Γ r)))
     unfolding SingleIntegers NoInterOverNothing typeOf means valueOf opOf opAt classOf lookup formAt
     ranres-filled s =
-        let n = kit.no-int r Γ (prod u v) (s .3 .0) hr in
+        let n = premise.no-int r Γ (prod u v) (s .3 .0) hr in
         full-full (two #RanRes r b) b r (prod u v) v (prod u v) hr hb hr (s .3 .1 .0, s .3 .0) (λ l. (l .2 .1 .0, l .2 .0))
         (λ ρ. set.ranres-full (I .size) u v (n .0) (n .1) (setOf I (means I r Γ) ρ (prod u v)) (setOf I (means I b Γ) ρ v))
 
     ransub-filled : SingleIntegers (two #RanSub r b) Γ → Filled I σ Γ (two #RanSub r b) (⋀ (pair (_≐∅ Γ b) (_≐Ty Γ r)))
     unfolding SingleIntegers NoInterOverNothing typeOf means valueOf opOf opAt classOf lookup formAt
     ransub-filled s =
-        let n = kit.no-int r Γ (prod u v) (s .3 .0) hr in
+        let n = premise.no-int r Γ (prod u v) (s .3 .0) hr in
         none-full (two #RanSub r b) b r (prod u v) v (prod u v) hr hb hr (s .3 .1 .0, s .3 .0) (λ l. (l .2 .1 .0, l .2 .0))
         (λ ρ. set.ransub-full (I .size) u v (n .0) (n .1) (setOf I (means I r Γ) ρ (prod u v)) (setOf I (means I b Γ) ρ v))
 
@@ -175,8 +176,8 @@ module _ (I : Interpretation) (σ : ℕ → Ty) (Γ : Ctx) where
       → Filled I σ Γ (two #DProd p q) (⋀ (pair (_≐Ty Γ p) (_≐Ty Γ q)))
   unfolding SingleIntegers NoInterOverNothing typeOf means valueOf opOf opAt classOf lookup formAt
   dprod-filled p q u v w hp hq s =
-      let n = kit.no-int p Γ (prod u v) (s .3 .0) hp in
-      let m = kit.no-int q Γ (prod u w) (s .3 .1 .0) hq in
+      let n = premise.no-int p Γ (prod u v) (s .3 .0) hp in
+      let m = premise.no-int q Γ (prod u w) (s .3 .1 .0) hq in
       full-full (two #DProd p q) p q (prod u (prod v w)) (prod u v) (prod u w) (rw (hp, hq)) hp hq (s .3 .0, s .3 .1 .0) (λ l. (l .2 .0, l .2 .1 .0))
       (λ ρ. set.dprod-full (I .size) u v w (n .0) (n .1) (m .1) (setOf I (means I p Γ) ρ (prod u v)) (setOf I (means I q Γ) ρ (prod u w)))
 
@@ -184,8 +185,8 @@ module _ (I : Interpretation) (σ : ℕ → Ty) (Γ : Ctx) where
       → Filled I σ Γ (two #PProd p q) (⋀ (pair (_≐Ty Γ p) (_≐Ty Γ q)))
   unfolding SingleIntegers NoInterOverNothing typeOf means valueOf opOf opAt classOf lookup formAt
   pprod-filled p q u v w x hp hq s =
-      let n = kit.no-int p Γ (prod u v) (s .3 .0) hp in
-      let m = kit.no-int q Γ (prod w x) (s .3 .1 .0) hq in
+      let n = premise.no-int p Γ (prod u v) (s .3 .0) hp in
+      let m = premise.no-int q Γ (prod w x) (s .3 .1 .0) hq in
       full-full (two #PProd p q) p q (prod (prod u w) (prod v x)) (prod u v) (prod w x) (rw (hp, hq)) hp hq (s .3 .0, s .3 .1 .0)
       (λ l. (l .2 .0, l .2 .1 .0))
       (λ ρ. set.pprod-full (I .size) u v w x (n .0) (n .1) (m .0) (m .1) (setOf I (means I p Γ) ρ (prod u v)) (setOf I (means I q Γ) ρ (prod w x)))
@@ -194,7 +195,7 @@ module _ (I : Interpretation) (σ : ℕ → Ty) (Γ : Ctx) where
   converse-filled : (r : Tree) (u v : Ty) → typeOf r Γ ≡ relation u v → SingleIntegers (one #Converse r) Γ → Filled I σ Γ (one #Converse r) (_≐Ty Γ r)
   unfolding SingleIntegers NoInterOverNothing typeOf means valueOf opOf opAt classOf lookup formAt
   converse-filled r u v hr s =
-      let n = kit.no-int r Γ (prod u v) (s .3 .0) hr in
+      let n = premise.no-int r Γ (prod u v) (s .3 .0) hr in
       filled-by I σ Γ (one #Converse r) r (prod v u) (prod u v) (rw hr) hr (s .3 .0) (λ l. l .2 .0)
       (λ a ρ. set.converse-full (I .size) u v (n .0) (n .1) (setOf I (means I r Γ) ρ (prod u v)))
 
@@ -211,8 +212,9 @@ module _ (I : Interpretation) (σ : ℕ → Ty) (Γ : Ctx) where
       let u = element (typeOf (inters ks) Γ) in
       record {
         formula = (refl, refl);
-        single = kit.many-single I Γ #LAnd (refl, refl) (mapF (_≐Ty Γ) ks) (map-single (_≐Ty Γ) Γ Γ (λ k. kit.full-single I Γ k) ks (s .3));
-        alive = λ a. kit.many-alive I Γ #LAnd (refl, refl) (mapF (_≐Ty Γ) ks) (map-alive I (_≐Ty Γ) Γ Γ (λ k. kit.full-alive I Γ k) ks (a .2));
+        single = premise.many-single I Γ #LAnd (refl, refl) (mapF (_≐Ty Γ) ks) (map-single (_≐Ty Γ) Γ Γ (λ k. premise.full-single I Γ k) ks (s .3));
+        alive = λ a.
+            premise.many-alive I Γ #LAnd (refl, refl) (mapF (_≐Ty Γ) ks) (map-alive I (_≐Ty Γ) Γ Γ (λ k. premise.full-alive I Γ k) ks (a .2));
         says = λ a ρ.
             kit.and-truth I Γ (mapF (_≐Ty Γ) ks) ρ ∙ fulls-all I Γ u ρ ks h ∙ set.cap-full (I .size) u (λ d. setOf I d ρ u) (meansAll I ks Γ);
       }
@@ -225,11 +227,11 @@ module _ (I : Interpretation) (σ : ℕ → Ty) (Γ : Ctx) where
 
     only-single : NoInt u → SingleIntegers only Γ
     unfolding only SingleIntegers typeOf classOf lookup formAt
-    only-single n = (tt, rw (express-type u Γ) n, tt, (kit.type-single u Γ n, tt))
+    only-single n = (tt, rw (express-type u Γ) n, tt, (premise.type-single u Γ n, tt))
 
     only-alive : NoInterOverNothing I only Γ
     unfolding only NoInterOverNothing opOf opAt classOf lookup
-    only-alive = (tt, tt, (kit.type-alive I u Γ, tt))
+    only-alive = (tt, tt, (premise.type-alive I u Γ, tt))
 
     only-set : (ρ : Vals I Γ) → setOf I (means I only Γ) ρ (pow u) ≡ (λ a. equals I (pow u) a (λ x. true) || false)
     unfolding only means valueOf any opOf opAt classOf lookup
@@ -242,9 +244,9 @@ module _ (I : Interpretation) (σ : ℕ → Ty) (Γ : Ctx) where
     kinter-at : SingleIntegers (one #KInter s) Γ → Filled I σ Γ (one #KInter s) (s ≐ only)
     unfolding SingleIntegers NoInterOverNothing typeOf means valueOf opOf opAt classOf lookup formAt
     kinter-at i =
-        let n = kit.no-int s Γ (pow u) (i .3 .0) hs in
-        filled I σ Γ (one #KInter s) (s ≐ only) u (rw hs) (refl, refl) (kit.two-single I Γ #Equal (refl, refl) s only (i .3 .0) (only-single n))
-        (λ a. kit.two-alive I Γ #Equal (refl, refl) s only (a .2 .0) only-alive)
+        let n = premise.no-int s Γ (pow u) (i .3 .0) hs in
+        filled I σ Γ (one #KInter s) (s ≐ only) u (rw hs) (refl, refl) (premise.two-single I Γ #Equal (refl, refl) s only (i .3 .0) (only-single n))
+        (λ a. premise.two-alive I Γ #Equal (refl, refl) s only (a .2 .0) only-alive)
         (λ a ρ. kit.equal-truth I Γ s only (pow (pow u)) hs ρ
         ∙ ap (λ x. equals I (pow (pow u)) (setOf I (means I s Γ) ρ (pow u)) x) (only-set ρ)
         ∙ set.kinter-full (I .size) u n (setOf I (means I s Γ) ρ (pow u)) (member-of a ρ))
@@ -260,14 +262,15 @@ module _ (I : Interpretation) (σ : ℕ → Ty) (Γ : Ctx) where
   qinter-filled xs p e u he s =
       let Δ = push xs Γ in
       filled I σ Γ (bodied #QInter xs p e) (∀ᵖ xs (p ⇒ _≐Ty Δ e)) u he (refl, refl)
-      (kit.bound-single I Γ #Forall (refl, refl) (λ us. refl) xs (p ⇒ _≐Ty Δ e) (s .0) (s .2)
-      (kit.two-single I Δ #LImp (refl, refl) p (_≐Ty Δ e) (s .3 .0) (kit.full-single I Δ e (s .3 .1 .0))))
-      (λ a. kit.bound-alive I Γ #Forall (refl, refl) (λ us. refl) xs (p ⇒ _≐Ty Δ e) (refl, refl)
-      (kit.two-alive I Δ #LImp (refl, refl) p (_≐Ty Δ e) (a .2 .0) (kit.full-alive I Δ e (a .2 .1 .0))))
+      (premise.bound-single I Γ #Forall (refl, refl) (λ us. refl) xs (p ⇒ _≐Ty Δ e) (s .0) (s .2)
+      (premise.two-single I Δ #LImp (refl, refl) p (_≐Ty Δ e) (s .3 .0) (premise.full-single I Δ e (s .3 .1 .0))))
+      (λ a. premise.bound-alive I Γ #Forall (refl, refl) (λ us. refl) xs (p ⇒ _≐Ty Δ e) (refl, refl)
+      (premise.two-alive I Δ #LImp (refl, refl) p (_≐Ty Δ e) (a .2 .0) (premise.full-alive I Δ e (a .2 .1 .0))))
       (λ a ρ. kit.forall-truth I Γ xs (p ⇒ _≐Ty Δ e) ρ
       ∙ ap (λ f. all f (choices I xs Γ ρ)) (fun-ext (λ τ. kit.implies-truth I Δ p (_≐Ty Δ e) τ ∙ ap
       (λ b. not (truth I (means I p Δ) τ) || b) (kit.full-truth I Δ e u he τ)))
-      ∙ set.qinter-full (I .size) u (kit.no-int e Δ u (s .3 .1 .0) he) (truth I (means I p Δ)) (λ τ. setOf I (means I e Δ) τ u) (choices I xs Γ ρ))
+      ∙ set.qinter-full (I .size) u (premise.no-int e Δ u (s .3 .1 .0) he) (truth I (means I p Δ))
+      (λ τ. setOf I (means I e Δ) τ u) (choices I xs Γ ρ))
 
   -- ---- every equation
   capped : (ks : Forest) → Accepted σ (inters ks) Γ expression → Each (pow (element (typeOf (inters ks) Γ))) (typesIn ks Γ)

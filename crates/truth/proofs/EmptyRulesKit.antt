@@ -12,13 +12,14 @@ use Rattle.frame.specs.Operators.{#RelImage, #FComp, #BComp, #BInter, #SubsetEq
 use Rattle.frame.specs.Places.{Ctx}
 use Rattle.typing.specs.Typing.{relation, typeOf}
 use Rattle.rules.specs.Equations.{⊥ᵖ, ⋀, ⋁, _⊆_, dom, ran, inters, _≐∅}
 use Rattle.meaning.specs.Lists.{any, all}
 use Rattle.meaning.specs.Operations.{Operator, operator, domain, range, image, forward, backward, opAt, opOf}
 use Rattle.meaning.specs.Meaning.{Interpretation, Vals, truth, val, setOf, relOf, some, every, onward, backwards, holds, valueOf, means}
 use Rattle.meaning.specs.Premises.{SingleIntegers, NoInterOverNothing}
 use Rattle.meaning.proofs.Lists.{not-and}
 use Rattle.meaning.proofs.Kit as kit
-use Rattle.meaning.proofs.Emptied.{Emptied, emptied, emptied-by}
+use Rattle.truth.proofs.Premises as premise
+use Rattle.truth.proofs.Emptied.{Emptied, emptied, emptied-by}
 
 module _ (Γ : Ctx) (r : Tree) (u v : Ty) (h : typeOf r Γ ≡ relation u v) where
   pub dom-type : typeOf (dom r) Γ ≡ pow u
@@ -31,11 +32,11 @@ module _ (Γ : Ctx) (r : Tree) (u v : Ty) (h : typeOf r Γ ≡ relation u v) whe
 
   pub dom-single : SingleIntegers r Γ → SingleIntegers (dom r) Γ
   unfolding SingleIntegers typeOf classOf lookup formAt
-  dom-single s = (tt, rw h (kit.no-int r Γ (prod u v) s h .0), tt, (s, tt))
+  dom-single s = (tt, rw h (premise.no-int r Γ (prod u v) s h .0), tt, (s, tt))
 
   pub ran-single : SingleIntegers r Γ → SingleIntegers (ran r) Γ
   unfolding SingleIntegers typeOf classOf lookup formAt
-  ran-single s = (tt, rw h (kit.no-int r Γ (prod u v) s h .1), tt, (s, tt))
+  ran-single s = (tt, rw h (premise.no-int r Γ (prod u v) s h .1), tt, (s, tt))
 
 module _ (I : Interpretation) (Γ : Ctx) where
   -- ---- the operator shut, then opened
@@ -88,7 +89,7 @@ module _ (I : Interpretation) (Γ : Ctx) where
   module _ (a b : Tree) where
     meet-single : SingleIntegers a Γ → SingleIntegers b Γ → SingleIntegers (inters (pair a b)) Γ
     unfolding SingleIntegers typeOf classOf lookup formAt
-    meet-single s r = (tt, kit.single-type a Γ s, tt, (s, (r, tt)))
+    meet-single s r = (tt, premise.single-type a Γ s, tt, (s, (r, tt)))
 
     meet-type : (u : Ty) → typeOf a Γ ≡ pow u → typeOf (inters (pair a b)) Γ ≡ pow u
     unfolding typeOf classOf lookup formAt
@@ -112,7 +113,7 @@ module _ (I : Interpretation) (Γ : Ctx) where
           (setOf I (means I e Γ) ρ w)) → Emptied I σ Γ e (_≐∅ Γ (inters (pair a b)))
       meet-emptied m =
           emptied-by I σ Γ e (inters (pair a b)) w u he (meet-type a b u ha) (meet-single a b s r)
-          (λ x. kit.two-alive I Γ #BInter (refl, refl) a b (k x) (l x))
+          (λ x. premise.two-alive I Γ #BInter (refl, refl) a b (k x) (l x))
           (λ x ρ. ap (some I u) (meet-is a b u ρ) ∙ m ρ)
 
       -- A ⊆ B
@@ -120,8 +121,8 @@ module _ (I : Interpretation) (Γ : Ctx) where
           (some I w (setOf I (means I e Γ) ρ w))) → Emptied I σ Γ e (a ⊆ b)
       unfolding classOf lookup formAt
       within-emptied m =
-          emptied I σ Γ e (a ⊆ b) w he (refl, refl) (kit.two-single I Γ #SubsetEq (refl, refl) a b s r)
-          (λ x. kit.two-alive I Γ #SubsetEq (refl, refl) a b (k x) (l x))
+          emptied I σ Γ e (a ⊆ b) w he (refl, refl) (premise.two-single I Γ #SubsetEq (refl, refl) a b s r)
+          (λ x. premise.two-alive I Γ #SubsetEq (refl, refl) a b (k x) (l x))
           (λ x ρ. kit.subset-truth I Γ a b u ha ρ ∙ m ρ)
 
       -- A = ∅ ∨ B = ∅
@@ -131,7 +132,7 @@ module _ (I : Interpretation) (Γ : Ctx) where
       unfolding classOf lookup formAt
       either-emptied v hb m =
           emptied I σ Γ e (⋁ (pair (_≐∅ Γ a) (_≐∅ Γ b))) w he (refl, refl)
-          (kit.two-single I Γ #LOr (refl, refl) (_≐∅ Γ a) (_≐∅ Γ b) (kit.empty-single I Γ a s) (kit.empty-single I Γ b r))
-          (λ x. kit.two-alive I Γ #LOr (refl, refl) (_≐∅ Γ a) (_≐∅ Γ b) (kit.empty-alive I Γ a (k x)) (kit.empty-alive I Γ b (l x)))
+          (premise.two-single I Γ #LOr (refl, refl) (_≐∅ Γ a) (_≐∅ Γ b) (premise.empty-single I Γ a s) (premise.empty-single I Γ b r))
+          (λ x. premise.two-alive I Γ #LOr (refl, refl) (_≐∅ Γ a) (_≐∅ Γ b) (premise.empty-alive I Γ a (k x)) (premise.empty-alive I Γ b (l x)))
           (λ x ρ. or-two-truth (_≐∅ Γ a) (_≐∅ Γ b) ρ ∙ ap₂ _||_ (kit.empty-truth I Γ a u ha ρ) (kit.empty-truth I Γ b v hb ρ)
           ∙ sym (not-and (some I u (setOf I (means I a Γ) ρ u)) (some I v (setOf I (means I b Γ) ρ v))) ∙ ap not (sym (m ρ)))

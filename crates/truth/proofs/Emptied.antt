@@ -14,12 +14,13 @@ use Rattle.typing.specs.Typing.{element, typeOf}
 use Rattle.typing.specs.Accepted.{Accepted}
 use Rattle.typing.proofs.TypeExpression.{express-type}
 use Rattle.rules.specs.Equations.{_≐_, _⊆_, ∅, Ty-of, Emptiness, is-∅, in-∅, ∅-is, Fullness, is-Ty, Ty-is, _≐∅, _≐Ty}
 use Rattle.meaning.specs.Operations.{opAt, opOf}
 use Rattle.meaning.specs.Meaning.{Interpretation, Vals, truth, setOf, some, every, equals, means}
 use Rattle.meaning.specs.Premises.{SingleIntegers, NoInterOverNothing}
 use Rattle.meaning.proofs.Sets.{is-empty, empty-is, no-members, full-is}
-use Rattle.meaning.proofs.Sound.{Formula, Keeps, keeps-truth}
 use Rattle.meaning.proofs.Kit as kit
+use Rattle.truth.proofs.Sound.{Formula, Keeps, keeps-truth}
+use Rattle.truth.proofs.Premises as premise
 
 module _ (I : Interpretation) (σ : ℕ → Ty) (Γ : Ctx) where
   -- new says that E is empty
@@ -55,8 +56,8 @@ module _ (I : Interpretation) (σ : ℕ → Ty) (Γ : Ctx) where
     unfolding classOf lookup formAt
     emptied-by k = record {
       formula = (refl, refl);
-      single = kit.empty-single I Γ f s;
-      alive = λ a. kit.empty-alive I Γ f (l a);
+      single = premise.empty-single I Γ f s;
+      alive = λ a. premise.empty-alive I Γ f (l a);
       says = λ a ρ. rw he (kit.empty-truth I Γ f v hf ρ ∙ ap not (k a ρ));
     }
 
@@ -65,8 +66,8 @@ module _ (I : Interpretation) (σ : ℕ → Ty) (Γ : Ctx) where
     unfolding classOf lookup formAt
     filled-by k = record {
       formula = (refl, refl);
-      single = kit.full-single I Γ f s;
-      alive = λ a. kit.full-alive I Γ f (l a);
+      single = premise.full-single I Γ f s;
+      alive = λ a. premise.full-alive I Γ f (l a);
       says = λ a ρ. rw he (kit.full-truth I Γ f v hf ρ ∙ k a ρ);
     }
 

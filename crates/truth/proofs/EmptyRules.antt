@@ -33,16 +33,17 @@ use Rattle.frame.specs.Operators.{
 use Rattle.frame.specs.Places.{Ctx}
 use Rattle.typing.specs.Typing.{element, relation, typeOf}
 use Rattle.rules.specs.Equations.{⊥ᵖ, ¬ᵖ, _⇔_, ⋀, ⋁, _⊆_, ext, dom, ran, inters, ∅, _≐∅}
 use Rattle.meaning.specs.Lists.{any}
 use Rattle.meaning.specs.Operations.{opAt, opOf}
 use Rattle.meaning.specs.Meaning.{Interpretation, Vals, setOf, relOf, some, every, holds, valueOf, means}
 use Rattle.meaning.specs.Premises.{SingleIntegers, NoInterOverNothing}
 use Rattle.meaning.proofs.Sets.{within-is}
-use Rattle.meaning.proofs.EmptySets as set
-use Rattle.meaning.proofs.EmptySetsMore as more
 use Rattle.meaning.proofs.Kit as kit
-use Rattle.meaning.proofs.Emptied.{Emptied, emptied, emptied-by}
-use Rattle.meaning.proofs.EmptyRulesKit as empty
+use Rattle.truth.proofs.EmptySets as set
+use Rattle.truth.proofs.EmptySetsMore as more
+use Rattle.truth.proofs.Premises as premise
+use Rattle.truth.proofs.Emptied.{Emptied, emptied, emptied-by}
+use Rattle.truth.proofs.EmptyRulesKit as empty
 
 module _ (I : Interpretation) (σ : ℕ → Ty) (Γ : Ctx) where
   -- ---- two sets
@@ -57,7 +58,7 @@ module _ (I : Interpretation) (σ : ℕ → Ty) (Γ : Ctx) where
     unfolding SingleIntegers NoInterOverNothing means valueOf typeOf opOf opAt classOf lookup formAt
     times-emptied s =
         empty.either-emptied I Γ σ (two #CProd a b) (prod u v) (rw (ha, hb)) a b u ha (s .3 .0) (s .3 .1 .0) (λ l. l .2 .0) (λ l. l .2 .1 .0) v hb
-        (λ ρ. set.times-some (I .size) u v (kit.no-int a Γ u (s .3 .0) ha) (kit.no-int b Γ v (s .3 .1 .0) hb) (setOf I (means I a Γ) ρ u)
+        (λ ρ. set.times-some (I .size) u v (premise.no-int a Γ u (s .3 .0) ha) (premise.no-int b Γ v (s .3 .1 .0) hb) (setOf I (means I a Γ) ρ u)
         (setOf I (means I b Γ) ρ v))
 
   -- ---- a set and a relation
@@ -65,29 +66,29 @@ module _ (I : Interpretation) (σ : ℕ → Ty) (Γ : Ctx) where
     pub domres-emptied : SingleIntegers (two #DomRes s r) Γ → Emptied I σ Γ (two #DomRes s r) (_≐∅ Γ (inters (pair (dom r) s)))
     unfolding SingleIntegers NoInterOverNothing means valueOf typeOf opOf opAt classOf lookup formAt
     domres-emptied f =
-        let n = kit.no-int r Γ (prod u v) (f .3 .1 .0) hr in
+        let n = premise.no-int r Γ (prod u v) (f .3 .1 .0) hr in
         empty.meet-emptied I Γ σ (two #DomRes s r) (prod u v) hr (dom r) s u (empty.dom-type Γ r u v hr)
         (empty.dom-single Γ r u v hr (f .3 .1 .0)) (f .3 .0)
-        (λ l. kit.one-alive I Γ #KDom (refl, refl) r (l .2 .1 .0)) (λ l. l .2 .0)
+        (λ l. premise.one-alive I Γ #KDom (refl, refl) r (l .2 .1 .0)) (λ l. l .2 .0)
         (λ ρ. ap (λ d. some I u (λ x. d x && setOf I (means I s Γ) ρ u x)) (empty.dom-is I Γ r u v hr ρ)
         ∙ set.domres-some (I .size) u v (n .0) (n .1) (setOf I (means I s Γ) ρ u) (setOf I (means I r Γ) ρ (prod u v)))
 
     pub domsub-emptied : SingleIntegers (two #DomSub s r) Γ → Emptied I σ Γ (two #DomSub s r) (dom r ⊆ s)
     unfolding SingleIntegers NoInterOverNothing means valueOf typeOf opOf opAt classOf lookup formAt
     domsub-emptied f =
-        let n = kit.no-int r Γ (prod u v) (f .3 .1 .0) hr in
+        let n = premise.no-int r Γ (prod u v) (f .3 .1 .0) hr in
         empty.within-emptied I Γ σ (two #DomSub s r) (prod u v) hr (dom r) s u (empty.dom-type Γ r u v hr)
         (empty.dom-single Γ r u v hr (f .3 .1 .0)) (f .3 .0)
-        (λ l. kit.one-alive I Γ #KDom (refl, refl) r (l .2 .1 .0)) (λ l. l .2 .0)
+        (λ l. premise.one-alive I Γ #KDom (refl, refl) r (l .2 .1 .0)) (λ l. l .2 .0)
         (λ ρ. ap (λ d. every I u (λ x. not (d x) || setOf I (means I s Γ) ρ u x)) (empty.dom-is I Γ r u v hr ρ)
         ∙ set.domsub-none (I .size) u v (n .0) (n .1) (setOf I (means I s Γ) ρ u) (setOf I (means I r Γ) ρ (prod u v)))
 
     pub image-emptied : SingleIntegers (two #RelImage r s) Γ → Emptied I σ Γ (two #RelImage r s) (_≐∅ Γ (two #DomRes s r))
     unfolding SingleIntegers NoInterOverNothing means valueOf typeOf opOf opAt classOf lookup formAt
     image-emptied f =
-        let n = kit.no-int r Γ (prod u v) (f .3 .0) hr in
+        let n = premise.no-int r Γ (prod u v) (f .3 .0) hr in
         emptied-by I σ Γ (two #RelImage r s) (two #DomRes s r) v (prod u v) (rw hr) hr
-        (tt, kit.single-type r Γ (f .3 .0), tt, (f .3 .1 .0, (f .3 .0, tt)))
+        (tt, premise.single-type r Γ (f .3 .0), tt, (f .3 .1 .0, (f .3 .0, tt)))
         (λ l. (tt, tt, (l .2 .1 .0, (l .2 .0, tt))))
         (λ l ρ. set.image-some (I .size) u v (n .0) (n .1) (setOf I (means I s Γ) ρ u) (setOf I (means I r Γ) ρ (prod u v))
         ∙ ap (some I v) (sym (empty.image-is I Γ r u v hr ρ s)))
@@ -96,20 +97,20 @@ module _ (I : Interpretation) (σ : ℕ → Ty) (Γ : Ctx) where
     pub ranres-emptied : SingleIntegers (two #RanRes r s) Γ → Emptied I σ Γ (two #RanRes r s) (_≐∅ Γ (inters (pair (ran r) s)))
     unfolding SingleIntegers NoInterOverNothing means valueOf typeOf opOf opAt classOf lookup formAt
     ranres-emptied f =
-        let n = kit.no-int r Γ (prod u v) (f .3 .0) hr in
+        let n = premise.no-int r Γ (prod u v) (f .3 .0) hr in
         empty.meet-emptied I Γ σ (two #RanRes r s) (prod u v) hr (ran r) s v (empty.ran-type Γ r u v hr)
         (empty.ran-single Γ r u v hr (f .3 .0)) (f .3 .1 .0)
-        (λ l. kit.one-alive I Γ #KRan (refl, refl) r (l .2 .0)) (λ l. l .2 .1 .0)
+        (λ l. premise.one-alive I Γ #KRan (refl, refl) r (l .2 .0)) (λ l. l .2 .1 .0)
         (λ ρ. ap (λ d. some I v (λ x. d x && setOf I (means I s Γ) ρ v x)) (empty.ran-is I Γ r u v hr ρ)
         ∙ set.ranres-some (I .size) u v (n .0) (n .1) (setOf I (means I r Γ) ρ (prod u v)) (setOf I (means I s Γ) ρ v))
 
     pub ransub-emptied : SingleIntegers (two #RanSub r s) Γ → Emptied I σ Γ (two #RanSub r s) (ran r ⊆ s)
     unfolding SingleIntegers NoInterOverNothing means valueOf typeOf opOf opAt classOf lookup formAt
     ransub-emptied f =
-        let n = kit.no-int r Γ (prod u v) (f .3 .0) hr in
+        let n = premise.no-int r Γ (prod u v) (f .3 .0) hr in
         empty.within-emptied I Γ σ (two #RanSub r s) (prod u v) hr (ran r) s v (empty.ran-type Γ r u v hr)
         (empty.ran-single Γ r u v hr (f .3 .0)) (f .3 .1 .0)
-        (λ l. kit.one-alive I Γ #KRan (refl, refl) r (l .2 .0)) (λ l. l .2 .1 .0)
+        (λ l. premise.one-alive I Γ #KRan (refl, refl) r (l .2 .0)) (λ l. l .2 .1 .0)
         (λ ρ. ap (λ d. every I v (λ x. not (d x) || setOf I (means I s Γ) ρ v x)) (empty.ran-is I Γ r u v hr ρ)
         ∙ set.ransub-none (I .size) u v (n .0) (n .1) (setOf I (means I r Γ) ρ (prod u v)) (setOf I (means I s Γ) ρ v))
 
@@ -119,11 +120,11 @@ module _ (I : Interpretation) (σ : ℕ → Ty) (Γ : Ctx) where
         → Emptied I σ Γ (two #DProd p q) (_≐∅ Γ (inters (pair (dom p) (dom q))))
     unfolding SingleIntegers NoInterOverNothing means valueOf typeOf opOf opAt classOf lookup formAt
     dprod-emptied hp hq f =
-        let n = kit.no-int p Γ (prod u v) (f .3 .0) hp in
-        let m = kit.no-int q Γ (prod u w) (f .3 .1 .0) hq in
+        let n = premise.no-int p Γ (prod u v) (f .3 .0) hp in
+        let m = premise.no-int q Γ (prod u w) (f .3 .1 .0) hq in
         empty.meet-emptied I Γ σ (two #DProd p q) (prod u (prod v w)) (rw (hp, hq)) (dom p) (dom q) u (empty.dom-type Γ p u v hp)
         (empty.dom-single Γ p u v hp (f .3 .0)) (empty.dom-single Γ q u w hq (f .3 .1 .0))
-        (λ l. kit.one-alive I Γ #KDom (refl, refl) p (l .2 .0)) (λ l. kit.one-alive I Γ #KDom (refl, refl) q (l .2 .1 .0))
+        (λ l. premise.one-alive I Γ #KDom (refl, refl) p (l .2 .0)) (λ l. premise.one-alive I Γ #KDom (refl, refl) q (l .2 .1 .0))
         (λ ρ. ap₂ (λ d e. some I u (λ x. d x && e x)) (empty.dom-is I Γ p u v hp ρ) (empty.dom-is I Γ q u w hq ρ)
         ∙ set.dprod-some (I .size) u v w (n .0) (n .1) (m .1) (setOf I (means I p Γ) ρ (prod u v)) (setOf I (means I q Γ) ρ (prod u w)))
 
@@ -134,11 +135,11 @@ module _ (I : Interpretation) (σ : ℕ → Ty) (Γ : Ctx) where
         (λ a. some I v (λ z. relOf I (means I p Γ) ρ u v (a .0) z && relOf I (means I q Γ) ρ v w z (a .1))))
         → Emptied I σ Γ e (_≐∅ Γ (inters (pair (ran p) (dom q))))
     composed e he hp hq s r k l is =
-        let n = kit.no-int p Γ (prod u v) s hp in
-        let m = kit.no-int q Γ (prod v w) r hq in
+        let n = premise.no-int p Γ (prod u v) s hp in
+        let m = premise.no-int q Γ (prod v w) r hq in
         empty.meet-emptied I Γ σ e (prod u w) he (ran p) (dom q) v (empty.ran-type Γ p u v hp) (empty.ran-single Γ p u v hp s)
         (empty.dom-single Γ q v w hq r)
-        (λ x. kit.one-alive I Γ #KRan (refl, refl) p (k x)) (λ x. kit.one-alive I Γ #KDom (refl, refl) q (l x))
+        (λ x. premise.one-alive I Γ #KRan (refl, refl) p (k x)) (λ x. premise.one-alive I Γ #KDom (refl, refl) q (l x))
         (λ ρ. ap₂ (λ d f. some I v (λ x. d x && f x)) (empty.ran-is I Γ p u v hp ρ) (empty.dom-is I Γ q v w hq ρ)
         ∙ set.fcomp-some (I .size) u v w (n .0) (n .1) (m .1) (setOf I (means I p Γ) ρ (prod u v)) (setOf I (means I q Γ) ρ (prod v w)) ∙ ap
         (some I (prod u w)) (sym (is ρ)))
@@ -162,8 +163,8 @@ module _ (I : Interpretation) (σ : ℕ → Ty) (Γ : Ctx) where
       → Emptied I σ Γ (two #PProd p q) (⋁ (pair (_≐∅ Γ p) (_≐∅ Γ q)))
   unfolding SingleIntegers NoInterOverNothing means valueOf typeOf opOf opAt classOf lookup formAt
   pprod-emptied p q u v w z hp hq f =
-      let n = kit.no-int p Γ (prod u v) (f .3 .0) hp in
-      let m = kit.no-int q Γ (prod w z) (f .3 .1 .0) hq in
+      let n = premise.no-int p Γ (prod u v) (f .3 .0) hp in
+      let m = premise.no-int q Γ (prod w z) (f .3 .1 .0) hq in
       empty.either-emptied I Γ σ (two #PProd p q) (prod (prod u w) (prod v z)) (rw (hp, hq)) p q (prod u v) hp (f .3 .0) (f .3 .1 .0)
       (λ l. l .2 .0) (λ l. l .2 .1 .0) (prod w z) hq
       (λ ρ. set.pprod-some (I .size) u w v z (n .0) (m .0) (n .1) (m .1) (setOf I (means I p Γ) ρ (prod u v)) (setOf I (means I q Γ) ρ (prod w z)))
@@ -173,21 +174,21 @@ module _ (I : Interpretation) (σ : ℕ → Ty) (Γ : Ctx) where
     pub dom-emptied : SingleIntegers (dom r) Γ → Emptied I σ Γ (dom r) (_≐∅ Γ r)
     unfolding SingleIntegers NoInterOverNothing opOf opAt classOf lookup formAt
     dom-emptied f =
-        let n = kit.no-int r Γ (prod u v) (f .3 .0) hr in
+        let n = premise.no-int r Γ (prod u v) (f .3 .0) hr in
         emptied-by I σ Γ (dom r) r u (prod u v) (empty.dom-type Γ r u v hr) hr (f .3 .0) (λ l. l .2 .0)
         (λ l ρ. set.dom-some (I .size) u v (n .0) (n .1) (setOf I (means I r Γ) ρ (prod u v)) ∙ ap (some I u) (sym (empty.dom-is I Γ r u v hr ρ)))
 
     pub ran-emptied : SingleIntegers (ran r) Γ → Emptied I σ Γ (ran r) (_≐∅ Γ r)
     unfolding SingleIntegers NoInterOverNothing opOf opAt classOf lookup formAt
     ran-emptied f =
-        let n = kit.no-int r Γ (prod u v) (f .3 .0) hr in
+        let n = premise.no-int r Γ (prod u v) (f .3 .0) hr in
         emptied-by I σ Γ (ran r) r v (prod u v) (empty.ran-type Γ r u v hr) hr (f .3 .0) (λ l. l .2 .0)
         (λ l ρ. set.ran-some (I .size) u v (n .0) (n .1) (setOf I (means I r Γ) ρ (prod u v)) ∙ ap (some I v) (sym (empty.ran-is I Γ r u v hr ρ)))
 
     pub converse-emptied : SingleIntegers (one #Converse r) Γ → Emptied I σ Γ (one #Converse r) (_≐∅ Γ r)
     unfolding SingleIntegers NoInterOverNothing means valueOf typeOf opOf opAt classOf lookup formAt
     converse-emptied f =
-        let n = kit.no-int r Γ (prod u v) (f .3 .0) hr in
+        let n = premise.no-int r Γ (prod u v) (f .3 .0) hr in
         emptied-by I σ Γ (one #Converse r) r (prod v u) (prod u v) (rw hr) hr (f .3 .0) (λ l. l .2 .0)
         (λ l ρ. set.converse-some (I .size) u v (n .0) (n .1) (setOf I (means I r Γ) ρ (prod u v)))
 
@@ -197,19 +198,19 @@ module _ (I : Interpretation) (σ : ℕ → Ty) (Γ : Ctx) where
     unfolding SingleIntegers means valueOf typeOf opOf opAt classOf lookup formAt
     pow-emptied f =
         empty.false-emptied I Γ σ (one #Pow s) (pow u) (rw hs)
-        (λ ρ. set.pow-some (I .size) u (kit.no-int s Γ u (f .3 .0) hs) (setOf I (means I s Γ) ρ u))
+        (λ ρ. set.pow-some (I .size) u (premise.no-int s Γ u (f .3 .0) hs) (setOf I (means I s Γ) ρ u))
 
     pub pow1-emptied : SingleIntegers (one #Pow1 s) Γ → Emptied I σ Γ (one #Pow1 s) (_≐∅ Γ s)
     unfolding SingleIntegers NoInterOverNothing means valueOf typeOf opOf opAt classOf lookup formAt
     pow1-emptied f =
         emptied-by I σ Γ (one #Pow1 s) s (pow u) u (rw hs) hs (f .3 .0) (λ l. l .2 .0)
-        (λ l ρ. set.pow1-some (I .size) u (kit.no-int s Γ u (f .3 .0) hs) (setOf I (means I s Γ) ρ u))
+        (λ l ρ. set.pow1-some (I .size) u (premise.no-int s Γ u (f .3 .0) hs) (setOf I (means I s Γ) ρ u))
 
   pub union-emptied : (s : Tree) (u : Ty) → typeOf s Γ ≡ pow (pow u) → SingleIntegers (one #KUnion s) Γ
       → Emptied I σ Γ (one #KUnion s) (s ⊆ ext (sole (∅ (element (typeOf s Γ)))))
   unfolding SingleIntegers NoInterOverNothing means valueOf typeOf opOf opAt classOf lookup formAt any
   union-emptied s u hs f =
-      let n = kit.no-int s Γ (pow u) (f .3 .0) hs in
+      let n = premise.no-int s Γ (pow u) (f .3 .0) hs in
       empty.within-emptied I Γ σ (one #KUnion s) u (rw hs) s (ext (sole (∅ (element (typeOf s Γ))))) (pow u) hs (f .3 .0)
       (rw hs (tt, n, tt, (((n, tt), n, tt, tt), tt))) (λ l. l .2 .0) (λ l. (tt, tt, ((tt, tt, tt), tt)))
       (λ ρ. set.kunion-none (I .size) u n (setOf I (means I s Γ) ρ (pow u)))
@@ -220,13 +221,13 @@ module _ (I : Interpretation) (σ : ℕ → Ty) (Γ : Ctx) where
     unfolding SingleIntegers NoInterOverNothing means holds valueOf typeOf opOf opAt classOf lookup formAt
     srel-emptied f =
         emptied I σ Γ (two #SRel a b) (⋀ (pair (_≐∅ Γ a) (¬ᵖ (_≐∅ Γ b)))) (pow (prod u v)) (rw (ha, hb)) (refl, refl)
-        (kit.two-single I Γ #LAnd (refl, refl) (_≐∅ Γ a) (¬ᵖ (_≐∅ Γ b)) (kit.empty-single I Γ a (f .3 .0))
-        (kit.one-single I Γ #Not (refl, refl) (_≐∅ Γ b) (kit.empty-single I Γ b (f .3 .1 .0))))
-        (λ l. kit.two-alive I Γ #LAnd (refl, refl) (_≐∅ Γ a) (¬ᵖ (_≐∅ Γ b)) (kit.empty-alive I Γ a (l .2 .0))
-        (kit.one-alive I Γ #Not (refl, refl) (_≐∅ Γ b) (kit.empty-alive I Γ b (l .2 .1 .0))))
+        (premise.two-single I Γ #LAnd (refl, refl) (_≐∅ Γ a) (¬ᵖ (_≐∅ Γ b)) (premise.empty-single I Γ a (f .3 .0))
+        (premise.one-single I Γ #Not (refl, refl) (_≐∅ Γ b) (premise.empty-single I Γ b (f .3 .1 .0))))
+        (λ l. premise.two-alive I Γ #LAnd (refl, refl) (_≐∅ Γ a) (¬ᵖ (_≐∅ Γ b)) (premise.empty-alive I Γ a (l .2 .0))
+        (premise.one-alive I Γ #Not (refl, refl) (_≐∅ Γ b) (premise.empty-alive I Γ b (l .2 .1 .0))))
         (λ l ρ. empty.and-two-truth I Γ (_≐∅ Γ a) (¬ᵖ (_≐∅ Γ b)) ρ ∙ ap₂ _&&_ (kit.empty-truth I Γ a u ha ρ) (ap not (kit.empty-truth I Γ b v hb ρ))
         ∙ law (some I u (setOf I (means I a Γ) ρ u)) (some I v (setOf I (means I b Γ) ρ v))
-        ∙ ap not (sym (more.srel-some (I .size) u v (kit.no-int a Γ u (f .3 .0) ha) (kit.no-int b Γ v (f .3 .1 .0) hb)
+        ∙ ap not (sym (more.srel-some (I .size) u v (premise.no-int a Γ u (f .3 .0) ha) (premise.no-int b Γ v (f .3 .1 .0) hb)
         (setOf I (means I a Γ) ρ u) (setOf I (means I b Γ) ρ v))))
       where
         law : (x y : Bool) → (not x && not (not y)) ≡ not (not y || x)
@@ -239,13 +240,13 @@ module _ (I : Interpretation) (σ : ℕ → Ty) (Γ : Ctx) where
     unfolding SingleIntegers NoInterOverNothing means holds valueOf typeOf opOf opAt classOf lookup formAt
     strel-emptied f =
         emptied I σ Γ (two #STRel a b) (_≐∅ Γ a ⇔ ¬ᵖ (_≐∅ Γ b)) (pow (prod u v)) (rw (ha, hb)) (refl, refl)
-        (kit.two-single I Γ #LEqv (refl, refl) (_≐∅ Γ a) (¬ᵖ (_≐∅ Γ b)) (kit.empty-single I Γ a (f .3 .0))
-        (kit.one-single I Γ #Not (refl, refl) (_≐∅ Γ b) (kit.empty-single I Γ b (f .3 .1 .0))))
-        (λ l. kit.two-alive I Γ #LEqv (refl, refl) (_≐∅ Γ a) (¬ᵖ (_≐∅ Γ b)) (kit.empty-alive I Γ a (l .2 .0))
-        (kit.one-alive I Γ #Not (refl, refl) (_≐∅ Γ b) (kit.empty-alive I Γ b (l .2 .1 .0))))
+        (premise.two-single I Γ #LEqv (refl, refl) (_≐∅ Γ a) (¬ᵖ (_≐∅ Γ b)) (premise.empty-single I Γ a (f .3 .0))
+        (premise.one-single I Γ #Not (refl, refl) (_≐∅ Γ b) (premise.empty-single I Γ b (f .3 .1 .0))))
+        (λ l. premise.two-alive I Γ #LEqv (refl, refl) (_≐∅ Γ a) (¬ᵖ (_≐∅ Γ b)) (premise.empty-alive I Γ a (l .2 .0))
+        (premise.one-alive I Γ #Not (refl, refl) (_≐∅ Γ b) (premise.empty-alive I Γ b (l .2 .1 .0))))
         (λ l ρ. kit.equiv-truth I Γ (_≐∅ Γ a) (¬ᵖ (_≐∅ Γ b)) ρ ∙ ap₂ Bool·beq (kit.empty-truth I Γ a u ha ρ) (ap not (kit.empty-truth I Γ b v hb ρ))
         ∙ law (some I u (setOf I (means I a Γ) ρ u)) (some I v (setOf I (means I b Γ) ρ v))
-        ∙ ap not (sym (more.strel-some (I .size) u v (kit.no-int a Γ u (f .3 .0) ha) (kit.no-int b Γ v (f .3 .1 .0) hb)
+        ∙ ap not (sym (more.strel-some (I .size) u v (premise.no-int a Γ u (f .3 .0) ha) (premise.no-int b Γ v (f .3 .1 .0) hb)
         (setOf I (means I a Γ) ρ u) (setOf I (means I b Γ) ρ v))))
       where
         law : (x y : Bool) → Bool·beq (not x) (not (not y)) ≡ not (Bool·beq x y)

@@ -16,16 +16,17 @@ use Rattle.typing.proofs.Members.{in-left}
 use Rattle.rules.specs.Equations.{¬ᵖ, Among, Junction, conjunction, disjunction, Dropped, done, literal, repeated}
 use Rattle.rules.proofs.Nodes.{Every}
 use Rattle.rules.proofs.Operands.{dropped-every}
 use Rattle.meaning.specs.Lists.{any, all}
 use Rattle.meaning.specs.Operations.{opAt, opOf}
 use Rattle.meaning.specs.Meaning.{Interpretation, Vals, Den, truth, holds, means, meansAll}
 use Rattle.meaning.specs.Premises.{SingleIntegers, NoInterOverNothing}
 use Rattle.meaning.proofs.Lists.{so-any, so-all, clash, not-so, all-mid, any-mid}
-use Rattle.meaning.proofs.Sound.{Formula, Keeps, keeps-truth, accepted-formula}
-use Rattle.meaning.proofs.Kit.{NoInter}
 use Rattle.meaning.proofs.Kit as kit
-use Rattle.meaning.proofs.Many.{single-each, single-all, alive-each, alive-all}
-use Rattle.meaning.proofs.Many as many
+use Rattle.truth.proofs.Sound.{Formula, Keeps, keeps-truth, accepted-formula}
+use Rattle.truth.proofs.Premises.{NoInter}
+use Rattle.truth.proofs.Premises as premise
+use Rattle.truth.proofs.Many.{single-each, single-all, alive-each, alive-all}
+use Rattle.truth.proofs.Many as many
 
 -- ---- truth values: d decides a junction (false ∧, true ∨)
 abbrev both : Bool → Bool → Bool → Bool
@@ -164,8 +165,8 @@ module _ (I : Interpretation) (σ : ℕ → Ty) (Γ : Ctx) where
 
     decided-by : ((ρ : Vals I Γ) → says (f .by) ρ ps ≡ f .by) → Keeps I Γ (many g ps) (leaf d)
     decided-by h =
-        keeps-truth I (many g ps) (leaf d) Γ (f .joins .formula) (f .decides .formula) (kit.leaf-single I Γ d (f .decides .formula))
-        (λ a. kit.leaf-alive I Γ d (f .decides .other))
+        keeps-truth I (many g ps) (leaf d) Γ (f .joins .formula) (f .decides .formula) (premise.leaf-single I Γ d (f .decides .formula))
+        (λ a. premise.leaf-alive I Γ d (f .decides .other))
         (λ a ρ. f .joins .truly ps ρ ∙ h ρ ∙ sym (f .decides .truly ρ))
 
     pub junction-decided-keeps : Among (leaf d) ps → Keeps I Γ (many g ps) (leaf d)
@@ -180,15 +181,15 @@ module _ (I : Interpretation) (σ : ℕ → Ty) (Γ : Ctx) where
 
     pub junction-none-keeps : Dropped n ps nil → Keeps I Γ (many g ps) (leaf n)
     junction-none-keeps r =
-        keeps-truth I (many g ps) (leaf n) Γ (f .joins .formula) (f .neutral .formula) (kit.leaf-single I Γ n (f .neutral .formula))
-        (λ a. kit.leaf-alive I Γ n (f .neutral .other))
+        keeps-truth I (many g ps) (leaf n) Γ (f .joins .formula) (f .neutral .formula) (premise.leaf-single I Γ n (f .neutral .formula))
+        (λ a. premise.leaf-alive I Γ n (f .neutral .other))
         (λ a ρ. f .joins .truly ps ρ ∙ dropped-says n (f .by) ρ (f .neutral .truly ρ) r ∙ none-says (f .by) ρ ∙ sym (f .neutral .truly ρ))
 
     left-single : (ls : Forest) → Dropped n ps ls → SingleIntegers (many g ps) Γ → Every (λ k. SingleIntegers k Γ) ls
-    left-single ls r s = dropped-every (λ k. SingleIntegers k Γ) r (single-each Γ ps (kit.kids-single I Γ g ps s))
+    left-single ls r s = dropped-every (λ k. SingleIntegers k Γ) r (single-each Γ ps (premise.kids-single I Γ g ps s))
 
     left-alive : (ls : Forest) → Dropped n ps ls → NoInterOverNothing I (many g ps) Γ → Every (λ k. NoInterOverNothing I k Γ) ls
-    left-alive ls r a = dropped-every (λ k. NoInterOverNothing I k Γ) r (alive-each I Γ ps (kit.kids-alive I Γ g ps a))
+    left-alive ls r a = dropped-every (λ k. NoInterOverNothing I k Γ) r (alive-each I Γ ps (premise.kids-alive I Γ g ps a))
 
     pub junction-one-keeps : (q : Tree) → Dropped n ps (sole q) → Accepted σ (many g ps) Γ predicate → SingleIntegers (many g ps) Γ
         → Keeps I Γ (many g ps) q
@@ -200,6 +201,6 @@ module _ (I : Interpretation) (σ : ℕ → Ty) (Γ : Ctx) where
     pub junction-fewer-keeps : (ls : Forest) → Dropped n ps ls → SingleIntegers (many g ps) Γ → Keeps I Γ (many g ps) (many g ls)
     junction-fewer-keeps ls r s =
         keeps-truth I (many g ps) (many g ls) Γ (f .joins .formula) (f .joins .formula)
-        (kit.many-single I Γ g (f .joins .formula) ls (single-all Γ ls (left-single ls r s)))
-        (λ a. kit.many-alive I Γ g (f .joins .other) ls (alive-all I Γ ls (left-alive ls r a)))
+        (premise.many-single I Γ g (f .joins .formula) ls (single-all Γ ls (left-single ls r s)))
+        (λ a. premise.many-alive I Γ g (f .joins .other) ls (alive-all I Γ ls (left-alive ls r a)))
         (λ a ρ. f .joins .truly ps ρ ∙ dropped-says n (f .by) ρ (f .neutral .truly ρ) r ∙ sym (f .joins .truly ls ρ))

@@ -1,0 +1,1 @@
+// Each equation keeps the truth of a predicate.
