@@ -3,7 +3,7 @@
 use Rattle.frame.proofs.ReadTypes.{tys-long}
 use mathlib.Core.Path.{_≡_, refl, sym, ap, _∙_, subst}
 use mathlib.Core.Bool.{Bool, true, false}
-use mathlib.Core.List.{List, [], _∷_, _++_, append-assoc}
+use mathlib.Core.List.{List, [], _∷_, append-assoc}
 use Prim.Native.Nat.{ℕ, _+_, _-_, _≤_, _<_}
 use native.Mathlib.Omega.{arith}
 use lib.ListN.{length, getD}
@@ -12,7 +12,6 @@ use Rattle.frame.specs.Types.{Ty, bool, int, given, pow, prod}
 use Rattle.frame.specs.Tags.{pick}
 use Rattle.frame.specs.Reading.{numberAt}
 use Rattle.frame.specs.Encoding.{encTy, encTys}
-use Rattle.frame.specs.Spans.{Spans}
 use Rattle.frame.proofs.Spans.{span-first}
 use Rattle.frame.proofs.Numbers.{number-back}
 use Rattle.frame.specs.WellFormed.{TyWf}

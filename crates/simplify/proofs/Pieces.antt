@@ -1,6 +1,6 @@
 -- The line that goes on, piece by piece.
 -- Main results: part-long; carried-none, carried-more, carried-all (the loop of write_answers).
-use mathlib.Core.Path.{_≡_, refl, sym, ap, _∙_, subst}
+use mathlib.Core.Path.{_≡_, sym, ap, _∙_, subst}
 use mathlib.Core.List.{List, _++_}
 use Prim.Native.Nat.{ℕ, _+_, _-_, _≤_}
 use native.Mathlib.Omega.{arith}

@@ -3,12 +3,11 @@
 -- (their words), pattern-last (the last arm of `pattern`).
 use mathlib.Core.Path.{_≡_, refl, sym, ap, subst, _∙_}
 use mathlib.Core.Bool.{Bool, true, false, _&&_}
-use mathlib.Core.List.{List, [], _∷_}
 use Prim.Native.Nat.{ℕ, _*_, _/_, _%_, _^_, _≤_, _<_}
 use native.Mathlib.Omega.{arith}
 use lib.ListN.{getD, List·getD-eq-default}
 use lib.Dec.{ltb, leb, eqb}
-use borrow.Author.Tests.{leb-true, leb-false, ltb-true, eqb-true, ne-eqb}
+use borrow.Author.Tests.{leb-true, leb-false, ltb-true, eqb-true}
 use Rattle.frame.specs.Tags.{
   table,
   classOf,

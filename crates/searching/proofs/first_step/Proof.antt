@@ -1,5 +1,5 @@
 use Rattle.searching.proofs.SearchTurns.{read-as, read-length, stands-at, as-framed, as-held, first-refused, first-searched}
-use mathlib.Core.Path.{refl, sym, _∙_}
+use mathlib.Core.Path.{sym, _∙_}
 use borrow.Author.Needs.{needs}
 use Rattle.searching.proofs.first_step.Statement.{statement}
 use Rattle.searching.proofs.first_step.Tie as tie

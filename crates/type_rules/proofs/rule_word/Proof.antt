@@ -1,6 +1,5 @@
 use Rattle.tags.proofs.TagTables.{word-none}
 use Rattle.type_rules.specs.RuleNumbers.{ruleWords}
-use borrow.Author.Needs.{needs}
 use Rattle.type_rules.proofs.rule_word.Statement.{statement}
 use Rattle.type_rules.proofs.rule_word.Tie as tie
 
