@@ -1,8 +1,8 @@
 -- The ways out of rounds, run_checked and run of src/lib.rt, on plain values.
--- Main results: Going, going-starts .. going-on; checked-copy .. checked-done; run-refused, run-short, run-pre.
+-- Main results: Going, going-starts .. going-on; checked-copy .. checked-done; run-refused, run-goes.
 use mathlib.Core.Path.{_≡_, refl, sym, ap, _∙_, subst}
 use mathlib.Core.Bool.{Bool, true, false}
-use mathlib.Core.List.{List, [], _∷_}
+use mathlib.Core.List.{List, [], _∷_, _++_}
 use Prim.Native.Nat.{ℕ, zero, suc, _+_, _-_, _≤_, _<_}
 use native.Mathlib.Omega.{arith}
 use lib.ListN.{length, take, drop, getD, List·getD-eq-default}
@@ -14,14 +14,14 @@ use Rattle.frame.specs.Tags.{pick}
 use Rattle.frame.specs.Encoding.{enc}
 use Rattle.frame.specs.Spans.{Bytes}
 use Rattle.typing.specs.Check.{accepted, check, checkAnswer}
-use Rattle.type_bytes.specs.Buffers.{Copied}
 use Rattle.typing.specs.Signature.{signature}
 use Rattle.typing.proofs.Checked.{check-accepts, check-back}
 use Rattle.step.proofs.Steps.{step-accepted}
-use Rattle.output.proofs.OutTurns.{copied-front}
+use Rattle.output.specs.OutPosts.{Admits, AdmitPost}
+use Rattle.output.specs.declared.Admitted.{Admitted}
+use Rattle.output.specs.declared.Admitted.the-variants as D
+use Rattle.output.proofs.OutTurns.{front-keeps, front-is}
 use Rattle.typing.specs.declared.CheckAnswer.{CheckAnswer}
-use Rattle.typing.specs.declared.CheckAnswer.the-variants as C
-use Rattle.typing.proofs.Answers.{accepted-is, refused-is}
 use Rattle.run.specs.Run.{next, firstStep, runTree, RunOutcome, ended, turnedDown, endedBy, runOn, run, wordAnswer, runAnswer, runOutput}
 use Rattle.run.proofs.Runs.{first-step}
 use Rattle.run.specs.declared.RunAnswer.{RunAnswer}
@@ -137,15 +137,13 @@ module _ (held₀ : List ℕ) (start budget : ℕ) where
 
 -- ---- `run_checked`
 module _ (s : List ℕ) (b : Bytes s) (budget : ℕ) (o : List ℕ) (p : CheckedPre s o) where
-  pub checked-copy : (l : ℕ) → l ≡ 4096 → (0 ≤ length s) × (length s ≤ length s) × (0 + (length s - 0) ≤ l)
-  checked-copy l e = (omega arith, omega arith, omega (arith, check-accepts s b (p .t) (p .checks) .fits))
+  pub checked-copy : (l : ℕ) → l ≡ 4096 → (length s ≤ length s) × (length s ≤ l)
+  checked-copy l e = (omega arith, omega (arith, check-accepts s b (p .t) (p .checks) .fits))
 
-  module _ (zeros held : List ℕ) (z : length zeros ≡ 4096) (c : Copied s 0 (length s - 0) zeros held 0) where
+  module _ (zeros held : List ℕ) (z : length zeros ≡ 4096) (c : held ≡ take (length s) s ++ drop (length s) zeros) where
     held-front : take (length s) held ≡ s
     held-front =
-        let f = check-accepts s b (p .t) (p .checks) .fits in
-        ap (take (length s)) (copied-front s (length s) zeros held s c refl (take-length s) (omega arith)) ∙ take-at s
-        (drop (length s) zeros) (length s) refl
+        ap (take (length s)) (front-is s (length s) zeros held s c refl (take-length s)) ∙ take-at s (drop (length s) zeros) (length s) refl
 
     pub checked-rounds : RoundsPre held (length s)
     checked-rounds =
@@ -153,15 +151,15 @@ module _ (s : List ℕ) (b : Bytes s) (budget : ℕ) (o : List ℕ) (p : Checked
           t = p .t;
           checks = ap check held-front ∙ p .checks;
           fits = check-accepts s b (p .t) (p .checks) .fits;
-          long = c .long ∙ z;
+          long = ap length c ∙ front-keeps s (length s) zeros (omega arith) (checked-copy (length zeros) z .1) ∙ z;
         }
 
     module _ (q : List ℕ) (r : Ended) (pr : RoundsPost held (length s) budget q r) where
       ended-so : RunEnded (p .t) budget q r
       ended-so = pr .ends (p .t) (ap check held-front ∙ p .checks)
 
-      pub checked-out : (0 ≤ r .length) × (r .length ≤ length q) × (0 + (r .length - 0) ≤ length o)
-      checked-out = let e = ended-so .fits in (omega arith, omega (arith, pr .long), omega (arith, p .room))
+      pub checked-out : (r .length ≤ length q) × (r .length ≤ length o)
+      checked-out = let e = ended-so .fits in (omega (arith, pr .long), omega (arith, p .room))
 
       run-is : run s budget (length o) ≡ ended (ended-so .word) (ended-so .count) (enc (ended-so .last))
       unfolding run
@@ -170,28 +168,22 @@ module _ (s : List ℕ) (b : Bytes s) (budget : ℕ) (o : List ℕ) (p : Checked
           ∙ ap (λ (x : Bool). pick x (turnedDown 12) (endedBy (runTree budget 0 (p .t)))) (le-ltb (length o) 4096 (p .room))
           ∙ ap endedBy (ended-so .ended)
 
-      pub checked-done : (o' : List ℕ) → Copied q 0 (r .length - 0) o o' 0 → RunPost s budget o o' (r .answer)
+      pub checked-done : (o' : List ℕ) → o' ≡ take (r .length) q ++ drop (r .length) o → RunPost s budget o o' (r .answer)
       checked-done o' d =
           let e = ended-so in
-          let f = copied-front q (r .length) o o' (enc (e .last)) d (e .length-is) (e .bytes) (omega (arith, p .room, e .fits)) in
+          let f = front-is q (r .length) o o' (enc (e .last)) d (e .length-is) (e .bytes) in
           record { answer = e .answer ∙ sym (ap runAnswer run-is); output = f ∙ sym (ap (λ (x : RunOutcome). runOutput x o) run-is) }
 
 -- ---- `run`
-module _ (s : List ℕ) (budget : ℕ) (o : List ℕ) (a : CheckAnswer) (ea : a ≡ checkAnswer (check s)) where
-  turned-down : (c : ℕ) → run s budget (length o) ≡ turnedDown c → RunPost s budget o o (A.Refused c)
-  turned-down c e = record { answer = sym (ap runAnswer e); output = sym (ap (λ (x : RunOutcome). runOutput x o) e) }
+module _ (s : List ℕ) (budget : ℕ) (o : List ℕ) (a : CheckAnswer) (ea : a ≡ checkAnswer (check s)) (r : Admitted) (pa : AdmitPost a (length o) r) where
+  -- what stands against the run, at the answer that was matched
+  before : (x : Admitted) → r ≡ x → Admits s (length o) x
+  before x e = subst (Admits s (length o)) e (pa .admits s ea)
 
-  pub run-refused : (c : ℕ) → a ≡ C.Refused c → RunPost s budget o o (A.Refused c)
-  unfolding run
-  run-refused c e = turned-down c (ap (runOn budget (length o)) (refused-is (check s) c (sym e ∙ ea)))
+  pub run-refused : (c : ℕ) → r ≡ D.Refused c → RunPost s budget o o (A.Refused c)
+  run-refused c e =
+      let z = before (D.Refused c) e budget in
+      record { answer = sym (ap runAnswer z); output = sym (ap (λ (x : RunOutcome). runOutput x o) z) }
 
-  module _ (m : ℕ) (e : a ≡ C.Accepted m) where
-    pub run-short : length o < 4096 → RunPost s budget o o (A.Refused 12)
-    unfolding run
-    run-short h =
-        let t = accepted-is (check s) m (sym e ∙ ea) in
-        turned-down 12 (ap (runOn budget (length o)) (t .1 .0) ∙ ap
-        (λ (x : Bool). pick x (turnedDown 12) (endedBy (runTree budget 0 (t .0)))) (lt-ltb (length o) 4096 h))
-
-    pub run-pre : 4096 ≤ length o → CheckedPre s o
-    run-pre h = let t = accepted-is (check s) m (sym e ∙ ea) in record { t = t .0; checks = t .1 .0; room = h }
+  pub run-goes : r ≡ D.Goes → CheckedPre s o
+  run-goes e = let z = before D.Goes e in record { t = z .0; checks = z .1; room = z .2 }

@@ -1,8 +1,8 @@
 // A run: steps at the first place where a rule applies, until none applies, the budget is used, or the next frame is too long.
-use frame::limits::FRAME_LIMIT;
-use frame::refusals::NO_ROOM;
+use output::Admitted;
+use output::admit;
+use output::put_front;
 use run::RunAnswer;
-use type_bytes::copy_in;
 ghost use mathlib.Core.Path.{_≡_};
 ghost use lib.ListN.{length};
 ghost use Rattle.run.specs.Run.{run as ran, runAnswer, runOutput};
@@ -10,7 +10,6 @@ ghost use Rattle.running.specs.Posts.{RoundsPre, RoundsPost, CheckedPre,
 use searching::first_step;
 use turn::Turned;
 use turn::turn;
-use typing::CheckAnswer;
 
 // How a run ended: what it answers, and the length of the last frame.
 pub struct Ended {
@@ -55,10 +54,9 @@ fn run_checked(s: &[u8], budget: u32, out: &mut [u8]) -> RunAnswer
 {
     let mut held = [0u8; 4096];
     let n = s.len();
-    copy_in(s, 0, n, &mut held, 0);
+    put_front(s, n, &mut held);
     let e = rounds(&mut held, n, budget);
-    let m = e.length;
-    copy_in(&held, 0, m, out, 0);
+    put_front(&held, e.length, out);
     e.answer
 }
 
@@ -66,14 +64,10 @@ fn run_checked(s: &[u8], budget: u32, out: &mut [u8]) -> RunAnswer
 pub fn run(frame: &[u8], budget: u32, out: &mut [u8]) -> RunAnswer
     ensures { λ r. ⌜ (r ≡ runAnswer (ran (now (frame .entry)) budget (length (now (out .entry))))) × (now (out .exit) ≡ runOutput (ran (now (frame .entry)) budget (length (now (out .entry)))) (now (out .entry))) ⌝ }
 {
-    let a = checking::check(frame);
-    match a {
-        CheckAnswer::Refused(c) => RunAnswer::Refused(c),
-        CheckAnswer::Accepted(_n) => {
-            if out.len() < FRAME_LIMIT {
-                return RunAnswer::Refused(NO_ROOM);
-            }
-            run_checked(frame, budget, out)
-        }
+    let checked = checking::check(frame);
+    let verdict = admit(checked, out.len());
+    match verdict {
+        Admitted::Refused(c) => RunAnswer::Refused(c),
+        Admitted::Goes => run_checked(frame, budget, out),
     }
 }

@@ -2,7 +2,7 @@
 -- Main results: turn-rests, turn-spent, turn-full, turn-on.
 use mathlib.Core.Path.{_≡_, refl, sym, ap, _∙_, subst}
 use mathlib.Core.Bool.{Bool}
-use mathlib.Core.List.{List}
+use mathlib.Core.List.{List, _++_}
 use Prim.Native.Nat.{ℕ, zero, suc, _+_, _-_, _≤_, _<_}
 use native.Mathlib.Omega.{arith}
 use lib.ListN.{length, take, drop}
@@ -11,10 +11,9 @@ use borrow.Author.Tests.{lt-ltb, le-ltb}
 use Rattle.frame.specs.Trees.{Tree}
 use Rattle.frame.specs.Tags.{pick}
 use Rattle.frame.specs.Encoding.{enc}
-use Rattle.type_bytes.specs.Buffers.{Copied}
 use Rattle.put.specs.Out.{Wrote}
 use Rattle.put.proofs.Puts.{wrote-held, wrote-full}
-use Rattle.output.proofs.OutTurns.{copied-front}
+use Rattle.output.proofs.OutTurns.{front-keeps, front-is}
 use Rattle.run.specs.Run.{First, next, nowhere, firstStep, Word, REST, SPENT, FULL, ran, atEnd, goOn, runTree, wordAnswer}
 use Rattle.run.specs.declared.RunAnswer.the-variants as A
 use Rattle.turn.specs.TurnPosts.{Gives, TurnPre, TurnPost}
@@ -68,7 +67,7 @@ module _ (x : Next) (scratch : List ℕ) (n left count : ℕ) (held : List ℕ) 
           ends FULL (λ t g. (let u = writes t g in ap (λ (i : ℕ). runTree i count t) less ∙ full-run (left - 1) t (u .0) count (u .1)
           (wrote-full scratch m (enc (u .0)) (u .2) h)))
 
-      pub turn-on : m ≤ 4096 → (held' : List ℕ) → Copied scratch 0 (m - 0) held held' 0
+      pub turn-on : m ≤ 4096 → (held' : List ℕ) → held' ≡ take m scratch ++ drop m held
           → TurnPost x scratch n left count held held' (T.On m (left - 1) (count + 1))
       turn-on h held' c =
           record {
@@ -76,7 +75,7 @@ module _ (x : Next) (scratch : List ℕ) (n left count : ℕ) (held : List ℕ) 
                 (let w = writes t g in
                 let u = w .0 in
                 let v = wrote-held scratch m (enc u) (w .2) h in
-                let o = copied-front scratch m held held' (enc u) c (v .0) (v .1) (omega (arith, p .long)) in
+                let o = front-is scratch m held held' (enc u) c (v .0) (v .1) in
                 record {
                   after = u;
                   step = w .1;
@@ -86,5 +85,5 @@ module _ (x : Next) (scratch : List ℕ) (n left count : ℕ) (held : List ℕ) 
                   bytes = ap (take m) o ∙ take-at (enc u) (drop (length (enc u)) held) m (sym (v .0));
                   fits = h;
                 });
-            long = c .long ∙ p .long;
+            long = ap length c ∙ front-keeps scratch m held (omega (arith, p .room)) (omega (arith, p .long)) ∙ p .long;
           }

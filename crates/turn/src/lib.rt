@@ -1,8 +1,8 @@
 // One turn of a run: what it does with the first step that was found. It stands apart from the search for that step, so that it is
 // proved without the rules' code.
 use frame::limits::FRAME_LIMIT;
+use output::put_front;
 use run::RunAnswer;
-use type_bytes::copy_in;
 ghost use Rattle.turn.specs.TurnPosts.{TurnPre, TurnPost};
 
 // The first step of a frame: there is none, or the new frame's bytes are in the scratch buffer, so many (4,097: too many).
@@ -39,7 +39,7 @@ pub fn turn(
             if FRAME_LIMIT < m {
                 return Turned::Ends(RunAnswer::Full(count, n));
             }
-            copy_in(scratch, 0, m, held, 0);
+            put_front(scratch, m, held);
             let rest = left - 1;
             let made = count + 1;
             Turned::On(m, rest, made)

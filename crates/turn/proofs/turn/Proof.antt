@@ -21,8 +21,8 @@ returns-2 c =
     let c₂ = c₁ .before .before .before in
     turn-full _ _ _ _ _ _ (c₂ .pre) _ (c₁ .next .given .1) (c .before .if1 .left) (c .if2 .taken)
 
-copy-in-requires : tie.Need-copy-in-requires
-copy-in-requires c κs = search needs
+put-front-requires : tie.Need-put-front-requires
+put-front-requires c κs = search needs
 
 sub-rest : tie.Need-sub-rest
 sub-rest c = search needs
@@ -42,7 +42,7 @@ returns-4 c =
     let c₂ = c₁ .before in
     let c₃ = c₂ .before .before in
     let c₄ = c₃ .before .before .before in
-    turn-on _ _ _ _ _ _ (c₄ .pre) _ (c₃ .next .given .1) (c₂ .if1 .left) (c₁ .if2 .left) _ (c .before .before .copy-in .ensures)
+    turn-on _ _ _ _ _ _ (c₄ .pre) _ (c₃ .next .given .1) (c₂ .if1 .left) (c₁ .if2 .left) _ (c .before .before .put-front .ensures)
 
 pub turn-spec : {M : Type 1} → statement M
 turn-spec =
@@ -52,7 +52,7 @@ turn-spec =
     enum-known-next
     returns
     returns-2
-    copy-in-requires
+    put-front-requires
     sub-rest
     add-made
     returns-3
