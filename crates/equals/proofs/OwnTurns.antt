@@ -17,8 +17,8 @@ use Rattle.frame.proofs.Inversion.{true-not}
 use Rattle.frame.proofs.Spans.{span-left}
 use Rattle.frame.proofs.Numbers.{number-back}
 use Rattle.frame.proofs.SameTrees.{same-ty, same-ty-refl}
-use Rattle.identifiers.specs.Claims.{TypeAt, PowerPost}
-use Rattle.identifiers.proofs.Claims.{type-unique}
+use Rattle.claims.specs.Table.{TypeAt, PowerPost}
+use Rattle.claims.proofs.Noting.{type-unique}
 use Rattle.sameness.specs.Stands.{Stands}
 use Rattle.nav.specs.PlaceTables.{Framed, Table, TagPost}
 use Rattle.nav.proofs.Hops.{Sorted, framed-few, place-sorted, place-stands}

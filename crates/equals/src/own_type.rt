@@ -10,7 +10,7 @@ fn is_given_at(s: &[u8], starts: &[u16; 2048], k: usize) -> bool
 {
     let at = nav::start_at(starts, k);
     let n = heads::number(s, at + 2, 2);
-    identifiers::is_power(s, at + 4, n)
+    claims::is_power(s, at + 4, n)
 }
 
 // Whether the expression at place k is the type expression of its own elements.

@@ -1,22 +1,22 @@
 -- The names of a tree agree exactly if no number has claims of two types.
 -- Main results: agree-told (a table that holds all the claims: the names agree), clash-disagree (two claims clash: they do
--- not), type-unique (one place has one type).
-use mathlib.Core.Path.{_≡_, refl, sym, ap, _∙_, subst}
+-- not).
+use mathlib.Core.Path.{_≡_, refl, sym, ap, _∙_}
 use mathlib.Core.Logic.{inl, inr}
 use mathlib.Core.Bool.{Bool, true, false}
 use mathlib.Core.List.{List, [], _∷_}
-use Prim.Native.Nat.{ℕ, _+_}
-use native.Mathlib.Omega.{arith}
+use Prim.Native.Nat.{ℕ}
 use lib.ListN.{getD}
 use lib.Dec.{eqb}
 use borrow.Author.Tests.{eqb-true, eqb-false}
 use Rattle.frame.specs.Types.{Ty}
 use Rattle.frame.specs.Trees.{head, Tree, node, Forest, nil, cons}
 use Rattle.frame.specs.Tags.{pick}
-use Rattle.frame.proofs.ReadTypes.{ty-back}
 use Rattle.typing.specs.Members.{In, All}
 use Rattle.typing.specs.Identifiers.{Named, named, givensTys, identOf, idents, identsIn, givens, givensIn, namesAgree}
-use Rattle.identifiers.specs.Claims.{powers, claimsOf, claims, claimsIn, Clash, TypeAt, Says, by-mark, by-place, Told}
+use Rattle.claims.specs.Table.{Clash, Told}
+use Rattle.claims.proofs.Noting.{says-unique}
+use Rattle.identifiers.specs.Claims.{powers, claimsOf, claims, claimsIn}
 use Rattle.typing.specs.Signature.{signed, signature}
 use Rattle.typing.proofs.Names.{NameOk, GivenOk, Signed, SignedAll, signed-agree, names-signed, later}
 use Rattle.typing.proofs.Members.{all-join, all-left, all-right, all-of, all-in}
@@ -106,19 +106,6 @@ clash-disagree t c = go (namesAgree t) refl
         (all-in (NameOk σ) (claims t) (named (c .number) (c .other)) h (c .second))))
     go false e = refl
 
--- ---- what an entry says
-pub type-unique : (s : List ℕ) (p q r : ℕ) (t u : Ty) → TypeAt s p q t → TypeAt s p r u → t ≡ u
-type-unique s p q r t u a b =
-    let k : ℕ = q + r in
-    cc (ty-back t k k s p q (a .span) (a .wf) (omega arith) (omega arith), ty-back u k k s p r (b .span) (b .wf) (omega arith) (omega arith))
-
-pub says-unique : (s : List ℕ) (n v : ℕ) (t u : Ty) → Says s n v t → Says s n v u → t ≡ u
-says-unique s n v t u (by-mark e f) (by-mark g h) = f ∙ sym h
-says-unique s n v t u (by-mark e f) (by-place p q g l a) = absurd (omega arith)
-says-unique s n v t u (by-place p q g l a) (by-mark e f) = absurd (omega arith)
-says-unique s n v t u (by-place p q g l a) (by-place p' q' g' l' a') =
-    let z : p' ≡ p = omega arith in
-    type-unique s p q q' t u a (subst (λ (i : ℕ). TypeAt s i q' u) z a')
-
+-- ---- the table and the tree
 pub agree-told : (s table : List ℕ) (t : Tree) → Told s table (claims t) → namesAgree t ≡ true
 agree-told s table t h = functional-agree t (λ n u v i j. says-unique s n (getD table n 0) u v (h .all n u i) (h .all n v j))

@@ -25,21 +25,8 @@ use Rattle.tags.proofs.TagTables.{code-form}
 use Rattle.typing.specs.Typing.{carriedTy}
 use Rattle.typing.specs.Members.{All}
 use Rattle.typing.specs.Identifiers.{identTag, Named, named, givensTys, identOf}
-use Rattle.identifiers.specs.Claims.{
-  powers,
-  claimsOf,
-  claims,
-  claimsIn,
-  TypeAt,
-  Noted,
-  Held,
-  TypesAt,
-  NotedTo,
-  TypesPost,
-  NodePost,
-  NamePost,
-  Unlisted,
-}
+use Rattle.claims.specs.Table.{TypeAt, Noted, Held, NamePost}
+use Rattle.identifiers.specs.Claims.{powers, claimsOf, claims, claimsIn, TypesAt, NotedTo, TypesPost, NodePost, Unlisted}
 use Rattle.identifiers.specs.declared.Noting.{Noting}
 use Rattle.identifiers.specs.declared.Noting.the-variants.{Ends, Clashed, Beyond}
 use Rattle.identifiers.specs.declared.Names.{Names}

@@ -19,7 +19,8 @@ use Rattle.heads.specs.HeadPost.{leadOf, partsOf}
 use Rattle.heads.proofs.KnownTurns.{afterFirst, after-first}
 use Rattle.typing.specs.Members.{All}
 use Rattle.typing.specs.Identifiers.{Named, named, givensTy, givensTys}
-use Rattle.identifiers.specs.Claims.{powers, Held, GivenPost, TypesAt, NotedTo, TypesPost}
+use Rattle.claims.specs.Table.{Held, GivenPost}
+use Rattle.identifiers.specs.Claims.{powers, TypesAt, NotedTo, TypesPost}
 use Rattle.identifiers.specs.declared.Noting.{Noting}
 use Rattle.identifiers.specs.declared.Noting.the-variants.{Ends, Clashed, Beyond}
 use Rattle.identifiers.proofs.NotedClaims.{

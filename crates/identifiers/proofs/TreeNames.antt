@@ -13,7 +13,8 @@ use Rattle.frame.specs.Spans.{Bytes}
 use Rattle.frame.specs.At.{IsAt}
 use Rattle.reading.proofs.AgainTurns.{frame-rest}
 use Rattle.typing.specs.Identifiers.{Named, namesAgree}
-use Rattle.identifiers.specs.Claims.{claims, Told, Clear, Decides}
+use Rattle.claims.specs.Table.{Told}
+use Rattle.identifiers.specs.Claims.{claims, Clear, Decides}
 use Rattle.identifiers.specs.declared.Names.{Names}
 use Rattle.identifiers.specs.declared.Names.the-variants.{Agree, Differ, Undecided}
 use Rattle.identifiers.proofs.Claims.{agree-told, clash-disagree}

@@ -1,20 +1,20 @@
--- Number 9 as the code decides it: an identifier claims its type for its number, and a given set in a carried type claims
--- the power of that set for its own. The names agree exactly if no number has claims of two types (proofs/Claims.antt).
+-- Number 9 as the code decides it, by the claims of a tree in prefix order (claims/specs/Table.antt): the names agree exactly if no
+-- number has claims of two types (proofs/Claims.antt).
 use mathlib.Core.Path.{_≡_}
-use mathlib.Core.Bool.{Bool, true, false}
+use mathlib.Core.Bool.{true, false}
 use mathlib.Core.List.{List, [], _∷_, _++_}
-use Prim.Native.Nat.{ℕ, suc, _+_, _-_, _≤_, _<_}
-use lib.ListN.{length, getD, replicate}
+use Prim.Native.Nat.{ℕ, _+_, _≤_, _<_}
+use lib.ListN.{length, replicate}
 use Rattle.frame.specs.Types.{Ty, given, pow}
 use Rattle.frame.specs.Trees.{Head, head, Tree, node, Forest, nil, cons, count}
-use Rattle.frame.specs.Tags.{pick, Sort}
-use Rattle.frame.specs.Encoding.{encTy, encTys, encHead}
-use Rattle.frame.specs.Reading.{frameLimit}
+use Rattle.frame.specs.Tags.{Sort}
+use Rattle.frame.specs.Encoding.{encTys, encHead}
 use Rattle.frame.specs.WellFormed.{TyWf}
 use Rattle.frame.specs.At.{Rest}
 use Rattle.frame.specs.Spans.{Spans}
 use Rattle.typing.specs.Members.{In, All}
 use Rattle.typing.specs.Identifiers.{Named, named, givensTys, identOf, namesAgree}
+use Rattle.claims.specs.Table.{Noted}
 use Rattle.identifiers.specs.declared.Noting.{Noting}
 use Rattle.identifiers.specs.declared.Noting.the-variants.{Ends, Clashed, Beyond}
 use Rattle.identifiers.specs.declared.Names.{Names}
@@ -38,65 +38,12 @@ unfoldable mutual
   claimsIn nil = []
   claimsIn (cons t ts) = claims t ++ claimsIn ts
 
--- one number has claims of two types
-pub record Clash (l : List Named) : Type 0 where
-  pub number : ℕ
-  pub one : Ty
-  pub other : Ty
-  pub first : In (named number one) l
-  pub second : In (named number other) l
-  pub differ : one ≡ other → ⊥
-
--- ---- the table of claims: an entry for each identifier number below its length
--- the bytes of the type u, from p up to q
-pub record TypeAt (s : List ℕ) (p q : ℕ) (u : Ty) : Type 0 where
-  pub span : Spans s p q (encTy u)
-  pub wf : TyWf u
-
--- the entry of a number that a given set has claimed: above one more than any position
-abbrev pub givenMark : ℕ
-givenMark = 5000
-
--- the entry v of the number n says that its type is u: by that mark, or by one more than the position of a type
-pub data Says (s : List ℕ) (n v : ℕ) (u : Ty) : Type 0 where
-  by-mark : v ≡ givenMark → u ≡ pow (given n) → Says s n v u
-  by-place : (p q : ℕ) → v ≡ suc p → p < 4096 → TypeAt s p q u → Says s n v u
-
--- the table holds these claims, and no others
-pub record Told (s table : List ℕ) (done : List Named) : Type 0 where
-  pub all : (n : ℕ) (t : Ty) → In (named n t) done → Says s n (getD table n 0) t
-  pub only : (n : ℕ) → (getD table n 0 ≡ 0 → ⊥) → (u : Ty) × In (named n u) done × Says s n (getD table n 0) u
-
 -- ---- contracts
--- the table before and after these claims were noted; false where one of them clashed
-pub record Noted (s : List ℕ) (before after : List ℕ) (new : List Named) (r : Bool) : Type 0 where
-  pub size : length after ≡ length before
-  pub by : (done : List Named) → Told s before done → pick {X = Type 0} r (Told s after (done ++ new)) (Clash (done ++ new))
-
--- whether the type at p is the power of the given set n
-pub record PowerPost (s : List ℕ) (p n : ℕ) (r : Bool) : Type 0 where
-  pub yes : r ≡ true → TypeAt s p (p + 4) (pow (given n))
-  pub not : r ≡ false → (q : ℕ) → TypeAt s p q (pow (given n)) → ⊥
-
--- whether the type from p up to q stands at e as well
-pub record SameType (s : List ℕ) (p q e : ℕ) (r : Bool) : Type 0 where
-  pub yes : r ≡ true → (t : Ty) → TypeAt s p q t → TypeAt s e (e + (q - p)) t
-  pub not : r ≡ false → (t : Ty) (x : ℕ) → TypeAt s p q t → TypeAt s e x t → ⊥
-
--- a frame of these bytes, and a table that holds some claims
-pub record Held (s table : List ℕ) : Type 0 where
-  pub fits : length s ≤ frameLimit
-  pub done : List Named
-  pub told : Told s table done
-
 -- m types stand from `at` up to q
 pub record TypesAt (s : List ℕ) (at m : ℕ) (us : List Ty) (q : ℕ) : Type 0 where
   pub span : Spans s at q (encTys us)
   pub wf : All TyWf us
   pub many : length us ≡ m
-
-pub record NamePost (s : List ℕ) (n p q : ℕ) (before after : List ℕ) (r : Bool) : Type 0 where
-  pub by : (t : Ty) → TypeAt s p q t → Noted s before after (named n t ∷ []) r
 
 -- one of these claims has a number with no entry: so the table is not one of all two-byte numbers
 pub record Unlisted (table : List ℕ) (new : List Named) : Type 0 where
@@ -119,9 +66,6 @@ pub record TypesPost (s : List ℕ) (at m : ℕ) (before after : List ℕ) (r : 
 pub record NodePost (s : List ℕ) (at : ℕ) (before after : List ℕ) (r : Noting) : Type 0 where
   pub by : (h : Head) (ks later : Forest) (es : List Sort) → Rest s at (cons (node h ks) later) es
       → NotedTo s before after (claimsOf h) (at + length (encHead h (count ks))) r
-
-abbrev pub GivenPost : List ℕ → ℕ → List ℕ → List ℕ → Bool → Type 0
-GivenPost s n before after r = Noted s before after (named n (pow (given n)) ∷ []) r
 
 -- a table with no claims
 abbrev pub Clear : List ℕ → Type 0

@@ -2,16 +2,16 @@
 // its type isn't the power of that set."). Nodes stand in prefix order, and so do the parts of a type: the frame is gone
 // through once from left to right, and a table holds what has been claimed of each identifier number. A frame with a number
 // beyond the table is gone through again with a longer one, and at last with a table of all numbers.
+use claims::note_given;
+use claims::note_identifier;
 use heads::number;
 use heads::type_bytes;
 use heads::type_parts;
-use octets::same_bytes;
-use octets::wide16;
 use tags::form_of;
 use tags::types_of;
 use tags::width_of;
 ghost use mathlib.Core.Path.{_≡_};
-ghost use Prim.Native.Nat.{ℕ, _+_, _-_, _≤_, _<_};
+ghost use Prim.Native.Nat.{ℕ, _≤_, _<_};
 ghost use mathlib.Core.List.{List};
 ghost use lib.ListN.{length};
 ghost use Rattle.frame.specs.Types.{Ty};
@@ -20,15 +20,12 @@ ghost use Rattle.frame.specs.Tags.{Sort, predicate};
 ghost use Rattle.frame.specs.At.{IsAt, Rest};
 ghost use Rattle.frame.specs.Reading.{frameLimit};
 ghost use Rattle.typing.specs.Identifiers.{namesAgree};
-ghost use Rattle.identifiers.specs.Claims.{PowerPost, SameType, Held, TypeAt, TypesAt, NamePost, GivenPost, TypesPost, NodePost, Clear, Decides};
+ghost use Rattle.claims.specs.Table.{Held};
+ghost use Rattle.identifiers.specs.Claims.{TypesAt, TypesPost, NodePost, Clear, Decides};
 
 const IDENTIFIER: usize = 1;
 
 const GIVEN_SET: u8 = 2;
-
-// The entry of a number that a given set has claimed. Other entries are one more than the position of an identifier's type,
-// and 0 where nothing has been claimed.
-const GIVEN: u16 = 5000;
 
 // What noting the given sets of types finds: where the types end, that a number has been claimed with another type, or that
 // the table has no entry for a number.
@@ -43,67 +40,6 @@ enum Names {
     Agree,
     Differ,
     Undecided,
-}
-
-// Whether the type from p up to q stands at e as well.
-fn same_type(s: &[u8], p: usize, q: usize, e: usize) -> bool
-    requires { ⌜ (p ≤ q) × (q ≤ length (now s)) × (e ≤ length (now s)) × (length (now s) ≤ frameLimit) ⌝ }
-    ensures { λ r. ⌜ SameType (now (s .entry)) p q e r ⌝ }
-{
-    let n = q - p;
-    if s.len() < e + n {
-        return false;
-    }
-    same_bytes(s, p, e, n)
-}
-
-// Whether the type at p is the power of the given set n.
-pub fn is_power(s: &[u8], p: usize, n: usize) -> bool
-    requires { ⌜ (p ≤ length (now s)) × (length (now s) ≤ frameLimit) × (n < 65536) ⌝ }
-    ensures { λ r. ⌜ PowerPost (now (s .entry)) p n r ⌝ }
-{
-    if s.len() < p + 4 {
-        return false;
-    }
-    if s[p] != 3 {
-        return false;
-    }
-    if s[p + 1] != 2 {
-        return false;
-    }
-    number(s, p + 2, 2) == n
-}
-
-// An identifier n whose type stands from p up to q.
-fn note_identifier(s: &[u8], n: usize, p: usize, q: usize, table: &mut [u16]) -> bool
-    requires { ⌜ (n < 65536) × (n < length (now table)) × Held (now s) (now table) × ((t : Ty) × TypeAt (now s) p q t) ⌝ }
-    ensures { λ r. ⌜ NamePost (now (s .entry)) n p q (now (table .entry)) (now (table .exit)) r ⌝ }
-{
-    let entry = table[n];
-    if entry == 0 {
-        table[n] = (p + 1) as u16;
-        return true;
-    }
-    if entry == GIVEN {
-        return is_power(s, p, n);
-    }
-    same_type(s, p, q, wide16(entry) - 1)
-}
-
-// A given set n in some type: its number is an identifier's of one type only, the power of that set.
-fn note_given(s: &[u8], n: usize, table: &mut [u16]) -> bool
-    requires { ⌜ (n < 65536) × (n < length (now table)) × Held (now s) (now table) ⌝ }
-    ensures { λ r. ⌜ GivenPost (now (s .entry)) n (now (table .entry)) (now (table .exit)) r ⌝ }
-{
-    let entry = table[n];
-    if entry == 0 {
-        table[n] = GIVEN;
-        return true;
-    }
-    if entry == GIVEN {
-        return true;
-    }
-    is_power(s, wide16(entry) - 1, n)
 }
 
 // The given sets in m types that stand at `at`.

@@ -1,8 +1,8 @@
 use native.Mathlib.Omega.{arith}
-use Rattle.identifiers.proofs.NotedClaims.{entry-place, name-new, name-mark, name-place, type-room}
+use Rattle.claims.proofs.Noting.{entry-place, name-new, name-mark, name-place, type-room}
 use borrow.Author.Needs.{needs}
-use Rattle.identifiers.proofs.note_identifier.Statement.{statement}
-use Rattle.identifiers.proofs.note_identifier.Tie as tie
+use Rattle.claims.proofs.note_identifier.Statement.{statement}
+use Rattle.claims.proofs.note_identifier.Tie as tie
 
 mul-entry : tie.Need-mul-entry
 mul-entry c = search needs

@@ -1,7 +1,7 @@
-use Rattle.identifiers.proofs.NotedClaims.{entry-place, given-new, given-mark, given-place}
+use Rattle.claims.proofs.Noting.{entry-place, given-new, given-mark, given-place}
 use borrow.Author.Needs.{needs}
-use Rattle.identifiers.proofs.note_given.Statement.{statement}
-use Rattle.identifiers.proofs.note_given.Tie as tie
+use Rattle.claims.proofs.note_given.Statement.{statement}
+use Rattle.claims.proofs.note_given.Tie as tie
 
 mul-entry : tie.Need-mul-entry
 mul-entry c = search needs

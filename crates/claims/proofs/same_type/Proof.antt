@@ -1,9 +1,9 @@
 use Rattle.octets.proofs.SameBytes.{parts}
 use native.Mathlib.Omega.{arith}
-use Rattle.identifiers.proofs.NotedClaims.{type-short, type-bytes}
+use Rattle.claims.proofs.Noting.{type-short, type-bytes}
 use borrow.Author.Needs.{needs}
-use Rattle.identifiers.proofs.same_type.Statement.{statement}
-use Rattle.identifiers.proofs.same_type.Tie as tie
+use Rattle.claims.proofs.same_type.Statement.{statement}
+use Rattle.claims.proofs.same_type.Tie as tie
 
 sub-n : tie.Need-sub-n
 sub-n c = search needs

@@ -2,10 +2,10 @@ use mathlib.Core.Path.{ap}
 use Prim.Native.Nat.{ℕ}
 use lib.Dec.{eqb}
 use native.Mathlib.Omega.{arith}
-use Rattle.identifiers.proofs.NotedClaims.{power-not, power-is}
+use Rattle.claims.proofs.Noting.{power-not, power-is}
 use borrow.Author.Needs.{needs}
-use Rattle.identifiers.proofs.is_power.Statement.{statement}
-use Rattle.identifiers.proofs.is_power.Tie as tie
+use Rattle.claims.proofs.is_power.Statement.{statement}
+use Rattle.claims.proofs.is_power.Tie as tie
 
 add-if1 : tie.Need-add-if1
 add-if1 c = search needs
