@@ -11,14 +11,15 @@ use Rattle.frame.specs.Tags.{Sort, sameSort, Form, width, inRange, payloadOf, t
 use Rattle.tags.specs.TagCodes.{formAtCode, formCode, sortFor, firstSort, laterSort}
 use Rattle.frame.specs.Reading.{numberAt, TysRes, okTs, noTs, readTys, withTys, withNumber, withForm, readHead}
 use Rattle.frame.specs.At.{typesAt}
-use Rattle.heads.specs.HeadPost.{typesAnswer, headAnswer, headThere}
-use Rattle.heads.specs.declared.TypeAnswer.{TypeAnswer}
+use Rattle.types.specs.TypePost.{typesAnswer}
+use Rattle.heads.specs.HeadPost.{headAnswer, headThere}
+use Rattle.types.specs.declared.TypeAnswer.{TypeAnswer}
 use Rattle.heads.specs.declared.HeadAnswer.{HeadAnswer}
 use Rattle.heads.specs.declared.HeadAnswer.the-variants.{Is, Refused}
 use Rattle.tags.proofs.TagTables.{code-form}
 use Rattle.tags.proofs.FormTables.{layoutAt, listed-at, unlisted-at, kinds-at}
-use Rattle.heads.proofs.TypeTurns.{ends-not}
-use Rattle.heads.specs.declared.TypeAnswer.the-variants as Ty
+use Rattle.types.proofs.TypeTurns.{ends-not}
+use Rattle.types.specs.declared.TypeAnswer.the-variants as Ty
 
 pub head-end : (s : List ℕ) (at : ℕ) (e : Sort) → length s < at + 2 → Refused 3 ≡ headThere s at e
 unfolding readHead

@@ -1,4 +1,3 @@
-pub mod TypeTurns
 pub mod HeadTurns
 pub mod KnownTurns
 pub mod HeadSays

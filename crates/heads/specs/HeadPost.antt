@@ -1,35 +1,20 @@
 -- What the code of types and heads answers, by the definitions of frame/specs/Reading.antt: each enum as a function of a result.
-use Prim.Native.Nat.{ℕ, _+_, _*_, _-_, _<_}
+use Prim.Native.Nat.{ℕ, _-_, _<_}
 use mathlib.Core.Path.{_≡_}
 use mathlib.Core.List.{List}
 use lib.ListN.{length}
 use lib.Dec.{eqb, ltb}
-use Rattle.frame.specs.Types.{Ty, given}
+use Rattle.frame.specs.Types.{Ty}
 use Rattle.frame.specs.Trees.{Head, head, Tree}
 use Rattle.frame.specs.Tags.{pick, Sort, payloadOf, sortsOf, classOf}
 use Rattle.tags.specs.TagCodes.{formAtCode, formCode, firstSort, laterSort}
 use Rattle.frame.specs.Encoding.{encTys}
-use Rattle.frame.specs.Reading.{TyRes, okT, noT, byteOf, TysRes, okTs, noTs, HeadRes, okH, noH, readHead}
+use Rattle.frame.specs.Reading.{HeadRes, okH, noH, readHead}
 use Rattle.frame.specs.Spans.{Spans}
 use Rattle.frame.specs.At.{typesAt, IsAt}
-use Rattle.heads.specs.declared.TypeAnswer.{TypeAnswer}
-use Rattle.heads.specs.declared.TypeAnswer.the-variants as T
 use Rattle.heads.specs.declared.HeadAnswer.{HeadAnswer}
 use Rattle.heads.specs.declared.HeadAnswer.the-variants as H
 use Rattle.heads.specs.declared.KnownHead.{KnownHead}
-
--- ---- types
-abbrev pub typeAnswer : TyRes → TypeAnswer
-typeAnswer (okT t p) = T.Ends p
-typeAnswer (noT c) = T.Refused c
-
--- the given set whose type byte stands at `at`
-abbrev pub givenAt : ℕ → List ℕ → ℕ → TyRes
-givenAt lim s at = byteOf lim s (at + 1) (λ h. byteOf lim s (at + 2) (λ l. okT (given (h * 256 + l)) (at + 3)))
-
-abbrev pub typesAnswer : TysRes → TypeAnswer
-typesAnswer (okTs ts p) = T.Ends p
-typesAnswer (noTs c) = T.Refused c
 
 -- ---- heads
 -- with where its types start, and the sorts of the children by how many they are, the first and the later ones

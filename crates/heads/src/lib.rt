@@ -1,26 +1,20 @@
-// Types and heads of a frame, read from left to right (document 01, "Numbers of what is turned down", 3 to 6), and passed over again once
-// they were read. Positions count bytes from the frame's start. A sort is a bool: true for an expression.
-use frame::limits::TYPE_LIMIT;
+// Heads of a frame, read from left to right (document 01, "Numbers of what is turned down", 3 to 6), and types and heads passed over
+// again once they were read. Positions count bytes from the frame's start. A sort is a bool: true for an expression.
 ghost use mathlib.Core.Path.{_≡_};
-ghost use Prim.Native.Nat.{ℕ, _+_, _≤_, _<_};
+ghost use Prim.Native.Nat.{_+_, _≤_, _<_};
 ghost use lib.ListN.{length};
 ghost use mathlib.Core.Bool.{true};
 ghost use mathlib.Core.List.{List};
 ghost use Rattle.frame.specs.Types.{Ty};
 ghost use Rattle.frame.specs.Tags.{inRange};
 ghost use Rattle.tags.specs.TagCodes.{formAtCode, sortFor};
-ghost use Rattle.frame.specs.Reading.{numberAt, readTy, readTys, okTs, withTys};
-ghost use Rattle.heads.specs.HeadPost.{typeAnswer, givenAt, typesAnswer, headAnswer, headThere, TypesStand, SkipPost, leadOf, partsOf, HeadStands, HeadEnd, KnownPost};
+ghost use Rattle.frame.specs.Reading.{numberAt, okTs, withTys};
+ghost use Rattle.heads.specs.HeadPost.{headAnswer, headThere, TypesStand, SkipPost, leadOf, partsOf, HeadStands, HeadEnd, KnownPost};
 use frame::refusals::BAD_COUNT;
 use frame::refusals::BAD_TAG;
-use frame::refusals::BAD_TYPE;
 use frame::refusals::ENDS_INSIDE;
-
-// What reading a type, or several in a row, finds: where they end, or the number of what is turned down.
-enum TypeAnswer {
-    Ends(usize),
-    Refused(u8),
-}
+use types::TypeAnswer;
+use types::read_types;
 
 // What reading a head finds: its tag and payload, where its types start, where its children start, how many they are, and
 // whether the first and the later ones are expressions.
@@ -60,69 +54,6 @@ pub fn number(s: &[u8], at: usize, w: usize) -> usize
         i += 1;
     }
     x
-}
-
-// The type at `at`, which has to end by lim. The byte past the limit is not looked at, so 6 comes before 3.
-fn read_type(s: &[u8], at: usize, lim: usize) -> TypeAnswer
-    requires { ⌜ (at ≤ length (now s)) × (at ≤ lim) × (lim ≤ length (now s) + 64) ⌝ }
-    ensures { λ r. ⌜ ((f : ℕ) → lim < at + f → r ≡ typeAnswer (readTy f lim (now (s .entry)) at)) ⌝ }
-{
-    if lim <= at {
-        return TypeAnswer::Refused(BAD_TYPE);
-    }
-    if s.len() <= at {
-        return TypeAnswer::Refused(ENDS_INSIDE);
-    }
-    let b = s[at];
-    match b {
-        0 => TypeAnswer::Ends(at + 1),
-        1 => TypeAnswer::Ends(at + 1),
-        2 => given_number(s, at, lim),
-        3 => read_type(s, at + 1, lim),
-        4 => {
-            let a = read_type(s, at + 1, lim);
-            match a {
-                TypeAnswer::Ends(p) => read_type(s, p, lim),
-                TypeAnswer::Refused(c) => TypeAnswer::Refused(c),
-            }
-        }
-        _ => TypeAnswer::Refused(BAD_TYPE),
-    }
-}
-
-// The two-byte number of the given set whose type byte stands at `at`: its bytes are met one after the other.
-fn given_number(s: &[u8], at: usize, lim: usize) -> TypeAnswer
-    requires { ⌜ (at < length (now s)) × (at < lim) × (lim ≤ length (now s) + 64) ⌝ }
-    ensures { λ r. ⌜ r ≡ typeAnswer (givenAt lim (now (s .entry)) at) ⌝ }
-{
-    if lim <= at + 1 {
-        return TypeAnswer::Refused(BAD_TYPE);
-    }
-    if s.len() <= at + 1 {
-        return TypeAnswer::Refused(ENDS_INSIDE);
-    }
-    if lim <= at + 2 {
-        return TypeAnswer::Refused(BAD_TYPE);
-    }
-    if s.len() <= at + 2 {
-        return TypeAnswer::Refused(ENDS_INSIDE);
-    }
-    TypeAnswer::Ends(at + 3)
-}
-
-// n types in a row.
-fn read_types(s: &[u8], at: usize, n: usize) -> TypeAnswer
-    requires { ⌜ at ≤ length (now s) ⌝ }
-    ensures { λ r. ⌜ r ≡ typesAnswer (readTys n (now (s .entry)) at) ⌝ }
-{
-    if n == 0 {
-        return TypeAnswer::Ends(at);
-    }
-    let a = read_type(s, at, at + TYPE_LIMIT);
-    match a {
-        TypeAnswer::Ends(p) => read_types(s, p, n - 1),
-        TypeAnswer::Refused(c) => TypeAnswer::Refused(c),
-    }
 }
 
 // The head that has been read: a tag of this form, the number x, and types up to `children`.

@@ -1,17 +1,17 @@
--- `heads::read_type` meets its contract: each need cites a law of its way out.
+-- `types::read_type` meets its contract: each need cites a law of its way out.
 use Prim.Native.Nat.{_-_, ℕ, _<_}
 use borrow.Author.Needs.{needs}
 use native.Mathlib.Omega.{arith}
 use mathlib.Core.Path.{refl}
 use borrow.Fn.Kinds.{In}
 use borrow.Fn.PlainCycle.{Measures, is, falls, and}
-use Rattle.heads.proofs.TypeTurns.{ty-past, ty-end, ty-bool, ty-int, ty-given, ty-pow, ty-prod, ty-prod-no, prod-further, ty-bad}
-use Rattle.heads.proofs.+read_type.{statement}
-use Rattle.heads.proofs.+read_type.Tie.{close}
-use Rattle.heads.proofs.read_type.Reads as read-type
-use Rattle.heads.proofs.read_type.Kinds as read-type-kinds
-use Rattle.heads.proofs.+read_type.Lts-read_type as read-type-lts
-use Rattle.heads.proofs.given_number.Reads as given-number-reads
+use Rattle.types.proofs.TypeTurns.{ty-past, ty-end, ty-bool, ty-int, ty-given, ty-pow, ty-prod, ty-prod-no, prod-further, ty-bad}
+use Rattle.types.proofs.+read_type.{statement}
+use Rattle.types.proofs.+read_type.Tie.{close}
+use Rattle.types.proofs.read_type.Reads as read-type
+use Rattle.types.proofs.read_type.Kinds as read-type-kinds
+use Rattle.types.proofs.+read_type.Lts-read_type as read-type-lts
+use Rattle.types.proofs.given_number.Reads as given-number-reads
 
 abbrev μ-read-type : Measures 1 read-type-kinds.ps ℕ
 μ-read-type κs a = a .1 .1 .0 - a .1 .0

@@ -9,9 +9,9 @@ use borrow.Author.Tests.{le-leb, lt-leb}
 use Rattle.frame.specs.Types.{Ty, pow, prod}
 use Rattle.frame.specs.Reading.{TyRes, okT, noT, thenT, byteOf, tyCase, readTy, typeLimit, TysRes, okTs, noTs, consTs, thenTs, readTys}
 use Rattle.frame.specs.Spans.{Bytes}
-use Rattle.heads.specs.HeadPost.{typeAnswer, givenAt, typesAnswer}
-use Rattle.heads.specs.declared.TypeAnswer.{TypeAnswer}
-use Rattle.heads.specs.declared.TypeAnswer.the-variants.{Ends, Refused}
+use Rattle.types.specs.TypePost.{typeAnswer, givenAt, typesAnswer}
+use Rattle.types.specs.declared.TypeAnswer.{TypeAnswer}
+use Rattle.types.specs.declared.TypeAnswer.the-variants.{Ends, Refused}
 use Rattle.frame.proofs.ReadTypes.{ty-read}
 
 -- ---- answers and results

@@ -1,16 +1,16 @@
--- `heads::read_types` meets its contract: each need cites a law of its way out.
+-- `types::read_types` meets its contract: each need cites a law of its way out.
 use Prim.Native.Nat.{ℕ, _<_}
 use borrow.Author.Needs.{needs}
 use native.Mathlib.Omega.{arith}
 use borrow.Fn.Kinds.{In}
 use borrow.Fn.PlainCycle.{Measures, is, falls, and}
-use Rattle.heads.proofs.TypeTurns.{tys-none, tys-more, tys-no, tys-further}
-use Rattle.heads.proofs.+read_types.{statement}
-use Rattle.heads.proofs.+read_types.Tie.{close}
-use Rattle.heads.proofs.read_types.Reads as read-types
-use Rattle.heads.proofs.read_types.Kinds as read-types-kinds
-use Rattle.heads.proofs.+read_types.Lts-read_types as read-types-lts
-use Rattle.heads.proofs.read_type.Reads as read-type-reads
+use Rattle.types.proofs.TypeTurns.{tys-none, tys-more, tys-no, tys-further}
+use Rattle.types.proofs.+read_types.{statement}
+use Rattle.types.proofs.+read_types.Tie.{close}
+use Rattle.types.proofs.read_types.Reads as read-types
+use Rattle.types.proofs.read_types.Kinds as read-types-kinds
+use Rattle.types.proofs.+read_types.Lts-read_types as read-types-lts
+use Rattle.types.proofs.read_type.Reads as read-type-reads
 
 abbrev μ-read-types : Measures 1 read-types-kinds.ps ℕ
 μ-read-types κs a = a .1 .1 .0

@@ -1,8 +1,8 @@
--- `heads::given_number` meets its contract.
+-- `types::given_number` meets its contract.
 use borrow.Author.Tests.{le-leb, lt-leb}
 use borrow.Author.Needs.{needs}
-use Rattle.heads.proofs.given_number.Statement.{statement}
-use Rattle.heads.proofs.given_number.Tie as tie
+use Rattle.types.proofs.given_number.Statement.{statement}
+use Rattle.types.proofs.given_number.Tie as tie
 
 add-if1 : tie.Need-add-if1
 add-if1 c = search needs
