@@ -1,1 +1,2 @@
+pub mod SearchTurns
 pub mod Turns

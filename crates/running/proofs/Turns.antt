@@ -30,7 +30,7 @@ use Rattle.turn.specs.TurnPosts.{TurnPre, GoesOn, Follows, TurnPost}
 use Rattle.turn.specs.declared.Next.{Next}
 use Rattle.turn.specs.declared.Turned.{Turned}
 use Rattle.turn.specs.declared.Turned.the-variants as T
-use Rattle.searching.specs.SearchPosts.{FirstPre, FirstPost}
+use Rattle.running.specs.SearchPosts.{FirstPre, FirstPost}
 use Rattle.running.specs.Posts.{RoundsPre, RunEnded, RoundsPost, CheckedPre, RunPost}
 use Rattle.running.specs.declared.Ended.{Ended}
 

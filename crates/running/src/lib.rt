@@ -1,4 +1,7 @@
 // A run: steps at the first place where a rule applies, until none applies, the budget is used, or the next frame is too long.
+mod searching; // searching.rt: the first place where a rule applies
+
+use crate::searching::first_step;
 use output::Admitted;
 use output::admit;
 use output::put_front;
@@ -7,7 +10,6 @@ ghost use mathlib.Core.Path.{_≡_};
 ghost use lib.ListN.{length};
 ghost use Rattle.run.specs.Run.{run as ran, runAnswer, runOutput};
 ghost use Rattle.running.specs.Posts.{RoundsPre, RoundsPost, CheckedPre, RunPost};
-use searching::first_step;
 use turn::Turned;
 use turn::turn;
 

@@ -10,7 +10,7 @@ use rewriter::dispatch::decide;
 use turn::Next;
 ghost use mathlib.Core.Path.{_≡_};
 ghost use lib.ListN.{length};
-ghost use Rattle.searching.specs.SearchPosts.{AtPre, AtPost, SearchPre, SearchPost, FirstPre, FirstPost};
+ghost use Rattle.running.specs.SearchPosts.{AtPre, AtPost, SearchPre, SearchPost, FirstPre, FirstPost};
 
 // What the rules decide at place k; at an expression, nothing.
 fn decide_at(

@@ -41,7 +41,7 @@ use Rattle.step.proofs.Steps.{step-predicate, step-expression}
 use Rattle.build.specs.SplicePosts.{Decided, SplicePre, SplicePost}
 use Rattle.decision.proofs.Series.{changes}
 use Rattle.run.specs.Run.{next, nowhere, orNext, firstFrom, firstStep}
-use Rattle.searching.specs.SearchPosts.{AtPost, SearchPre, SearchPost, FirstPost}
+use Rattle.running.specs.SearchPosts.{AtPost, SearchPre, SearchPost, FirstPost}
 use Rattle.turn.specs.declared.Next.{Next}
 use Rattle.turn.specs.declared.Next.the-variants as N
 

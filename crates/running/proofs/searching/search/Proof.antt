@@ -1,11 +1,11 @@
-use Rattle.searching.proofs.SearchTurns.{pre-now}
-use Rattle.searching.proofs.SearchTurns.{Searching, search-starts, search-at, search-splice, search-writes, search-next, search-rests}
+use Rattle.running.proofs.SearchTurns.{pre-now}
+use Rattle.running.proofs.SearchTurns.{Searching, search-starts, search-at, search-splice, search-writes, search-next, search-rests}
 use borrow.Author.Tests.{not-true, not-false}
 use native.Mathlib.Omega.{arith}
 use Prim.Native.Nat.{_-_}
 use mathlib.Core.Path.{_≡_, refl, sym, _∙_}
-use Rattle.searching.proofs.search.Statement.{statement}
-use Rattle.searching.proofs.search.Tie as tie
+use Rattle.running.proofs.searching.search.Statement.{statement}
+use Rattle.running.proofs.searching.search.Tie as tie
 
 abbrev Inv-loop : tie.InvT-loop
 Inv-loop s n starts nexts leaves scratch₀ kept₀ k₀ scratch kept k = Searching s n starts nexts leaves k kept × (scratch ≡ scratch₀)

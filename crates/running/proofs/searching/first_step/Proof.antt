@@ -1,8 +1,8 @@
-use Rattle.searching.proofs.SearchTurns.{read-as, read-length, stands-at, as-framed, as-held, first-refused, first-searched}
+use Rattle.running.proofs.SearchTurns.{read-as, read-length, stands-at, as-framed, as-held, first-refused, first-searched}
 use mathlib.Core.Path.{sym, _∙_}
 use borrow.Author.Needs.{needs}
-use Rattle.searching.proofs.first_step.Statement.{statement}
-use Rattle.searching.proofs.first_step.Tie as tie
+use Rattle.running.proofs.searching.first_step.Statement.{statement}
+use Rattle.running.proofs.searching.first_step.Tie as tie
 
 read-again-requires : tie.Need-read-again-requires
 read-again-requires c κs = (c .before .pre .0 .t, read-as _ (λ i. c .shared-slice-known .given i .fits) _ (c .before .pre .0 .checks))

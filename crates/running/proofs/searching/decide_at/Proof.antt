@@ -1,8 +1,8 @@
-use Rattle.searching.proofs.SearchTurns.{at-expression, at-decided}
+use Rattle.running.proofs.SearchTurns.{at-expression, at-decided}
 use Rattle.decision.proofs.Shapes.{here-placed}
 use borrow.Author.Needs.{needs}
-use Rattle.searching.proofs.decide_at.Statement.{statement}
-use Rattle.searching.proofs.decide_at.Tie as tie
+use Rattle.running.proofs.searching.decide_at.Statement.{statement}
+use Rattle.running.proofs.searching.decide_at.Tie as tie
 
 is-expression-at-requires : tie.Need-is-expression-at-requires
 is-expression-at-requires c κs = here-placed (c .before .pre .here)
