@@ -3,7 +3,7 @@
 -- invariant.
 use mathlib.Core.Path.{_≡_, refl, sym, ap, _∙_, subst, subst₂}
 use mathlib.Core.Bool.{Bool, true, false, _&&_, and-false}
-use mathlib.Core.List.{List, [], _∷_, _++_}
+use mathlib.Core.List.{List, [], _∷_, _++_, append-nil}
 use Prim.Native.Nat.{ℕ, _+_, _-_, _/_, _%_, _≤_, _<_}
 use native.Mathlib.Omega.{arith}
 use lib.ListN.{length, getD, set, length-append, length-set}
@@ -18,13 +18,17 @@ use Rattle.frame.proofs.Spans.{span-nil, span-one, span-join}
 use Rattle.typing.specs.Typing.{ty}
 use Rattle.type_rules.specs.Patterns.{symbolBytes, filled, allBound}
 use Rattle.type_rules.specs.RuleNumbers.{Packed}
-use Rattle.type_rules.proofs.ResultTypes.{filled-cons}
 use Rattle.type_bytes.specs.Buffers.{Copied, Apart}
 use Rattle.patterns.specs.PatternPosts.{EnvAt, Kept, FillPre, Filling, FillPost}
 use Rattle.patterns.specs.declared.Filled.{Filled}
 use Rattle.patterns.specs.declared.Filled.the-variants as L
 use Rattle.type_bytes.proofs.BufferLaws.{span-kept, copied-span, apart-up}
 use Rattle.patterns.proofs.MatchTurns.{packed-end, by-symbol}
+
+filled-cons : (b : ℕ) (ps : List ℕ) (ρ : List Ty) → filled (b ∷ ps) ρ ≡ symbolBytes b ρ ++ filled ps ρ
+unfolding filled
+filled-cons b [] ρ = sym (append-nil (symbolBytes b ρ))
+filled-cons b (c ∷ ps) ρ = refl
 
 -- ---- the variables after a write above them
 pub env-kept : (o p : List ℕ) (m : ℕ) (s e : List ℕ) (ρ : List Ty) → Kept o p m → EnvAt o m s e ρ → (k : ℕ) → m ≤ k → EnvAt p k s e ρ

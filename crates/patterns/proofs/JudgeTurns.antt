@@ -43,7 +43,6 @@ use Rattle.patterns.specs.PatternPosts.{
   PairsPre,
   Pairing,
   PairsPost,
-  Holds,
   OperandsFit,
   OperandsPost,
   FillPre,
@@ -117,7 +116,7 @@ pub record Paired (R : Rule) (o : List ℕ) (from n : ℕ) (s e : List ℕ) (las
 pub record Fitted (R : Rule) (o : List ℕ) (from n : ℕ) (s e : List ℕ) (last k : ℕ) : Type 0 where
   pub answer : (ts : List Ty) → RowAt o from n ts → (ρ : List Ty)
       × (judge R ts ≡ thenMatched (matches (R .last) (lastOnes ts) ρ) (λ σ. completed (R .result) σ)) × RowAt o last n (lastOnes ts)
-      × EnvAt o n s e ρ × (length ρ ≡ k) × (us : List Ty) × (matches (R .first) ts [] ≡ fits us ρ)
+      × EnvAt o n s e ρ × (length ρ ≡ k)
 
 pub record Done (R : Rule) (o : List ℕ) (from n : ℕ) (o₁ : List ℕ) (m : ℕ) : Type 0 where
   pub answer : (ts : List Ty) → RowAt o from n ts → (xs : List ℕ) × (judge R ts ≡ typed xs) × (m ≡ n + length xs) × Spans o₁ n m xs × Kept o o₁ n
@@ -169,7 +168,7 @@ module _ (R : Rule) {o : List ℕ} {from n : ℕ} where
       fitted-by {k} ex =
           record {
             answer = λ ts row. (let f = fitted-of (matches (R .first) ts []) o n s₂ e₂ k (firstly ts (F.Fits k) row ex) in
-                (f .1, first-are ts (fits (f .0) (f .1)) row (f .2), known .answer ts row .1, f .3, f .4, f .0, f .2));
+                (f .1, first-are ts (fits (f .0) (f .1)) row (f .2), known .answer ts row .1, f .3, f .4));
           }
 
   module _ {s₂ e₂ : List ℕ} {last k : ℕ} (known : Fitted R o from n s₂ e₂ last k) where
@@ -196,17 +195,9 @@ module _ (R : Rule) {o : List ℕ} {from n : ℕ} where
           go : (y : Fit) → x ≡ y → OperandsPost R o from n s₃ e₃ y
           go (F.Fits k) ex =
               record {
-                answer = λ ts row. (let g = known .answer ts row in
-                    let f = fitted-of (matches (R .last) (lastOnes ts) (g .0)) o n s₃ e₃ k (lastly ts (F.Fits k) row ex) in
-                    let held : Holds R ts (f .1) = record {
-                      behind = g .5;
-                      rest = f .0;
-                      bound = g .0;
-                      first = g .6;
-                      last = f .2;
-                      judged = last-are ts (fits (f .0) (f .1)) row (f .2);
-                    } in
-                    (f .1, held, f .3, f .4));
+                answer = λ ts row. (let f = fitted-of (matches (R .last) (lastOnes ts) (known .answer ts row .0)) o n s₃ e₃ k
+                    (lastly ts (F.Fits k) row ex) in
+                    (f .1, last-are ts (fits (f .0) (f .1)) row (f .2), f .3, f .4));
               }
           go F.Differs ex = λ ts row. last-are ts differs row
               (unfitted-of (matches (R .last) (lastOnes ts) (known .answer ts row .0)) o n s₃ e₃ (lastly ts F.Differs row ex))
@@ -237,7 +228,7 @@ module _ (R : Rule) {o : List ℕ} {from n : ℕ} where
           → judge R ts ≡ pick b (typed (filled (R .result) (known .answer ts row .0))) wrong
       fill-are ts b row e =
           let f = known .answer ts row in
-          f .1 .judged ∙ complete-by (R .result) (f .0) n ∙ ap (λ (b : Bool). pick b (typed (filled (R .result) (f .0))) wrong) e
+          f .1 ∙ complete-by (R .result) (f .0) n ∙ ap (λ (b : Bool). pick b (typed (filled (R .result) (f .0))) wrong) e
 
       pub judge-over : x ≡ L.Over → (p : List ℕ) → JudgePost R o from n p T.Bad
       judge-over ex =

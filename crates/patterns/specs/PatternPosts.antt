@@ -25,7 +25,6 @@ use Rattle.type_rules.specs.Patterns.{
   Judged,
   typed,
   wrong,
-  limited,
   completed,
   judge,
 }
@@ -117,19 +116,10 @@ pub record PairsPost (ps types : List ℕ) (at n : ℕ) (s₀ e₀ s₁ e₁ : L
   pub answer : (us : List Ty) → RowAt types at n us → Slots s₀ e₀ → Pairing (pairsFit ps us) types n us s₁ e₁ r
 
 -- ---- the operands of a rule
--- the rule's patterns fit the types ts, with the types ρ for its variables, and the rest of the rule is its result
-pub record Holds (R : Rule) (ts ρ : List Ty) : Type 0 where
-  -- the types behind those that each pattern took, and the variables after the first
-  pub behind : List Ty
-  pub rest : List Ty
-  pub bound : List Ty
-  pub first : matches (R .first) ts [] ≡ fits behind bound
-  pub last : matches (R .last) (lastOnes ts) bound ≡ fits rest ρ
-  pub judged : judge R ts ≡ completed (R .result) ρ
-
--- k variables are bound
+-- the rule's patterns fit: k variables are bound, and the rest of the rule is its result
 pub record OperandsFit (R : Rule) (types : List ℕ) (from n : ℕ) (starts ends : List ℕ) (k : ℕ) : Type 0 where
-  pub answer : (ts : List Ty) → RowAt types from n ts → (ρ : List Ty) × Holds R ts ρ × EnvAt types n starts ends ρ × (length ρ ≡ k)
+  pub answer : (ts : List Ty) → RowAt types from n ts → (ρ : List Ty) × (judge R ts ≡ completed (R .result) ρ)
+      × EnvAt types n starts ends ρ × (length ρ ≡ k)
 
 abbrev pub OperandsPost : Rule → List ℕ → ℕ → ℕ → List ℕ → List ℕ → Fit → Type 0
 OperandsPost R types from n starts ends (F.Fits k) = OperandsFit R types from n starts ends k
@@ -162,7 +152,3 @@ Judging wrong o from p r = r ≡ T.Bad
 
 pub record JudgePost (rule : Rule) (o : List ℕ) (from n : ℕ) (p : List ℕ) (r : Typed) : Type 0 where
   pub answer : (ts : List Ty) → RowAt o from n ts → Judging (judge rule ts) o from p r
-
--- the first operand's type, left where it stands for the node's
-pub record FirstPost (types : List ℕ) (at : ℕ) (r : Typed) : Type 0 where
-  pub answer : (t : Ty) → Spans types at (at + length (encTy t)) (encTy t) → Judging (limited (encTy t)) types at types r

@@ -9,8 +9,7 @@ ghost use Prim.Native.Nat.{ℕ, _<_};
 ghost use Rattle.frame.specs.Tags.{classOf};
 ghost use Rattle.type_rules.specs.Patterns.{Rule, ruleAt};
 ghost use Rattle.type_rules.specs.RuleNumbers.{Packed, RowOf};
-ghost use Rattle.patterns.specs.PatternPosts.{Slots, VariablePost, MatchPre, MatchPost, PairsPre, PairsPost, OperandsPost, FillPre, FillPost, FirstPost, JudgePre, JudgePost};
-ghost use Rattle.type_bytes.specs.Buffers.{TypeAt};
+ghost use Rattle.patterns.specs.PatternPosts.{Slots, VariablePost, MatchPre, MatchPost, PairsPre, PairsPost, OperandsPost, FillPre, FillPost, JudgePre, JudgePost};
 use type_rules::pattern;
 use type_rules::rule_row;
 
@@ -225,20 +224,7 @@ fn fill_pattern(
     }
 }
 
-// The first operand's type, which stands at `at`, for the node's: it is left there.
-fn first_type(types: &[u8], at: usize) -> Typed
-    requires { ⌜ TypeAt (now types) at ⌝ }
-    ensures { λ r. ⌜ FirstPost (now (types .entry)) at r ⌝ }
-{
-    let end = type_end(types, at);
-    if TYPE_LIMIT < end - at {
-        return Typed::Bad;
-    }
-    Typed::Is(end)
-}
-
-// The rule of a tag at the types of the operands, which stand from `from` up to n. The type of the node is left from `from` on;
-// where the result is the pattern of the first operand, it stands there already.
+// The rule of a tag at the types of the operands, which stand from `from` up to n. The type of the node is left from `from` on.
 pub fn judge_types(tag: usize, types: &mut [u8], from: usize, n: usize) -> Typed
     requires { ⌜ JudgePre (now types) from n ⌝ }
     ensures { λ r. ⌜ JudgePost (ruleAt (classOf tag)) (now (types .entry)) from n (now (types .exit)) r ⌝ }
@@ -250,9 +236,6 @@ pub fn judge_types(tag: usize, types: &mut [u8], from: usize, n: usize) -> Typed
     let Fit::Fits(k) = fit else {
         return Typed::Bad;
     };
-    if row / 16777216 == row / 256 % 256 {
-        return first_type(types, from);
-    }
     let filled = fill_pattern(
         pattern(row / 16777216),
         types,

@@ -1,5 +1,4 @@
 pub mod Matching
-pub mod ResultTypes
 pub mod RuleShapes
 pub mod ClassShapes
 pub mod PatternRules

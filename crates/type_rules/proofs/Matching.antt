@@ -1,18 +1,17 @@
--- What it says that a pattern matches: the types are those that the pattern means, and its variables have types.
+-- What it says that a pattern matches: the types are those that the pattern means.
 -- Main definition: meant. Main results: match-means (types that match are what the pattern means), judge-means (a rule that holds).
 use mathlib.Core.Path.{_≡_, refl, sym, ap, _∙_}
 use mathlib.Core.Bool.{Bool, true, false}
 use mathlib.Core.List.{List, [], _∷_, _++_, append-assoc, append-nil}
-use Prim.Native.Nat.{ℕ, zero, suc, _-_, _≤_, _<_}
+use Prim.Native.Nat.{ℕ, zero, suc, _-_, _<_}
 use native.Mathlib.Omega.{arith}
-use lib.ListN.{length, length-append}
+use lib.ListN.{length}
 use lib.Dec.{ltb, eqb}
-use borrow.Author.Tests.{ltb-true, lt-ltb, eqb-true}
+use borrow.Author.Tests.{ltb-true, eqb-true}
 use Rattle.frame.specs.Types.{Ty, bool, int, given, pow, prod}
 use Rattle.frame.specs.Tags.{pick}
 use Rattle.frame.specs.Sameness.{sameTy}
 use Rattle.frame.proofs.SameTrees.{same-ty}
-use Rattle.frame.proofs.Booleans.{both-of}
 use Rattle.frame.proofs.Inversion.{then-of}
 use Rattle.typing.specs.Typing.{ty}
 use Rattle.type_rules.specs.Patterns.{
@@ -27,7 +26,6 @@ use Rattle.type_rules.specs.Patterns.{
   typed,
   wrong,
   completed,
-  allBound,
   thenMatched,
   pairsFit,
   lastOnes,
@@ -50,9 +48,6 @@ extends-refl ρ = ([], sym (append-nil ρ))
 
 pub extends-trans : (ρ σ τ : List Ty) → Extends ρ σ → Extends σ τ → Extends ρ τ
 extends-trans ρ σ τ a b = (a .0 ++ b .0, b .1 ∙ ap (λ (l : List Ty). l ++ b .0) (a .1) ∙ append-assoc ρ (a .0) (b .0))
-
-extends-long : (ρ σ : List Ty) → Extends ρ σ → length ρ ≤ length σ
-extends-long ρ σ e = omega (arith, ap length (e .1), length-append ρ (e .0))
 
 ty-front : (i : ℕ) (ρ τ : List Ty) → i < length ρ → ty i (ρ ++ τ) ≡ ty i ρ
 ty-front i [] τ h = absurd (omega arith)
@@ -91,10 +86,6 @@ abbrev pub meant : List ℕ → List Ty → List Ty → List Ty
 meant [] ρ us = us
 meant (b ∷ ps) ρ us = meant-one b ρ (meant ps ρ us)
 
--- a symbol that is a variable has a type
-abbrev boundOne : ℕ → List Ty → Bool
-boundOne b ρ = pick (ltb b 5) true (ltb (b - 5) (length ρ))
-
 -- ---- one symbol
 record Step (b : ℕ) (t : Ty) (us ρ : List Ty) (go : List Ty → List Ty → Matched) (vs σ : List Ty) : Type 0 where
   next : List Ty
@@ -102,7 +93,6 @@ record Step (b : ℕ) (t : Ty) (us ρ : List Ty) (go : List Ty → List Ty → M
   on : go next env ≡ fits vs σ
   more : Extends ρ env
   back : (τ : List Ty) → Extends env τ → t ∷ us ≡ meant-one b τ next
-  bound : (τ : List Ty) → Extends env τ → boundOne b τ ≡ true
 
 closed-parts : (t : Ty) (us : List Ty) (b : ℕ) → b < 5 → b ≡ symbolOf t → t ∷ us ≡ closed b (partsOf t ++ us)
 closed-parts bool us b h e = ap (λ (i : ℕ). closed i us) (sym e)
@@ -122,7 +112,6 @@ module _ (b : ℕ) (t : Ty) (us ρ : List Ty) (go : List Ty → List Ty → Matc
         more = extends-refl ρ;
         back = λ τ x. rw h
             (closed-parts t us b (ltb-true b 5 h) (eqb-true _ _ (p .0)));
-        bound = λ τ x. rw h;
       }
 
   bound-step : ltb b 5 ≡ false → ltb (b - 5) (length ρ) ≡ true → pick (sameTy t (ty (b - 5) ρ)) (go us ρ) differs ≡ fits vs σ → Step b t us ρ go vs σ
@@ -135,7 +124,6 @@ module _ (b : ℕ) (t : Ty) (us ρ : List Ty) (go : List Ty → List Ty → Matc
         more = extends-refl ρ;
         back = λ τ x. rw h
             (ap (λ (u : Ty). u ∷ us) (same-ty _ _ (p .0) ∙ sym (ty-kept (b - 5) ρ τ (ltb-true _ _ l) x)));
-        bound = λ τ x. rw h (lt-ltb (b - 5) (length τ) (omega (arith, ltb-true (b - 5) (length ρ) l, extends-long ρ τ x)));
       }
 
   new-step : ltb b 5 ≡ false → pick (eqb (b - 5) (length ρ)) (go us (ρ ++ (t ∷ []))) differs ≡ fits vs σ → Step b t us ρ go vs σ
@@ -149,8 +137,6 @@ module _ (b : ℕ) (t : Ty) (us ρ : List Ty) (go : List Ty → List Ty → Matc
         more = (t ∷ [], refl);
         back = λ τ x. rw (h, i)
             (ap (λ (u : Ty). u ∷ us) (sym (ap (ty (length ρ)) (x .1) ∙ ty-end ρ t (x .0))));
-        bound = λ τ x. rw h
-            (lt-ltb (b - 5) (length τ) (omega (arith, i, length-append ρ (t ∷ []), extends-long (ρ ++ (t ∷ [])) τ x)));
       }
 
   variable-step : ltb b 5 ≡ false → (l : Bool) → ltb (b - 5) (length ρ) ≡ l
@@ -171,11 +157,10 @@ module _ (b : ℕ) (t : Ty) (us ρ : List Ty) (go : List Ty → List Ty → Matc
 pub record Means (ps : List ℕ) (us ρ vs σ : List Ty) : Type 0 where
   pub more : Extends ρ σ
   pub back : (τ : List Ty) → Extends σ τ → us ≡ meant ps τ vs
-  pub bound : (τ : List Ty) → Extends σ τ → allBound ps τ ≡ true
 
 pub match-means : (ps : List ℕ) (us ρ vs σ : List Ty) → matches ps us ρ ≡ fits vs σ → Means ps us ρ vs σ
-unfolding matches allBound
-match-means [] us ρ vs σ e = record { more = ([], cc (append-nil ρ)); back = λ τ x. cc; bound = λ τ x. refl }
+unfolding matches
+match-means [] us ρ vs σ e = record { more = ([], cc (append-nil ρ)); back = λ τ x. cc }
 match-means (b ∷ ps) [] ρ vs σ e = differs-not e
 match-means (b ∷ ps) (t ∷ us) ρ vs σ e =
     let s = symbol-step b t us ρ (λ us σ. matches ps us σ) vs σ (ltb b 5) refl e in
@@ -183,7 +168,6 @@ match-means (b ∷ ps) (t ∷ us) ρ vs σ e =
     record {
       more = extends-trans ρ (s .env) σ (s .more) (r .more);
       back = λ τ x. s .back τ (extends-trans (s .env) σ τ (r .more) x) ∙ ap (meant-one b τ) (r .back τ x);
-      bound = λ τ x. both-of (s .bound τ (extends-trans (s .env) σ τ (r .more) x)) (r .bound τ x);
     }
 
 -- ---- a rule that holds: the first and the last operand are what the patterns mean, with the same variables

@@ -1,9 +1,7 @@
 use mathlib.Core.Path.{refl}
 use native.Mathlib.Omega.{arith}
 use borrow.Author.Needs.{needs}
-use Rattle.type_rules.proofs.ResultTypes.{result-one}
 use Rattle.type_rules.proofs.TagRules.{result-packed}
-use Rattle.patterns.proofs.FirstTurns.{result-first, first-asks, first-judged}
 use Rattle.patterns.proofs.JudgeTurns.{turned-down, operands-off, operands-fit, fill-pre, judge-over, done-by, copy-pre, judge-typed}
 use Rattle.patterns.proofs.judge_types.Statement.{statement}
 use Rattle.patterns.proofs.judge_types.Tie as tie
@@ -31,37 +29,17 @@ returns c =
     let c₁ = c .before .before .before .before .before .before in
     turned-down _ (operands-off _ _ _ _ (c .before .before .match-operands .ensures _ (c₁ .rule-row .ensures)) (c .enum-told .given .1)) _
 
-first-type-requires : tie.Need-first-type-requires
-first-type-requires c κs =
-    let c₁ = c .before .before .before in
-    let c₂ = c₁ .before .before in
-    let c₃ = c₂ .before .before .before .before in
-    let c₄ = c₃ .before .before in
-    first-asks _ (result-one _) (result-first (c₃ .rule-row .ensures) (c .before .if1 .taken))
-    (operands-fit _ _ _ _ (c₂ .match-operands .ensures _ (c₃ .rule-row .ensures)) (c₁ .fit .given .1)) (c₄ .pre)
-
-same-length-2 : tie.Need-same-length-2
-same-length-2 c = search needs
-
-returns-2 : tie.Need-returns-2
-returns-2 c =
-    let c₁ = c .before .before .before .before in
-    let c₂ = c₁ .before .before in
-    let c₃ = c₂ .before .before .before .before in
-    first-judged _ (result-one _) (result-first (c₃ .rule-row .ensures) (c .before .before .if1 .taken))
-    (operands-fit _ _ _ _ (c₂ .match-operands .ensures _ (c₃ .rule-row .ensures)) (c₁ .fit .given .1)) (c .first-type .ensures)
-
 pattern-requires : tie.Need-pattern-requires
 pattern-requires c κs = tt
 
 add-fill-pattern : tie.Need-add-fill-pattern
 add-fill-pattern c =
-    let c₁ = c .before .before .before .before .before .before .before .before .before .before .before .before in
+    let c₁ = c .before .before .before .before .before .before .before .before .before .before .before in
     omega (arith, c₁ .pre .room, c₁ .good)
 
 fill-pattern-requires : tie.Need-fill-pattern-requires
 fill-pattern-requires c κs =
-    let c₁ = c .before .before .before .before .before .before in
+    let c₁ = c .before .before .before .before .before in
     let c₂ = c₁ .before .before in
     let c₃ = c₂ .before .before .before .before in
     let c₄ = c₃ .before .before in
@@ -73,14 +51,14 @@ enum-known-filled c = search needs
 enum-told-2 : tie.Need-enum-told-2
 enum-told-2 c = search needs
 
-same-length-3 : tie.Need-same-length-3
-same-length-3 c = search needs
+same-length-2 : tie.Need-same-length-2
+same-length-2 c = search needs
 
-returns-3 : tie.Need-returns-3
-returns-3 c =
+returns-2 : tie.Need-returns-2
+returns-2 c =
     let c₁ = c .before .before .before .before in
     let c₂ = c₁ .before .before .before .before in
-    let c₃ = c₂ .before .before .before in
+    let c₃ = c₂ .before .before in
     let c₄ = c₃ .before .before in
     let c₅ = c₄ .before .before .before .before in
     judge-over _ (operands-fit _ _ _ _ (c₄ .match-operands .ensures _ (c₅ .rule-row .ensures)) (c₃ .fit .given .1))
@@ -90,33 +68,33 @@ copy-within-requires : tie.Need-copy-within-requires
 copy-within-requires c κs =
     let c₁ = c .before .before .before .before .before .before in
     let c₂ = c₁ .before .before .before .before in
-    let c₃ = c₂ .before .before .before in
+    let c₃ = c₂ .before .before in
     let c₄ = c₃ .before .before in
     let c₅ = c₄ .before .before .before .before in
     let c₆ = c₅ .before .before in
     copy-pre _ (done-by _ (operands-fit _ _ _ _ (c₄ .match-operands .ensures _ (c₅ .rule-row .ensures)) (c₃ .fit .given .1))
-    (c₁ .fill-pattern .ensures _ (result-packed (c₅ .rule-row .ensures) _ (c₂ .pattern .ensures))) (c .before .before .filled .given .1))
-    (c₆ .pre)
+    (c₁ .fill-pattern .ensures _ (result-packed (c₅ .rule-row .ensures) _ (c₂ .pattern .ensures)))
+    (c .before .before .filled .given .1)) (c₆ .pre)
 
 sub-t16 : tie.Need-sub-t16
 sub-t16 c =
     let c₁ = c .before .before .before .before .before in
     let c₂ = c₁ .before .before .before .before in
     let c₃ = c₂ .before .before .before .before in
-    let c₄ = c₃ .before .before .before in
+    let c₄ = c₃ .before .before in
     let c₅ = c₄ .before .before in
     let c₆ = c₅ .before .before .before .before in
     let c₇ = c₆ .before .before in
     copy-pre _ (done-by _ (operands-fit _ _ _ _ (c₅ .match-operands .ensures _ (c₆ .rule-row .ensures)) (c₄ .fit .given .1))
-    (c₂ .fill-pattern .ensures _ (result-packed (c₆ .rule-row .ensures) _ (c₃ .pattern .ensures))) (c₁ .filled .given .1))
-    (c₇ .pre) .0
+    (c₂ .fill-pattern .ensures _ (result-packed (c₆ .rule-row .ensures) _ (c₃ .pattern .ensures)))
+    (c₁ .filled .given .1)) (c₇ .pre) .0
 
 add-t17 : tie.Need-add-t17
 add-t17 c =
     let c₁ = c .before .before .before .before .before in
     let c₂ = c₁ .before .before .before .before in
     let c₃ = c₂ .before .before .before .before in
-    let c₄ = c₃ .before .before .before in
+    let c₄ = c₃ .before .before in
     let c₅ = c₄ .before .before in
     let c₆ = c₅ .before .before .before .before in
     let c₇ = c₆ .before .before in
@@ -124,15 +102,15 @@ add-t17 c =
     (c₂ .fill-pattern .ensures _ (result-packed (c₆ .rule-row .ensures) _ (c₃ .pattern .ensures))) (c₁ .filled .given .1))
     (c₇ .pre) in omega (arith, c₇ .good, c₇ .pre .row .span .long, c₇ .pre .room, p .1, p .2)
 
-same-length-4 : tie.Need-same-length-4
-same-length-4 c = search needs
+same-length-3 : tie.Need-same-length-3
+same-length-3 c = search needs
 
-returns-4 : tie.Need-returns-4
-returns-4 c =
+returns-3 : tie.Need-returns-3
+returns-3 c =
     let c₁ = c .before .before .before .before .before in
     let c₂ = c₁ .before .before .before .before in
     let c₃ = c₂ .before .before .before .before in
-    let c₄ = c₃ .before .before .before in
+    let c₄ = c₃ .before .before in
     let c₅ = c₄ .before .before in
     let c₆ = c₅ .before .before .before .before in
     judge-typed _ (done-by _ (operands-fit _ _ _ _ (c₅ .match-operands .ensures _ (c₆ .rule-row .ensures)) (c₄ .fit .given .1))
@@ -149,18 +127,15 @@ judge-types-spec =
     enum-told
     same-length
     returns
-    first-type-requires
-    same-length-2
-    returns-2
     pattern-requires
     add-fill-pattern
     fill-pattern-requires
     enum-known-filled
     enum-told-2
-    same-length-3
-    returns-3
+    same-length-2
+    returns-2
     copy-within-requires
     sub-t16
     add-t17
-    same-length-4
-    returns-4)
+    same-length-3
+    returns-3)
