@@ -1,1 +1,2 @@
 pub mod PrintPosts
+pub mod AnswerPosts

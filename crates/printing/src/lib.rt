@@ -1,10 +1,12 @@
 // Text in a lent output, from the place `at` on. Each function answers the place after what it wrote.
+use run::RunAnswer;
 ghost use Prim.Native.Nat.{_+_, _≤_, _<_};
 ghost use mathlib.Core.List.{[], _∷_};
 ghost use lib.ListN.{length};
 ghost use Rattle.frame.specs.Lines.{writeLine};
 ghost use Rattle.program.specs.Text.{decimal, endedText, refusedText};
 ghost use Rattle.printing.specs.PrintPosts.{Appends};
+ghost use Rattle.printing.specs.AnswerPosts.{longest, AnswerPre, AnswerPost};
 
 const SPACE: u8 = 0x20;
 
@@ -52,7 +54,7 @@ fn put_frame(out: &mut [u8], at: usize, frame: &[u8]) -> usize
 }
 
 // The answer of a run that ended: its word, the count and the frame.
-pub fn put_ended(out: &mut [u8], at: usize, word: &[u8], count: u32, frame: &[u8]) -> usize
+fn put_ended(out: &mut [u8], at: usize, word: &[u8], count: u32, frame: &[u8]) -> usize
     requires { ⌜ at + length (endedText (now word) count (now frame)) ≤ length (now out) ⌝ }
     ensures { λ r. ⌜ Appends (now (out .entry)) at (endedText (now (word .entry)) count (now (frame .entry))) (now (out .exit)) r ⌝ }
 {
@@ -73,4 +75,17 @@ pub fn put_refused(out: &mut [u8], at: usize, number: u8) -> usize
     let n = put_byte(out, n, SPACE);
     let n = put_decimal(out, n, number as u32);
     put_byte(out, n, NEWLINE)
+}
+
+// A run's answer; its last frame stands at the start of `last`.
+pub fn put_answer(a: RunAnswer, last: &[u8], out: &mut [u8], at: usize) -> usize
+    requires { ⌜ AnswerPre a (now last) × (at + longest ≤ length (now out)) ⌝ }
+    ensures { λ r. ⌜ AnswerPost a (now (last .entry)) (now (out .entry)) at (now (out .exit)) r ⌝ }
+{
+    match a {
+        RunAnswer::Rest(count, n) => put_ended(out, at, b"REST", count, &last[..n]),
+        RunAnswer::Spent(count, n) => put_ended(out, at, b"SPENT", count, &last[..n]),
+        RunAnswer::Full(count, n) => put_ended(out, at, b"FULL", count, &last[..n]),
+        RunAnswer::Refused(c) => put_refused(out, at, c),
+    }
 }

@@ -8,7 +8,7 @@ use lib.ListN.{length, take, drop, length-drop}
 use lib.Seq.{length-take-le, take-take, take-add, take-all}
 use Rattle.lines.specs.declared.LineState.{LineState}
 use Rattle.program.specs.Stream.{lastLine}
-use Rattle.streaming.specs.AnswerPosts.{Holds}
+use Rattle.streaming.specs.LinePosts.{Holds}
 use Rattle.streaming.specs.StreamPosts.{FeedPost}
 use Rattle.streaming.proofs.Streams.{last-join}
 use Rattle.simplify.specs.Posts.{Carried}

@@ -4,7 +4,7 @@
 // holds, so those here say which line goes on after a piece, and that the loops are safe and end.
 ghost use Prim.Native.Nat.{_≤_};
 ghost use lib.ListN.{length};
-ghost use Rattle.streaming.specs.AnswerPosts.{longest};
+ghost use Rattle.printing.specs.AnswerPosts.{longest};
 ghost use Rattle.simplify.specs.Posts.{PiecePost, ReadPost};
 use libc::STDIN_FILENO;
 use libc::STDOUT_FILENO;

@@ -1,14 +1,12 @@
--- Answers of runs and of lines, on plain values: the ways out of src/answers.rt.
--- Main results: ended-fits, ended-room, ended-post (a run that ended, for any of the three words); refused-room, refused-post; run-answers, run-post;
--- held-none, held-frame; line-refused,
--- line-frame (a line by what reading it answers).
-use mathlib.Core.Path.{_≡_, refl, sym, ap, ap₂, _∙_, subst}
+-- Answers of frames and of lines, on plain values: the ways out of src/answers.rt.
+-- Main results: run-answers, run-post; held-none, held-frame; line-refused, line-frame (a line by what reading it answers).
+use mathlib.Core.Path.{_≡_, refl, sym, ap, _∙_, subst}
 use mathlib.Core.Bool.{Bool, true, false}
 use mathlib.Core.List.{List, _++_}
 use Prim.Native.Nat.{ℕ, _+_, _≤_, _<_}
 use native.Mathlib.Omega.{arith}
 use lib.ListN.{length, take, drop, length-append}
-use lib.Seq.{take-at, length-take-le}
+use lib.Seq.{take-at}
 use lib.Dec.{ltb}
 use borrow.Author.Tests.{ltb-true, ltb-false, lt-ltb, ne-eqb}
 use Rattle.frame.specs.Tags.{pick}
@@ -20,110 +18,16 @@ use Rattle.lines.specs.declared.LineState.{LineState}
 use Rattle.lines.specs.declared.LineAnswer.{LineAnswer}
 use Rattle.lines.specs.declared.LineAnswer.the-variants as L
 use Rattle.lines.proofs.LineTurns.{line-buffer}
-use Rattle.lines.proofs.LineWrites.{write-length}
 use Rattle.typing.specs.Check.{check}
-use Rattle.run.specs.Run.{Word, REST, SPENT, FULL, RunOutcome, ended, turnedDown, run, wordAnswer, runAnswer, runOutput}
+use Rattle.run.specs.Run.{RunOutcome, ended, turnedDown, run, runAnswer, runOutput}
 use Rattle.run.specs.declared.RunAnswer.{RunAnswer}
-use Rattle.run.specs.declared.RunAnswer.the-variants.{Refused}
 use Rattle.run.proofs.Sizes.{run-small}
-use Rattle.program.specs.Text.{budget, lent, wordText, endedText, refusedText, answerText, lineOutcome, lineText}
+use Rattle.program.specs.Text.{budget, lent, refusedText, answerText, lineOutcome, lineText}
 use Rattle.printing.specs.PrintPosts.{Appends}
-use Rattle.streaming.specs.AnswerPosts.{longest, Small, Answers, AnswerPre, AnswerPost, FramePost, HeldPost, LinePost}
-use Rattle.printing.proofs.Writes.{appends-as, ended-length, refused-length, digits-3, digits-5}
-
--- ---- an answer and the outcome that it is the answer of
-same-word : (w v : Word) (k l m j : ℕ) → wordAnswer w k l ≡ wordAnswer v m j → (w ≡ v) × (k ≡ m) × (l ≡ j)
-same-word REST REST k l m j e = (refl, cc, cc)
-same-word REST SPENT k l m j e = let z : _≡_ {A = ℕ} 0 1 = cc in absurd (omega arith)
-same-word REST FULL k l m j e = let z : _≡_ {A = ℕ} 0 1 = cc in absurd (omega arith)
-same-word SPENT REST k l m j e = let z : _≡_ {A = ℕ} 0 1 = cc in absurd (omega arith)
-same-word SPENT SPENT k l m j e = (refl, cc, cc)
-same-word SPENT FULL k l m j e = let z : _≡_ {A = ℕ} 0 1 = cc in absurd (omega arith)
-same-word FULL REST k l m j e = let z : _≡_ {A = ℕ} 0 1 = cc in absurd (omega arith)
-same-word FULL SPENT k l m j e = let z : _≡_ {A = ℕ} 0 1 = cc in absurd (omega arith)
-same-word FULL FULL k l m j e = (refl, cc, cc)
-
-word-not : {X : Type 0} (w : Word) (k l c : ℕ) → wordAnswer w k l ≡ Refused c → X
-word-not REST k l c e = let z : _≡_ {A = ℕ} 0 1 = cc in absurd (omega arith)
-word-not SPENT k l c e = let z : _≡_ {A = ℕ} 0 1 = cc in absurd (omega arith)
-word-not FULL k l c e = let z : _≡_ {A = ℕ} 0 1 = cc in absurd (omega arith)
-
--- the outcome of an answer with a word: its frame stands at the buffer's start
-record Said (w : Word) (k l : ℕ) (last : List ℕ) (x : RunOutcome) : Type 0 where
-  is : x ≡ ended w k (take l last)
-  few : k ≤ budget
-  short : l ≤ lent
-  fits : l ≤ length last
-
-said : (a : RunAnswer) (w : Word) (k l : ℕ) (last : List ℕ) → a ≡ wordAnswer w k l → (x : RunOutcome) → Answers a last x → Said w k l last x
-said a w k l last e (ended v m ys) h =
-    let s = same-word w v k l m (length ys) (sym e ∙ h .answer) in
-    let t : take l last ≡ ys = ap₂ (λ (i : ℕ) (z : List ℕ). take i z) (s .2) (h .output) ∙ take-at ys (drop (length ys) (h .old)) (length ys) refl in
-    let n : length last ≡ length ys + length (drop (length ys) (h .old)) = ap (λ (z : List ℕ). length z) (h .output) ∙ length-append ys
-    (drop (length ys) (h .old)) in
-    record {
-      is = subst (λ (u : Word). ended v m ys ≡ ended u k (take l last)) (sym (s .0)) (ap₂ (λ (i : ℕ) (z : List ℕ). ended v i z) (sym (s .1)) (sym t));
-      few = omega (arith, s .1, h .small .0);
-      short = omega (arith, s .2, h .small .1);
-      fits = omega (arith, s .2);
-    }
-said a w k l last e (turnedDown c) h = word-not w k l c (sym e ∙ h .answer)
-
--- ---- `put_answer`
-module _ (a : RunAnswer) (last : List ℕ) (w : Word) (k l : ℕ) (e : a ≡ wordAnswer w k l) (pre : AnswerPre a last) where
-  of-pre : Said w k l last (pre .0)
-  of-pre = said a w k l last e (pre .0) (pre .1)
-
-  pub ended-fits : l ≡ length (take l last)
-  ended-fits = sym (length-take-le l last (of-pre .fits))
-
-  ended-short : length (endedText (wordText w) k (take l last)) ≤ longest
-  ended-short = go w
-    where
-      rest : (word : List ℕ) → length word ≤ 5 → length (endedText word k (take l last)) ≤ longest
-      rest word h =
-          omega (
-            arith,
-            ended-length word k (take l last),
-            write-length (take l last),
-            length-take-le l last
-                (of-pre .fits),
-            of-pre .short,
-            digits-5 k (omega (arith, of-pre .few)),
-          )
-
-      go : (w : Word) → length (endedText (wordText w) k (take l last)) ≤ longest
-      go REST = rest (wordText REST) (omega arith)
-      go SPENT = rest (wordText SPENT) (omega arith)
-      go FULL = rest (wordText FULL) (omega arith)
-
-  pub ended-room : (n c : ℕ) → n + longest ≤ c → n + length (endedText (wordText w) k (take l last)) ≤ c
-  ended-room n c h = omega (arith, ended-short)
-
-  pub ended-post : (o : List ℕ) (n : ℕ) (p : List ℕ) (m : ℕ) → Appends o n (endedText (wordText w) k (take l last)) p m → AnswerPost a last o n p m
-  unfolding answerText
-  ended-post o n p m h = record {
-    puts = λ x ans. subst (λ (y : RunOutcome). Appends o n (answerText y) p m) (sym (said a w k l last e x ans .is)) h;
-    room = omega (arith, ended-short, h .after);
-  }
-
-refused-short : (c : ℕ) → c < 256 → length (refusedText c) ≤ longest
-refused-short c h = omega (arith, refused-length c, digits-3 c (omega arith))
-
-pub refused-room : (c : ℕ) → c < 256 → (n k : ℕ) → n + longest ≤ k → n + length (refusedText c) ≤ k
-refused-room c h n k l = omega (arith, refused-short c h)
-
-of-refused : (a : RunAnswer) (last : List ℕ) (c : ℕ) → a ≡ Refused c → (x : RunOutcome) → Answers a last x → x ≡ turnedDown c
-of-refused a last c e (ended v m ys) h = word-not v m (length ys) c (sym (h .answer) ∙ e)
-of-refused a last c e (turnedDown d) h = let y : Refused d ≡ Refused c = sym (h .answer) ∙ e in cc
-
-pub refused-post : (a : RunAnswer) (last : List ℕ) (c : ℕ) → c < 256 → a ≡ Refused c → (o : List ℕ) (n : ℕ) (p : List ℕ) (m : ℕ)
-    → Appends o n (refusedText c) p m → AnswerPost a last o n p m
-unfolding answerText
-refused-post a last c l e o n p m h = record {
-  puts = λ x ans. subst (λ (y : RunOutcome). Appends o n (answerText y) p m) (sym (of-refused a last c e x ans)) h;
-  room = omega (arith, refused-short c l, h .after);
-}
+use Rattle.printing.specs.AnswerPosts.{Small, Answers, AnswerPost}
+use Rattle.printing.proofs.Writes.{appends-as}
+use Rattle.printing.proofs.AnswerTexts.{refused-short}
+use Rattle.streaming.specs.LinePosts.{FramePost, HeldPost, LinePost}
 
 -- ---- `put_run`: `last` is the buffer after a run
 small-of : (s : List ℕ) → Bytes s → (x : RunOutcome) → run s budget lent ≡ x → Small x
@@ -194,7 +98,7 @@ module _ (st : LineState) (b o : List ℕ) (n : ℕ) (p : List ℕ) (m : ℕ) (r
   pub line-refused : (c : ℕ) → c < 256 → r ≡ L.Refused c → Appends o n (refusedText c) p m → LinePost st b o n p m
   line-refused c l e h = record {
     puts = λ held hs. appends-as o n (refusedText c) (lineText held) p m (refused-text held c (sym e ∙ end held (hs .state))) h;
-    room = omega (arith, refused-length c, digits-3 c (omega arith), h .after);
+    room = omega (arith, refused-short c l, h .after);
   }
 
   pub line-frame : (k : ℕ) → r ≡ L.Frame k → HeldPost b k o n p m → LinePost st b o n p m

@@ -17,9 +17,10 @@ use Rattle.lines.specs.declared.LineState.{LineState}
 use Rattle.lines.proofs.LineTurns.{count-said}
 use Rattle.program.specs.Text.{newline, lineText}
 use Rattle.program.specs.Stream.{wholeOf, inPieces, answersAt, answers, lastLineAt, lastLine, lastAnswer, simplified}
-use Rattle.streaming.specs.AnswerPosts.{longest, Holds, LinePost}
-use Rattle.streaming.specs.StreamPosts.{NoEnd, EndPost, Fed, FinishPost}
+use Rattle.printing.specs.AnswerPosts.{longest}
 use Rattle.printing.proofs.Writes.{appends-none, appends-then, appends-as}
+use Rattle.streaming.specs.LinePosts.{Holds, LinePost}
+use Rattle.streaming.specs.StreamPosts.{NoEnd, EndPost, Fed, FinishPost}
 
 -- ---- a text in two pieces
 pub answers-join : (xs ys held : List ℕ) → answers (xs ++ ys) held ≡ answers xs held ++ answers ys (lastLine xs held)

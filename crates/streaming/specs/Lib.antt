@@ -1,2 +1,2 @@
-pub mod AnswerPosts
+pub mod LinePosts
 pub mod StreamPosts

@@ -7,7 +7,8 @@ use Rattle.lines.specs.declared.LineState.{LineState}
 use Rattle.program.specs.Text.{newline}
 use Rattle.program.specs.Stream.{answers, lastLine, lastAnswer}
 use Rattle.printing.specs.PrintPosts.{Appends}
-use Rattle.streaming.specs.AnswerPosts.{longest, Holds}
+use Rattle.printing.specs.AnswerPosts.{longest}
+use Rattle.streaming.specs.LinePosts.{Holds}
 
 -- ---- a piece of the input
 -- no byte of xs ends a line

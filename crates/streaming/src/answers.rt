@@ -2,28 +2,15 @@
 use lines::LineAnswer;
 use lines::LineState;
 use lines::line_end;
-use printing::put_ended;
+use printing::put_answer;
 use printing::put_refused;
-use run::RunAnswer;
 ghost use Prim.Native.Nat.{_+_, _≤_};
 ghost use lib.ListN.{length};
-ghost use Rattle.streaming.specs.AnswerPosts.{longest, AnswerPre, AnswerPost, FramePost, HeldPost, LinePost};
+ghost use Rattle.printing.specs.AnswerPosts.{longest};
+ghost use Rattle.streaming.specs.LinePosts.{FramePost, HeldPost, LinePost};
 
 // Every line is run with this budget.
 const BUDGET: u32 = 65535;
-
-// A run's answer; its last frame stands at the start of `last`.
-fn put_answer(a: RunAnswer, last: &[u8], out: &mut [u8], at: usize) -> usize
-    requires { ⌜ AnswerPre a (now last) × (at + longest ≤ length (now out)) ⌝ }
-    ensures { λ r. ⌜ AnswerPost a (now (last .entry)) (now (out .entry)) at (now (out .exit)) r ⌝ }
-{
-    match a {
-        RunAnswer::Rest(count, n) => put_ended(out, at, b"REST", count, &last[..n]),
-        RunAnswer::Spent(count, n) => put_ended(out, at, b"SPENT", count, &last[..n]),
-        RunAnswer::Full(count, n) => put_ended(out, at, b"FULL", count, &last[..n]),
-        RunAnswer::Refused(c) => put_refused(out, at, c),
-    }
-}
 
 // A frame is run, and the answer written.
 fn put_run(frame: &[u8], out: &mut [u8], at: usize) -> usize

@@ -1,7 +1,7 @@
 use denote.Ref.{now}
-use Rattle.streaming.proofs.Streams.{fed-start, fed-part, fed-end}
-use Rattle.streaming.specs.AnswerPosts.{longest}
+use Rattle.printing.specs.AnswerPosts.{longest}
 use Rattle.streaming.specs.StreamPosts.{Fed}
+use Rattle.streaming.proofs.Streams.{fed-start, fed-part, fed-end}
 use native.Mathlib.Omega.{arith}
 use lib.ListN.{length, take}
 use mathlib.Core.Path.{_≡_, refl}

@@ -1,4 +1,5 @@
-use Rattle.streaming.proofs.LineTexts.{refused-room, line-refused, line-frame}
+use Rattle.printing.proofs.AnswerTexts.{refused-room}
+use Rattle.streaming.proofs.LineTexts.{line-refused, line-frame}
 use native.Mathlib.Omega.{arith}
 use borrow.Author.Needs.{needs}
 use Rattle.streaming.proofs.answers.put_line.Statement.{statement}

@@ -1,9 +1,9 @@
-use Rattle.streaming.proofs.LineTexts.{ended-fits, ended-room, ended-post, refused-room, refused-post}
+use Rattle.printing.proofs.AnswerTexts.{ended-fits, ended-room, ended-post, refused-room, refused-post}
 use Rattle.run.specs.Run.{REST, SPENT, FULL}
 use native.Mathlib.Omega.{arith}
 use borrow.Author.Needs.{needs}
-use Rattle.streaming.proofs.answers.put_answer.Statement.{statement}
-use Rattle.streaming.proofs.answers.put_answer.Tie as tie
+use Rattle.printing.proofs.put_answer.Statement.{statement}
+use Rattle.printing.proofs.put_answer.Tie as tie
 
 enum-known-a : tie.Need-enum-known-a
 enum-known-a c = search needs
