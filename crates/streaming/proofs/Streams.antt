@@ -1,8 +1,7 @@
 -- The input in pieces, on plain values.
--- Main results: answers-join, last-join (a text in two pieces: so the answers of all the pieces, one after the other, are those of the whole
--- input), whole-input; end-start, end-more (`end_of_line`); fed-start, fed-part, fed-end (`feed`); finish-none, finish-short, finish-line.
-use mathlib.Core.Path.{_≡_, refl, sym, ap, ap₂, _∙_, subst}
-use mathlib.Core.Bool.{Bool, true, false}
+-- Main results: end-start, end-more (`end_of_line`); fed-start, fed-part, fed-end (`feed`); finish-none, finish-short, finish-line.
+use mathlib.Core.Path.{_≡_, refl, sym, ap, _∙_, subst}
+use mathlib.Core.Bool.{false}
 use mathlib.Core.List.{List, [], _∷_, _++_, append-assoc, append-nil}
 use Prim.Native.Nat.{ℕ, suc, _+_, _-_, _≤_, _<_}
 use native.Mathlib.Omega.{arith}
@@ -16,32 +15,12 @@ use Rattle.lines.specs.LineState.{lineBytes, shortened, lineState, LineGoes}
 use Rattle.lines.specs.declared.LineState.{LineState}
 use Rattle.lines.proofs.LineTurns.{count-said}
 use Rattle.program.specs.Text.{newline, lineText}
-use Rattle.program.specs.Stream.{wholeOf, inPieces, answersAt, answers, lastLineAt, lastLine, lastAnswer, simplified}
+use Rattle.program.specs.Stream.{answers, lastLine, lastAnswer}
+use Rattle.program.proofs.Pieces.{answers-join, last-join}
 use Rattle.printing.specs.AnswerPosts.{longest}
 use Rattle.printing.proofs.Writes.{appends-none, appends-then, appends-as}
 use Rattle.streaming.specs.LinePosts.{Holds, LinePost}
 use Rattle.streaming.specs.StreamPosts.{NoEnd, EndPost, Fed, FinishPost}
-
--- ---- a text in two pieces
-pub answers-join : (xs ys held : List ℕ) → answers (xs ++ ys) held ≡ answers xs held ++ answers ys (lastLine xs held)
-unfolding answers lastLine
-answers-join [] ys held = refl
-answers-join (c ∷ xs) ys held = go (eqb c newline) (answers-join xs ys)
-  where
-    go : (b : Bool) → ((h : List ℕ) → answers (xs ++ ys) h ≡ answers xs h ++ answers ys (lastLine xs h))
-        → answersAt b held c (answers (xs ++ ys)) ≡ answersAt b held c (answers xs) ++ answers ys (lastLineAt b held c (lastLine xs))
-    go true ih = ap (λ (l : List ℕ). lineText held ++ l) (ih []) ∙ sym (append-assoc (lineText held) (answers xs []) (answers ys (lastLine xs [])))
-    go false ih = ih (held ++ (c ∷ []))
-
-pub last-join : (xs ys held : List ℕ) → lastLine (xs ++ ys) held ≡ lastLine ys (lastLine xs held)
-unfolding lastLine
-last-join [] ys held = refl
-last-join (c ∷ xs) ys held = go (eqb c newline) (last-join xs ys)
-  where
-    go : (b : Bool) → ((h : List ℕ) → lastLine (xs ++ ys) h ≡ lastLine ys (lastLine xs h))
-        → lastLineAt b held c (lastLine (xs ++ ys)) ≡ lastLine ys (lastLineAt b held c (lastLine xs))
-    go true ih = ih []
-    go false ih = ih (held ++ (c ∷ []))
 
 -- ---- a piece without a line's end, and one that is a line's end
 none-answers : (xs held : List ℕ) → NoEnd xs → (answers xs held ≡ []) × (lastLine xs held ≡ held ++ xs)
@@ -170,19 +149,3 @@ module _ (st : LineState) (b o : List ℕ) where
     short = λ s. absurd (omega arith);
     room = omega (arith, q .room);
   }
-
--- ---- the whole input, in pieces: what `feed` writes of each, and then `finish`
-from-held : (pieces : List (List ℕ)) (held : List ℕ) → inPieces pieces held ≡ answers (wholeOf pieces) held ++ lastAnswer
-    (lastLine (wholeOf pieces) held)
-unfolding inPieces wholeOf answers lastLine
-from-held [] held = refl
-from-held (piece ∷ pieces) held =
-    let rest = wholeOf pieces in
-    ap (λ (u : List ℕ). answers piece held ++ u) (from-held pieces (lastLine piece held))
-    ∙ sym (append-assoc (answers piece held) (answers rest (lastLine piece held)) (lastAnswer (lastLine rest (lastLine piece held))))
-    ∙ sym (ap₂ (λ (u v : List ℕ). u ++ lastAnswer v) (answers-join piece rest held) (last-join piece rest held))
-
--- however the input is cut, its pieces print what `simplified` says of the whole
-pub whole-input : (pieces : List (List ℕ)) → inPieces pieces [] ≡ simplified (wholeOf pieces)
-unfolding simplified
-whole-input pieces = from-held pieces []
