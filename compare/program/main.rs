@@ -1,7 +1,7 @@
 //! reference step | rule | run: answers lines `NUMBER LENT FRAME` of standard input (the number is the step's place or the run's
-//! budget) as the Rattle programs do; `rule` tells the place of docs/RULES.md in front of a step's answer.
+//! budget) as the Rattle program `replay` does; `rule` tells the place of docs/RULES.md in front of a step's answer.
 //! reference bench (built with --cfg bench): the port and the source timed on the same frames.
-//! reference gen SEED COUNT: so many lines for `step` at random. reference sample SEED: the lines of crates/step_test/stdin.
+//! reference gen SEED COUNT: so many lines for `step` at random. reference sample SEED: the steps of crates/replay/stdin.
 extern crate self as rossi;
 
 mod ast;
@@ -55,7 +55,8 @@ fn step_answer(line: &[u8], with_rule: bool) -> Result<String, u8> {
 
 fn run_answer(line: &[u8]) -> Result<String, u8> {
     let l = parse(line)?;
-    let (word, count, last) = step::run(&l.frame, l.number, l.lent)?;
+    let budget = u32::try_from(l.number).map_err(|_| 1)?;
+    let (word, count, last) = step::run(&l.frame, budget.into(), l.lent)?;
     Ok(format!("{word} {count} {}", text::to_hex(&last)))
 }
 

@@ -1,4 +1,4 @@
-//! The lines that crates/step_test replays: every rule's left side, its neighbours, the refusals, the limits.
+//! The steps that crates/replay answers: every rule's left side, its neighbours, the refusals, the limits.
 use std::collections::HashSet;
 
 use rossi::formula::Type;

@@ -75,37 +75,66 @@ fn the_deepest_frame() {
     thread.join().unwrap();
 }
 
-/// Lines `PLACE LENT FRAME` and the answers that `step_test` prints.
+/// What a check, a step and a run answer, as `replay` prints it. All bytes of the output that must stay as they were are looked at.
+fn check_text(frame: &[u8]) -> String {
+    check(frame).map_or_else(|Refused(c)| format!("REFUSED {c}"), |()| "CHECKED".to_string())
+}
+
+fn step_text(frame: &[u8], place: u64, old: &[u8]) -> String {
+    let mut out = old.to_vec();
+    let answer = step(frame, place, &mut out);
+    let written = if let Ok(Step::Changed(n)) = answer { n } else { 0 };
+    assert_eq!(out[written..], old[written..]);
+    match answer {
+        Ok(Step::Changed(n)) => format!("CHANGED {}", hex(&out[..n])),
+        Ok(Step::Unchanged) => "UNCHANGED".to_string(),
+        Err(Refused(c)) => format!("REFUSED {c}"),
+    }
+}
+
+fn run_text(frame: &[u8], budget: u32, old: &[u8]) -> String {
+    let mut out = old.to_vec();
+    let answer = run(frame, budget, &mut out);
+    let written = answer.as_ref().map_or(0, |r| r.length);
+    assert_eq!(out[written..], old[written..]);
+    match answer {
+        Ok(Run { word, count, length }) => {
+            let word = match word {
+                Word::Rest => "REST",
+                Word::Spent => "SPENT",
+                Word::Full => "FULL",
+            };
+            format!("{word} {count} {}", hex(&out[..length]))
+        }
+        Err(Refused(c)) => format!("REFUSED {c}"),
+    }
+}
+
+/// Lines `F FRAME`, `S PLACE LENT FRAME`, `R BUDGET LENT FRAME` and the answers that `replay` prints: for a frame that is read the
+/// count of nodes stands in front of what the checks say.
 #[test]
-fn steps_as_the_program() {
-    let (input, output) = (file("step_test", "stdin"), file("step_test", "stdout"));
-    let mut compared = 0;
-    for (line, answer) in input.lines().zip(output.lines()) {
+fn answers_as_the_program() {
+    let (input, output) = (file("replay", "stdin"), file("replay", "stdout"));
+    assert_eq!(input.split('\n').count(), output.lines().count());
+    let mut compared = [0; 3];
+    for (line, answer) in input.split('\n').zip(output.lines()) {
         if answer == "REFUSED 1" {
             continue;
         }
         let words: Vec<&str> = line.split(' ').collect();
-        let frame = bytes(words.get(2).copied().unwrap_or("")).unwrap();
-        let old = lent(words[1].parse().unwrap());
-        let mut out = old.clone();
-        let got = match step(&frame, words[0].parse().unwrap(), &mut out) {
-            Ok(Step::Changed(n)) => {
-                assert_eq!(out[n..], old[n..]);
-                format!("CHANGED {}", hex(&out[..n]))
-            }
-            Ok(Step::Unchanged) => {
-                assert_eq!(out, old);
-                "UNCHANGED".to_string()
-            }
-            Err(Refused(c)) => {
-                assert_eq!(out, old);
-                format!("REFUSED {c}")
-            }
+        let frame = bytes(words[words.len() - 1]).unwrap();
+        let old = |length: &str| lent(length.parse().unwrap());
+        let (form, got) = match words[..] {
+            ["F", _] => (0, check_text(&frame)),
+            ["S", place, length, _] => (1, step_text(&frame, place.parse().unwrap(), &old(length))),
+            ["R", budget, length, _] => (2, run_text(&frame, budget.parse().unwrap(), &old(length))),
+            _ => panic!("{line}"),
         };
-        assert_eq!(got, answer, "{line}");
-        compared += 1;
+        let told = if form == 0 { answer.trim_start_matches(|c: char| c.is_ascii_digit()).trim_start() } else { answer };
+        assert_eq!(got, told, "{line}");
+        compared[form] += 1;
     }
-    assert!(compared > 500, "{compared}");
+    assert!(compared[0] > 1000 && compared[1] > 500 && compared[2] > 50, "{compared:?}");
 }
 
 /// Lines and the answers that `simplify` prints.
@@ -119,22 +148,7 @@ fn runs_as_the_program() {
             assert_eq!(answer, "REFUSED 1");
             continue;
         };
-        let mut out = old.clone();
-        let got = match run(&frame, 65535, &mut out) {
-            Ok(Run { word, count, length }) => {
-                assert_eq!(out[length..], old[length..]);
-                let word = match word {
-                    Word::Rest => "REST",
-                    Word::Spent => "SPENT",
-                    Word::Full => "FULL",
-                };
-                format!("{word} {count} {}", hex(&out[..length]))
-            }
-            Err(Refused(c)) => {
-                assert_eq!(out, old);
-                format!("REFUSED {c}")
-            }
-        };
+        let got = run_text(&frame, 65535, &old);
         assert_eq!(got, answer, "{line}");
         assert_eq!(check(&frame).is_ok(), !got.starts_with("REFUSED"));
     }

@@ -1,6 +1,6 @@
 -- Numbers 3 to 7 at their limits, and number 2 for no byte, by one evaluation of `parse`; 0 is a frame that is read.
 -- "4,096 bytes read, 4,097 number 2. 32 binders read, 33 number 5. 63 powers over BOOL read, 64 number 6.": the binders and the
--- powers are in this table; the frames of 4,096 and of 4,097 bytes are not: programs run them (crates/frame_test;
+-- powers are in this table; the frames of 4,096 and of 4,097 bytes are not: programs run them (crates/replay;
 -- tests/simplify for one too long).
 use mathlib.Core.Path.{_≡_, refl}
 use mathlib.Core.List.{List, [], _∷_, map}

@@ -1,7 +1,9 @@
-// What the programs that try the others share: input a byte at a time, lines `PLACE LENT FRAME`, an output that shows which of its bytes
-// were written.
+// What the program `replay` stands on: input a byte at a time, the three forms of its lines, an output that shows which of its bytes were
+// written, and the words that it prints.
+use frame::refusals::BAD_LINE;
 use libc::STDIN_FILENO;
 use libc::STDOUT_FILENO;
+use lines::LineAnswer;
 use lines::LineState;
 
 // The most that a line may lend.
@@ -9,7 +11,7 @@ pub const LENT_LIMIT: usize = 8192;
 
 // ---- what is printed
 
-// What the output holds before the step: bytes that go by their place, so that one that was written or moved is seen.
+// What the output holds before the call: bytes that go by their place, so that one that was written or moved is seen.
 fn pattern(i: usize) -> u8 {
     (i % 251 + 1) as u8
 }
@@ -22,7 +24,7 @@ pub fn fill(out: &mut [u8]) {
     }
 }
 
-// Whether the output's bytes from `from` on are as they were before the step.
+// Whether the output's bytes from `from` on are as they were before the call.
 fn kept(out: &[u8], from: usize) -> bool {
     let mut i = from;
     while i < out.len() {
@@ -34,7 +36,7 @@ fn kept(out: &[u8], from: usize) -> bool {
     true
 }
 
-pub fn print_touched(out: &[u8], from: usize) {
+fn print_touched(out: &[u8], from: usize) {
     if !kept(out, from) {
         io::write_all(STDOUT_FILENO, b" TOUCHED");
     }
@@ -57,45 +59,100 @@ fn print_text(frame: &[u8]) {
     print_part(&text, n)
 }
 
-pub fn print_changed(out: &[u8], n: usize) {
-    io::write_all(STDOUT_FILENO, b"CHANGED ");
+// A word and the frame in the first n bytes of the output; behind that no byte may have been written.
+pub fn print_result(word: &[u8], out: &[u8], n: usize) {
+    io::write_all(STDOUT_FILENO, word);
     if n <= out.len() {
         print_text(&out[..n]);
     }
     print_touched(out, n)
 }
 
+// A run that ended: its word with a space after it, the count of steps, the last frame.
+pub fn print_ended(word: &[u8], count: u32, out: &[u8], n: usize) {
+    io::write_all(STDOUT_FILENO, word);
+    io::print_decimal(STDOUT_FILENO, count as u64);
+    print_result(b" ", out, n)
+}
+
+// A step or a run that was turned down.
+pub fn print_turned_down(c: u8, out: &[u8]) {
+    print_refused(c);
+    print_touched(out, 0)
+}
+
 // ---- lines
 
-// What the next character of a line may be: the place's first digit; more of the place; the lent length's first digit; more
-// of it; a character of the frame; or the line is of another form.
+// The forms of a line: `F FRAME`, `S PLACE LENT FRAME`, `R BUDGET LENT FRAME`.
+pub const CHECKS: u8 = b'F';
+
+pub const STEP: u8 = b'S';
+
+const RUN: u8 = b'R';
+
+// What the next character of a line may be: its letter; the space after that; the number's first digit; more of the number; the lent
+// length's first digit; more of it; a character of the frame; or the line is of another form.
 pub const BEGUN: u8 = 0;
 
-const PLACE: u8 = 1;
+const LETTER: u8 = 1;
 
-const LENT_FIRST: u8 = 2;
+const NUMBER_FIRST: u8 = 2;
 
-const LENT: u8 = 3;
+const NUMBER: u8 = 3;
 
-pub const FRAME: u8 = 4;
+const LENT_FIRST: u8 = 4;
 
-const MALFORMED: u8 = 5;
+const LENT: u8 = 5;
+
+const FRAME: u8 = 6;
+
+const MALFORMED: u8 = 7;
 
 pub struct Line {
     pub part: u8,
-    pub place: usize,
+    pub form: u8,
+    // a step's place or a run's budget
+    pub number: usize,
     pub lent: usize,
     pub text: LineState,
 }
 
-pub fn line_in(part: u8, place: usize, lent: usize) -> Line {
+pub fn line_in(part: u8, form: u8, number: usize, lent: usize) -> Line {
     let text = lines::line_start();
     Line {
         part: part,
-        place: place,
+        form: form,
+        number: number,
         lent: lent,
         text: text,
     }
+}
+
+// The line's first character.
+fn letter(c: u8) -> Line {
+    if c == CHECKS || c == STEP || c == RUN {
+        return line_in(LETTER, c, 0, 0);
+    }
+    line_in(MALFORMED, 0, 0, 0)
+}
+
+// A space that stands before the frame.
+fn space(line: Line) -> Line {
+    let part = line.part;
+    let form = line.form;
+    if part == LETTER {
+        if form == CHECKS {
+            return line_in(FRAME, form, 0, 0);
+        }
+        return line_in(NUMBER_FIRST, form, 0, 0);
+    }
+    if part == NUMBER {
+        return line_in(LENT_FIRST, form, line.number, 0);
+    }
+    if part == LENT {
+        return line_in(FRAME, form, line.number, line.lent);
+    }
+    line_in(MALFORMED, 0, 0, 0)
 }
 
 enum Number {
@@ -121,33 +178,53 @@ fn with_digit(n: usize, c: u8, most: usize) -> Number {
     Number::Is(10 * n + d)
 }
 
-// The line with one character more, which stands before its second space or is that space.
-pub fn head(line: Line, c: u8) -> Line {
+// Another character that stands before the frame: a digit of one of the two numbers.
+fn digit(line: Line, c: u8) -> Line {
     let part = line.part;
-    let place = line.place;
-    let lent = line.lent;
+    if part == NUMBER_FIRST || part == NUMBER {
+        let Number::Is(n) = with_digit(line.number, c, usize::MAX) else {
+            return line_in(MALFORMED, 0, 0, 0);
+        };
+        return line_in(NUMBER, line.form, n, 0);
+    }
+    if part == LENT_FIRST || part == LENT {
+        let Number::Is(n) = with_digit(line.lent, c, LENT_LIMIT) else {
+            return line_in(MALFORMED, 0, 0, 0);
+        };
+        return line_in(LENT, line.form, line.number, n);
+    }
+    line_in(MALFORMED, 0, 0, 0)
+}
+
+// The line with one character more.
+pub fn line_next(line: Line, c: u8, buf: &mut [u8; 4096]) -> Line {
+    let part = line.part;
+    if part == FRAME {
+        let piece = [c];
+        let text = lines::line_piece(line.text, &piece, buf);
+        return Line {
+            part: FRAME,
+            form: line.form,
+            number: line.number,
+            lent: line.lent,
+            text: text,
+        };
+    }
+    if part == BEGUN {
+        return letter(c);
+    }
     if c == 32 {
-        if part == PLACE {
-            return line_in(LENT_FIRST, place, 0);
-        }
-        if part == LENT {
-            return line_in(FRAME, place, lent);
-        }
-        return line_in(MALFORMED, 0, 0);
+        return space(line);
     }
-    if part <= PLACE {
-        let Number::Is(n) = with_digit(place, c, usize::MAX) else {
-            return line_in(MALFORMED, 0, 0);
-        };
-        return line_in(PLACE, n, 0);
+    digit(line, c)
+}
+
+// The line ends: the length of its frame, or its number.
+pub fn line_end(line: Line) -> LineAnswer {
+    if line.part == FRAME {
+        return lines::line_end(line.text);
     }
-    if part <= LENT {
-        let Number::Is(n) = with_digit(lent, c, LENT_LIMIT) else {
-            return line_in(MALFORMED, 0, 0);
-        };
-        return line_in(LENT, place, n);
-    }
-    line_in(MALFORMED, 0, 0)
+    LineAnswer::Refused(BAD_LINE)
 }
 
 // ---- input

@@ -1,12 +1,9 @@
--- `trials::print_changed` meets its contract.
+-- `trials::print_result` meets its contract.
 use lib.Seq.{length-take-le}
 use mathlib.Core.Path.{sym}
 use borrow.Author.Needs.{needs}
-use Rattle.trials.proofs.print_changed.Statement.{statement}
-use Rattle.trials.proofs.print_changed.Tie as tie
-
-slice-aggregate-write-all : tie.Need-slice-aggregate-write-all
-slice-aggregate-write-all c = search needs
+use Rattle.trials.proofs.print_result.Statement.{statement}
+use Rattle.trials.proofs.print_result.Tie as tie
 
 write-all-requires : tie.Need-write-all-requires
 write-all-requires c κs = search needs
@@ -23,11 +20,10 @@ print-touched-requires c κs = search needs
 returns : tie.Need-returns
 returns c = search needs
 
-pub print-changed-spec : {M : Type 1} → statement M
-print-changed-spec =
+pub print-result-spec : {M : Type 1} → statement M
+print-result-spec =
     tie.close
     (tie.spec
-    slice-aggregate-write-all
     write-all-requires
     slice-aggregate-print-text
     print-text-requires

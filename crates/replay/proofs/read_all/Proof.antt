@@ -1,10 +1,10 @@
--- `frame_test::read_all` meets its contract.
+-- `replay::read_all` meets its contract.
 use lib.ListN.{length}
 use mathlib.Core.Path.{_≡_, refl}
 use native.Mathlib.Omega.{arith}
 use borrow.Author.Needs.{needs}
-use Rattle.frame_test.proofs.read_all.Statement.{statement}
-use Rattle.frame_test.proofs.read_all.Tie as tie
+use Rattle.replay.proofs.read_all.Statement.{statement}
+use Rattle.replay.proofs.read_all.Tie as tie
 
 abbrev Inv-loop : tie.InvT-loop
 Inv-loop space₀ buf₀ line₀ input₀ turns₀ space buf line input turns = length space ≡ length space₀
@@ -12,8 +12,8 @@ Inv-loop space₀ buf₀ line₀ input₀ turns₀ space buf line input turns = 
 abbrev μ-loop : tie.MeasureT-loop
 μ-loop space₀ buf₀ line₀ input₀ turns₀ space buf line input turns = turns
 
-line-start-requires : tie.Need-line-start-requires Inv-loop μ-loop
-line-start-requires c κs = tt
+line-in-requires : tie.Need-line-in-requires Inv-loop μ-loop
+line-in-requires c κs = tt
 
 loop-holds : tie.Need-loop-holds Inv-loop μ-loop
 loop-holds c = refl
@@ -57,7 +57,7 @@ read-all-spec =
     (tie.spec
     Inv-loop
     μ-loop
-    line-start-requires
+    line-in-requires
     loop-holds
     next-byte-requires
     enum-known-next

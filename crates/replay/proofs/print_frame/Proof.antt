@@ -1,9 +1,9 @@
--- `step_test::print_frame` meets its contract.
+-- `replay::print_frame` meets its contract.
 use lib.Seq.{length-take-le}
 use mathlib.Core.Path.{sym}
 use borrow.Author.Needs.{needs}
-use Rattle.step_test.proofs.print_frame.Statement.{statement}
-use Rattle.step_test.proofs.print_frame.Tie as tie
+use Rattle.replay.proofs.print_frame.Statement.{statement}
+use Rattle.replay.proofs.print_frame.Tie as tie
 
 slice-aggregate-print-lent : tie.Need-slice-aggregate-print-lent
 slice-aggregate-print-lent c = sym (length-take-le _ _ (c .before .if1 .taken))
