@@ -1,4 +1,4 @@
-// Reads lines from standard input and prints for each what the entries answer. Numbers are in decimal, frames in capital hexadecimal.
+// Reads lines from standard input and prints for each what the library answers. Numbers are in decimal, frames in capital hexadecimal.
 // - `F FRAME`: the count of nodes and what the checks say, or REFUSED and the number.
 // - `S PLACE LENT FRAME`, a step at that place that is lent so many bytes: CHANGED and the new frame, UNCHANGED, or REFUSED and the number.
 // - `R BUDGET LENT FRAME`, a run: REST, SPENT or FULL, the count of steps and the last frame, or REFUSED and the number.
@@ -6,9 +6,10 @@
 use frame::refusals::BAD_LINE;
 use libc::STDOUT_FILENO;
 use lines::LineAnswer;
+use lustrejasper::lustrejasper_check;
+use lustrejasper::lustrejasper_run;
+use lustrejasper::lustrejasper_step;
 use reading::FrameAnswer;
-use run::RunAnswer;
-use step::StepAnswer;
 use trials::BEGUN;
 use trials::CHECKS;
 use trials::Input;
@@ -21,25 +22,13 @@ use trials::line_end;
 use trials::line_in;
 use trials::line_next;
 use trials::next_byte;
-use trials::print_ended;
+use trials::print_check;
 use trials::print_refused;
-use trials::print_result;
-use trials::print_turned_down;
-use typing::CheckAnswer;
+use trials::print_run;
+use trials::print_step;
 
 // A budget has 32 bits.
 const BUDGET_LIMIT: usize = 4294967295;
-
-// What the checks say of a frame that was read.
-fn print_check(frame: &[u8]) {
-    let answer = checking::check(frame);
-    match answer {
-        CheckAnswer::Accepted(_n) => {
-            io::write_all(STDOUT_FILENO, b"CHECKED");
-        }
-        CheckAnswer::Refused(c) => print_refused(c),
-    }
-}
 
 fn print_read(frame: &[u8]) {
     let read = reading::read(frame);
@@ -48,28 +37,9 @@ fn print_read(frame: &[u8]) {
         FrameAnswer::Nodes(n) => {
             io::print_decimal(STDOUT_FILENO, n as u64);
             io::write_all(STDOUT_FILENO, b" ");
-            print_check(frame)
+            print_check(lustrejasper_check(frame))
         }
-        FrameAnswer::Refused(c) => print_refused(c),
-    }
-}
-
-fn print_step(frame: &[u8], place: usize, out: &mut [u8]) {
-    let answer = stepping::step(frame, place, out);
-    match answer {
-        StepAnswer::Changed(n) => print_result(b"CHANGED ", out, n),
-        StepAnswer::Unchanged => print_result(b"UNCHANGED", out, 0),
-        StepAnswer::Refused(c) => print_turned_down(c, out),
-    }
-}
-
-fn print_run(frame: &[u8], budget: u32, out: &mut [u8]) {
-    let answer = running::run(frame, budget, out);
-    match answer {
-        RunAnswer::Rest(count, n) => print_ended(b"REST ", count, out, n),
-        RunAnswer::Spent(count, n) => print_ended(b"SPENT ", count, out, n),
-        RunAnswer::Full(count, n) => print_ended(b"FULL ", count, out, n),
-        RunAnswer::Refused(c) => print_turned_down(c, out),
+        FrameAnswer::Refused(c) => print_refused(c as u64),
     }
 }
 
@@ -80,11 +50,13 @@ fn print_answer(form: u8, number: usize, frame: &[u8], out: &mut [u8]) {
     } else {
         fill(out);
         if form == STEP {
-            print_step(frame, number, out)
+            let answer = lustrejasper_step(frame, number as u64, out);
+            print_step(answer, out)
         } else if number <= BUDGET_LIMIT {
-            print_run(frame, number as u32, out)
+            let answer = lustrejasper_run(frame, number as u32, out);
+            print_run(answer, out)
         } else {
-            print_refused(BAD_LINE)
+            print_refused(BAD_LINE as u64)
         }
     }
 }
@@ -107,7 +79,7 @@ fn print_line(line: Line, buf: &[u8; 4096]) {
     let answer = line_end(line);
     match answer {
         LineAnswer::Frame(n) => print_frame(line, buf, n),
-        LineAnswer::Refused(c) => print_refused(c),
+        LineAnswer::Refused(c) => print_refused(c as u64),
     }
     io::write_all(STDOUT_FILENO, b"\n");
 }

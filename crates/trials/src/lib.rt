@@ -42,9 +42,9 @@ fn print_touched(out: &[u8], from: usize) {
     }
 }
 
-pub fn print_refused(c: u8) {
+pub fn print_refused(number: u64) {
     io::write_all(STDOUT_FILENO, b"REFUSED ");
-    io::print_decimal(STDOUT_FILENO, c as u64);
+    io::print_decimal(STDOUT_FILENO, number);
 }
 
 fn print_part(s: &[u8], n: usize) {
@@ -60,7 +60,7 @@ fn print_text(frame: &[u8]) {
 }
 
 // A word and the frame in the first n bytes of the output; behind that no byte may have been written.
-pub fn print_result(word: &[u8], out: &[u8], n: usize) {
+fn print_result(word: &[u8], out: &[u8], n: usize) {
     io::write_all(STDOUT_FILENO, word);
     if n <= out.len() {
         print_text(&out[..n]);
@@ -69,16 +69,55 @@ pub fn print_result(word: &[u8], out: &[u8], n: usize) {
 }
 
 // A run that ended: its word with a space after it, the count of steps, the last frame.
-pub fn print_ended(word: &[u8], count: u32, out: &[u8], n: usize) {
+fn print_ended(word: &[u8], count: u64, out: &[u8], n: usize) {
     io::write_all(STDOUT_FILENO, word);
-    io::print_decimal(STDOUT_FILENO, count as u64);
+    io::print_decimal(STDOUT_FILENO, count);
     print_result(b" ", out, n)
 }
 
 // A step or a run that was turned down.
-pub fn print_turned_down(c: u8, out: &[u8]) {
-    print_refused(c);
+fn print_turned_down(number: u64, out: &[u8]) {
+    print_refused(number);
     print_touched(out, 0)
+}
+
+// ---- what the library answers (include/lustrejasper.h)
+
+pub fn print_check(answer: u64) {
+    if answer == 0 {
+        io::write_all(STDOUT_FILENO, b"CHECKED");
+    } else {
+        print_refused(answer)
+    }
+}
+
+// 65,536 × word + value.
+pub fn print_step(answer: u64, out: &[u8]) {
+    let word = answer / 0x10000;
+    let value = answer % 0x10000;
+    if word == 0 {
+        print_result(b"UNCHANGED", out, value as usize)
+    } else if word == 1 {
+        print_result(b"CHANGED ", out, value as usize)
+    } else {
+        print_turned_down(value, out)
+    }
+}
+
+// 2^48 × word + 2^32 × length + count.
+pub fn print_run(answer: u64, out: &[u8]) {
+    let word = answer / 0x1000000000000;
+    let length = (answer / 0x100000000 % 0x10000) as usize;
+    let count = answer % 0x100000000;
+    if word == 1 {
+        print_ended(b"REST ", count, out, length)
+    } else if word == 2 {
+        print_ended(b"SPENT ", count, out, length)
+    } else if word == 3 {
+        print_ended(b"FULL ", count, out, length)
+    } else {
+        print_turned_down(count, out)
+    }
 }
 
 // ---- lines
