@@ -32,11 +32,11 @@ use Rattle.type_rules.specs.Patterns.{
 }
 use Rattle.type_rules.specs.RuleNumbers.{Packed}
 use Rattle.type_bytes.specs.Buffers.{Copied, Apart}
+use Rattle.results.specs.ResultPosts.{Slots, EnvAt, Kept, FillPre, Filling, FillPost}
+use Rattle.results.specs.declared.Filled.{Filled}
+use Rattle.results.specs.declared.Filled.the-variants as L
 use Rattle.patterns.specs.PatternPosts.{
   RowAt,
-  Slots,
-  EnvAt,
-  Kept,
   MatchPre,
   Matching,
   MatchPost,
@@ -45,9 +45,6 @@ use Rattle.patterns.specs.PatternPosts.{
   PairsPost,
   OperandsFit,
   OperandsPost,
-  FillPre,
-  Filling,
-  FillPost,
   JudgePre,
   Judging,
   JudgePost,
@@ -57,8 +54,6 @@ use Rattle.patterns.specs.declared.Fit.{Fit}
 use Rattle.patterns.specs.declared.Fit.the-variants as F
 use Rattle.patterns.specs.declared.Pairs.{Pairs}
 use Rattle.patterns.specs.declared.Pairs.the-variants as P
-use Rattle.patterns.specs.declared.Filled.{Filled}
-use Rattle.patterns.specs.declared.Filled.the-variants as L
 use Rattle.type_bytes.proofs.BufferLaws.{copied-span, apart-down}
 use Rattle.patterns.proofs.PairTurns.{env-empty}
 

@@ -1,4 +1,3 @@
 pub mod MatchTurns
 pub mod PairTurns
-pub mod FillTurns
 pub mod JudgeTurns

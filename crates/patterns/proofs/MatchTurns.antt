@@ -1,6 +1,6 @@
 -- The ways out of `match_variable` and `match_pattern`: at each, what the code found is what `matches` says.
--- Main results: packed-end, by-symbol (the pattern of a word); row-none .. row-type (types in a row); the laws fit-end .. next-same
--- (one for each way out); the laws of Going, the loop's invariant.
+-- Main results: row-none .. row-type (types in a row); the laws fit-end .. next-same (one for each way out); the laws of Going, the
+-- loop's invariant.
 use Rattle.frame.proofs.ReadTypes.{ty-long}
 use mathlib.Core.Path.{_≡_, refl, sym, ap, _∙_, subst, subst₃}
 use mathlib.Core.Bool.{Bool, true, false}
@@ -10,51 +10,29 @@ use native.Mathlib.Omega.{arith}
 use lib.ListN.{length, take, drop, getD, set, length-append, length-set, take-append-drop}
 use lib.Seq.{getD-set-same, getD-set-other, length-take-le}
 use borrow.Author.Count.{below-more}
-use lib.Dec.{eqb}
-use borrow.Author.Tests.{lt-ltb, le-ltb, eqb-true, eqb-false, eq-eqb, ne-eqb}
+use borrow.Author.Tests.{lt-ltb, le-ltb, eq-eqb, ne-eqb}
 use Rattle.frame.specs.Types.{Ty, bool, int, given, pow, prod}
-use Rattle.frame.specs.Tags.{pick}
 use Rattle.frame.specs.Encoding.{encTy, encTys}
 use Rattle.frame.specs.Sameness.{sameTy}
 use Rattle.frame.specs.WellFormed.{TyWf}
 use Rattle.frame.specs.Spans.{Spans}
 use Rattle.frame.proofs.Spans.{span-first, span-left, span-right}
 use Rattle.frame.proofs.ReadTypes.{ty-prefix}
-use Rattle.frame.proofs.Booleans.{both-true}
 use Rattle.frame.proofs.SameTrees.{same-ty}
-use Rattle.frame.proofs.Inversion.{true-not}
 use Rattle.typing.specs.Typing.{ty}
 use Rattle.type_rules.specs.Patterns.{symbolOf, partsOf, Matched, differs, matches}
-use Rattle.type_rules.specs.RuleNumbers.{packs, Packed}
+use Rattle.type_rules.specs.RuleNumbers.{Packed}
 use Rattle.type_bytes.specs.Buffers.{TypeAt, EndOf}
 use Rattle.octets.specs.Bytes.{SameBytes}
-use Rattle.patterns.specs.PatternPosts.{TysFit, RowAt, EnvAt, MatchPre, Matching, Next, Standing, VariablePost, MatchPost}
+use Rattle.results.specs.ResultPosts.{EnvAt}
+use Rattle.results.proofs.Symbols.{packed-end, by-symbol, fit-at, fit-snoc}
+use Rattle.patterns.specs.PatternPosts.{RowAt, MatchPre, Matching, Next, Standing, VariablePost, MatchPost}
 use Rattle.patterns.specs.declared.Part.{Part}
 use Rattle.patterns.specs.declared.Part.the-variants as W
 use Rattle.patterns.specs.declared.Fit.{Fit}
 use Rattle.patterns.specs.declared.Fit.the-variants as F
 use Rattle.type_bytes.proofs.BufferLaws.{span-get, span-by}
 use Rattle.typing.proofs.Same.{same-ty-of}
-
--- ---- the pattern of a word
-none-else : (x y : Bool) → pick x false y ≡ true → (x ≡ false) × (y ≡ true)
-none-else true y e = true-not e
-none-else false y e = (refl, e)
-
--- its first symbol, and the word of the others
-pub packed-cons : (b : ℕ) (ps : List ℕ) (p : ℕ) → Packed (b ∷ ps) p → (p % 16 ≡ b) × (b ≡ 2 → ⊥) × Packed ps (p / 16)
-packed-cons b ps p h =
-    let parts = both-true (eqb (p % 16) b) (pick (eqb b 2) false (packs ps (p / 16))) h in
-    let q = none-else (eqb b 2) (packs ps (p / 16)) (parts .1) in
-    (eqb-true (p % 16) b (parts .0), eqb-false b 2 (q .0), q .1)
-
-pub packed-end : (ps : List ℕ) (p : ℕ) → Packed ps p → p % 16 ≡ 2 → ps ≡ []
-packed-end [] p h z = refl
-packed-end (b ∷ ps) p h z = let c = packed-cons b ps p h in absurd (c .1 (sym (c .0) ∙ z))
-
-pub by-symbol : (p b : ℕ) → b ≡ p % 16 → (b ≡ 2 → ⊥) → (X : List ℕ → Type 0) → ((qs : List ℕ) → Packed qs (p / 16) → X (b ∷ qs)) → (ps : List ℕ) → Packed ps p → X ps
-by-symbol p b eb z X f [] h = absurd (z (eb ∙ eqb-true (p % 16) 2 h))
-by-symbol p b eb z X f (d ∷ ps) h = let c = packed-cons d ps p h in subst (λ (x : ℕ). X (x ∷ ps)) (eb ∙ c .0) (f ps (c .2))
 
 -- ---- types in a row
 pub row-none : (types : List ℕ) (at n : ℕ) (us : List Ty) → RowAt types at n us → n ≤ at → us ≡ []
@@ -162,15 +140,6 @@ same-row types at n t us r u w e a h =
     ty-prefix t u (encTys us) (drop k xs) (r .fit .0) w (sym (take-append-drop k xs) ∙ ap (λ (ys : List ℕ). ys ++ drop k xs) f) .0
 
 -- ---- the variables
-pub fit-at : (i : ℕ) (ρ : List Ty) → TysFit ρ → TyWf (ty i ρ)
-fit-at i [] f = tt
-fit-at zero (t ∷ ρ) f = f .0
-fit-at (suc i) (t ∷ ρ) f = fit-at i ρ (f .1)
-
-pub fit-snoc : (ρ : List Ty) (t : Ty) → TysFit ρ → TyWf t → TysFit (ρ ++ (t ∷ []))
-fit-snoc [] t f w = (w, tt)
-fit-snoc (u ∷ ρ) t f w = (f .0, fit-snoc ρ t (f .1) w)
-
 ty-before : (i : ℕ) (ρ : List Ty) (t : Ty) → i < length ρ → ty i (ρ ++ (t ∷ [])) ≡ ty i ρ
 ty-before i [] t h = absurd (omega arith)
 ty-before zero (u ∷ ρ) t h = refl
@@ -342,15 +311,6 @@ module _ (p : ℕ) (types : List ℕ) (at n : ℕ) (s e : List ℕ) (k : ℕ) wh
       next-fixed m eq =
           on-first (at + 1) s e k (λ rest t vs ρ row env c. (let f = fixed-row types at n t vs row b m z eq in
           record { types-left = partsOf t ++ vs; bound = ρ; same = on-fixed b rest t vs ρ m (f .0); row = f .1; env = env; count = c }))
-
--- a variable's bytes are in the buffer, below n
-pub slot-span : {types : List ℕ} {n : ℕ} {s e : List ℕ} {ρ : List Ty} {k : ℕ} → EnvAt types n s e ρ → length ρ ≡ k → (v : ℕ) → v < k
-    → (getD s v 0 ≤ getD e v 0) × (getD e v 0 ≤ n) × (getD e v 0 ≤ length types)
-slot-span env c v h = let a = env .spans v (omega (arith, c)) in omega (arith, a .long, a .within, env .low v (omega (arith, c)))
-
--- and are some
-pub slot-some : {types : List ℕ} {n : ℕ} {s e : List ℕ} {ρ : List Ty} {k : ℕ} → EnvAt types n s e ρ → length ρ ≡ k → (v : ℕ) → v < k → getD s v 0 < getD e v 0
-slot-some {ρ = ρ} env c v h = let a = env .spans v (omega (arith, c)) in omega (arith, a .long, ty-long (ty v ρ))
 
 -- ---- the loop of `match_pattern`: what is left, and what its end says of all
 abbrev MatchAll : ℕ → List ℕ → ℕ → ℕ → List ℕ → List ℕ → ℕ → List ℕ → List ℕ → Fit → Type 0

@@ -1,24 +1,19 @@
 -- What the code of patterns answers, by the definitions of type_rules/specs/Patterns.antt: each enum of src/lib.rt as a relation to
--- a result (Matching, Pairing, Filling, Judging).
+-- a result (Matching, Pairing, Judging).
 use mathlib.Core.Path.{_≡_}
-use mathlib.Core.Bool.{Bool, true, false, _&&_}
-use mathlib.Core.List.{List, [], _∷_}
+use mathlib.Core.Bool.{Bool, true, false}
+use mathlib.Core.List.{List, _∷_}
 use Prim.Native.Nat.{ℕ, _+_, _≤_, _<_}
-use lib.ListN.{length, getD}
-use lib.Dec.{leb}
+use lib.ListN.{length}
 use Rattle.frame.specs.Types.{Ty}
-use Rattle.frame.specs.Encoding.{encTy, encTys}
-use Rattle.frame.specs.WellFormed.{TyWf}
+use Rattle.frame.specs.Encoding.{encTys}
 use Rattle.frame.specs.Spans.{Spans}
 use Rattle.frame.specs.Reading.{typeLimit}
-use Rattle.typing.specs.Typing.{ty}
 use Rattle.type_rules.specs.Patterns.{
   Matched,
   fits,
   differs,
   matches,
-  allBound,
-  filled,
   pairsFit,
   lastOnes,
   Rule,
@@ -29,6 +24,7 @@ use Rattle.type_rules.specs.Patterns.{
   judge,
 }
 use Rattle.type_rules.specs.RuleNumbers.{Packed}
+use Rattle.results.specs.ResultPosts.{TysFit, Slots, EnvAt, Kept}
 use Rattle.patterns.specs.declared.Typed.{Typed}
 use Rattle.patterns.specs.declared.Typed.the-variants as T
 use Rattle.patterns.specs.declared.Part.{Part}
@@ -37,36 +33,11 @@ use Rattle.patterns.specs.declared.Fit.{Fit}
 use Rattle.patterns.specs.declared.Fit.the-variants as F
 use Rattle.patterns.specs.declared.Pairs.{Pairs}
 use Rattle.patterns.specs.declared.Pairs.the-variants as P
-use Rattle.patterns.specs.declared.Filled.{Filled}
-use Rattle.patterns.specs.declared.Filled.the-variants as L
-
--- given sets have two-byte numbers
-abbrev pub TysFit : List Ty → Type 0
-TysFit [] = Unit {0}
-TysFit (t ∷ ts) = TyWf t × TysFit ts
 
 -- the types us stand in a row from `at` up to n
 pub record RowAt (types : List ℕ) (at n : ℕ) (us : List Ty) : Type 0 where
   pub span : Spans types at n (encTys us)
   pub fit : TysFit us
-
--- four variables
-pub record Slots (starts ends : List ℕ) : Type 0 where
-  pub from : length starts ≡ 4
-  pub to : length ends ≡ 4
-
--- the types of the variables stand below n, from `starts` up to `ends`
-pub record EnvAt (types : List ℕ) (n : ℕ) (starts ends : List ℕ) (ρ : List Ty) : Type 0 where
-  pub slots : Slots starts ends
-  pub few : length ρ ≤ 4
-  pub fit : TysFit ρ
-  pub spans : (i : ℕ) → i < length ρ → Spans types (getD starts i 0) (getD ends i 0) (encTy (ty i ρ))
-  pub low : (i : ℕ) → i < length ρ → getD ends i 0 ≤ n
-
--- the bytes below n are as before
-pub record Kept (o p : List ℕ) (n : ℕ) : Type 0 where
-  pub long : length p ≡ length o
-  pub low : (j : ℕ) → j < n → getD p j 0 ≡ getD o j 0
 
 -- ---- matching
 pub record MatchPre (types : List ℕ) (at n : ℕ) (starts ends : List ℕ) (k : ℕ) : Type 0 where
@@ -124,21 +95,6 @@ pub record OperandsFit (R : Rule) (types : List ℕ) (from n : ℕ) (starts ends
 abbrev pub OperandsPost : Rule → List ℕ → ℕ → ℕ → List ℕ → List ℕ → Fit → Type 0
 OperandsPost R types from n starts ends (F.Fits k) = OperandsFit R types from n starts ends k
 OperandsPost R types from n starts ends F.Differs = (ts : List Ty) → RowAt types from n ts → judge R ts ≡ wrong
-
--- ---- filling
-pub record FillPre (types : List ℕ) (m limit : ℕ) (starts ends : List ℕ) (k : ℕ) : Type 0 where
-  pub ρ : List Ty
-  pub env : EnvAt types m starts ends ρ
-  pub count : length ρ ≡ k
-  pub room : (m ≤ limit) × (limit ≤ length types)
-
-abbrev pub Filling : Bool → List ℕ → List ℕ → ℕ → List ℕ → Filled → Type 0
-Filling true xs o m p r = (r ≡ L.To (m + length xs)) × Spans p m (m + length xs) xs × Kept o p m
-Filling false xs o m p r = r ≡ L.Over
-
-pub record FillPost (ps o : List ℕ) (m limit : ℕ) (starts ends : List ℕ) (k : ℕ) (p : List ℕ) (r : Filled) : Type 0 where
-  pub answer : (ρ : List Ty) → EnvAt o m starts ends ρ → length ρ ≡ k
-      → Filling (allBound ps ρ && leb (m + length (filled ps ρ)) limit) (filled ps ρ) o m p r
 
 -- ---- a rule
 pub record JudgePre (types : List ℕ) (from n : ℕ) : Type 0 where

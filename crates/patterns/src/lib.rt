@@ -1,7 +1,11 @@
-// Typing rules at work: a pattern (type_rules/specs/Patterns.antt) is matched with types that stand in a row, and filled.
-use frame::limits::TYPE_LIMIT;
+// Typing rules at work: the patterns of a rule (type_rules/specs/Patterns.antt) are matched with types that stand in a row, and `results`
+// makes the type of the node.
 use octets::same_bytes;
 use octets::wide;
+use results::Filled;
+use results::PATTERN_END;
+use results::VARIABLES;
+use results::fill_result;
 use type_bytes::copy_within;
 use type_bytes::type_end;
 ghost use mathlib.Core.List.{List};
@@ -9,15 +13,12 @@ ghost use Prim.Native.Nat.{ℕ, _<_};
 ghost use Rattle.frame.specs.Tags.{classOf};
 ghost use Rattle.type_rules.specs.Patterns.{Rule, ruleAt};
 ghost use Rattle.type_rules.specs.RuleNumbers.{Packed, RowOf};
-ghost use Rattle.patterns.specs.PatternPosts.{Slots, VariablePost, MatchPre, MatchPost, PairsPre, PairsPost, OperandsPost, FillPre, FillPost, JudgePre, JudgePost};
+ghost use Rattle.results.specs.ResultPosts.{Slots};
+ghost use Rattle.patterns.specs.PatternPosts.{VariablePost, MatchPre, MatchPost, PairsPre, PairsPost, OperandsPost, JudgePre, JudgePost};
 use type_rules::pattern;
 use type_rules::rule_row;
 
-// In a pattern 2 is its end, and the numbers from 5 to 8 are variables.
-const PATTERN_END: usize = 2;
-
-const VARIABLES: usize = 5;
-
+// In a pattern the numbers from here on stand for nothing.
 const SYMBOLS: usize = 9;
 
 // The type of a node: how many bytes it has, at the buffer's start or where its operands' types stood; or a rule is broken.
@@ -42,12 +43,6 @@ pub enum Fit {
 pub enum Pairs {
     Last(usize),
     Differ,
-}
-
-// Where the written type ends, or that it passes the limit.
-pub enum Filled {
-    To(usize),
-    Over,
 }
 
 // A variable at the first of the types that stand from `at` up to n, with k variables bound: one that is bound stands for the type that
@@ -180,50 +175,6 @@ fn match_operands(
     match_pattern(pattern(row / 65536 % 256), types, last, n, starts, ends, k)
 }
 
-// The pattern of a word with the types of its variables, written from `start` on and no further than to `limit`.
-fn fill_pattern(
-    pattern: usize,
-    types: &mut [u8],
-    start: usize,
-    limit: usize,
-    starts: &[usize; 4],
-    ends: &[usize; 4],
-    k: usize,
-) -> Filled
-    requires { ⌜ FillPre (now types) start limit (now starts) (now ends) k ⌝ }
-    ensures { λ r. ⌜ ((ps : List ℕ) → Packed ps pattern → FillPost ps (now (types .entry)) start limit (now (starts .entry)) (now (ends .entry)) k (now (types .exit)) r) ⌝ }
-{
-    let mut p = pattern;
-    let mut m = start;
-    loop {
-        let b = p % 16;
-        if b == PATTERN_END {
-            return Filled::To(m);
-        }
-        p /= 16;
-        if b < VARIABLES {
-            if limit <= m {
-                return Filled::Over;
-            }
-            types[m] = b as u8;
-            m += 1;
-            continue;
-        }
-        let v = b - VARIABLES;
-        if k <= v {
-            return Filled::Over;
-        }
-        let from = starts[v];
-        let to = ends[v];
-        let len = to - from;
-        if limit - m < len {
-            return Filled::Over;
-        }
-        copy_within(types, from, to, m);
-        m += len;
-    }
-}
-
 // The rule of a tag at the types of the operands, which stand from `from` up to n. The type of the node is left from `from` on.
 pub fn judge_types(tag: usize, types: &mut [u8], from: usize, n: usize) -> Typed
     requires { ⌜ JudgePre (now types) from n ⌝ }
@@ -236,15 +187,7 @@ pub fn judge_types(tag: usize, types: &mut [u8], from: usize, n: usize) -> Typed
     let Fit::Fits(k) = fit else {
         return Typed::Bad;
     };
-    let filled = fill_pattern(
-        pattern(row / 16777216),
-        types,
-        n,
-        n + TYPE_LIMIT,
-        &starts,
-        &ends,
-        k,
-    );
+    let filled = fill_result(pattern(row / 16777216), types, n, &starts, &ends, k);
     let Filled::To(m) = filled else {
         return Typed::Bad;
     };

@@ -16,8 +16,9 @@ use Rattle.frame.specs.Spans.{Spans}
 use Rattle.frame.proofs.Spans.{span-join}
 use Rattle.frame.proofs.Inversion.{many-inv}
 use Rattle.type_rules.specs.Patterns.{ownTypes}
-use Rattle.patterns.specs.PatternPosts.{RowAt, Kept}
-use Rattle.patterns.proofs.MatchTurns.{fit-snoc}
+use Rattle.results.specs.ResultPosts.{Kept}
+use Rattle.results.proofs.Symbols.{fit-snoc}
+use Rattle.patterns.specs.PatternPosts.{RowAt}
 use Rattle.synthesis.specs.Machine.{is, Open, given}
 use Rattle.type_rules.specs.Patterns.{Operands}
 use Rattle.synthesis.specs.TypingPosts.{Held, Stack}

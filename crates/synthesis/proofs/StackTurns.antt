@@ -25,7 +25,8 @@ use Rattle.frame.proofs.Extents.{some-node}
 use Rattle.typing.specs.Typing.{result, nodeTyped, typedTree}
 use Rattle.typing.specs.Leaves.{LeavesAt, LeavesIn}
 use Rattle.type_rules.specs.Patterns.{ownTypes, ruleAt, Judged, typed, wrong, judge}
-use Rattle.patterns.specs.PatternPosts.{RowAt, Kept, JudgePre}
+use Rattle.results.specs.ResultPosts.{Kept}
+use Rattle.patterns.specs.PatternPosts.{RowAt, JudgePre}
 use Rattle.synthesis.specs.Machine.{Answer, is, bad, Open, opened, inner, given, closeUp, deliver}
 use Rattle.type_rules.specs.Patterns.{Operands}
 use Rattle.frame.specs.At.{IsAt, KidsAt}

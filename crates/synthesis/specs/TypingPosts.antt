@@ -20,7 +20,8 @@ use Rattle.typing.specs.Binding.{boundTag}
 use Rattle.typing.specs.Leaves.{LeavesAt, LeavesIn}
 use Rattle.type_rules.specs.Patterns.{ownTypes, ruleAt, Judged, typed, wrong, judge}
 use Rattle.type_rules.specs.RuleNumbers.{ruleNumber}
-use Rattle.patterns.specs.PatternPosts.{RowAt, Kept}
+use Rattle.results.specs.ResultPosts.{Kept}
+use Rattle.patterns.specs.PatternPosts.{RowAt}
 use Rattle.synthesis.specs.Machine.{Answer, is, bad, Open, inner, closeUp}
 use Rattle.type_rules.specs.Patterns.{Operands}
 use Rattle.patterns.specs.declared.Typed.{Typed}

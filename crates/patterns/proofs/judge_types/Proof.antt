@@ -32,13 +32,8 @@ returns c =
 pattern-requires : tie.Need-pattern-requires
 pattern-requires c κs = tt
 
-add-fill-pattern : tie.Need-add-fill-pattern
-add-fill-pattern c =
-    let c₁ = c .before .before .before .before .before .before .before .before .before .before .before in
-    omega (arith, c₁ .pre .room, c₁ .good)
-
-fill-pattern-requires : tie.Need-fill-pattern-requires
-fill-pattern-requires c κs =
+fill-result-requires : tie.Need-fill-result-requires
+fill-result-requires c κs =
     let c₁ = c .before .before .before .before .before in
     let c₂ = c₁ .before .before in
     let c₃ = c₂ .before .before .before .before in
@@ -62,7 +57,7 @@ returns-2 c =
     let c₄ = c₃ .before .before in
     let c₅ = c₄ .before .before .before .before in
     judge-over _ (operands-fit _ _ _ _ (c₄ .match-operands .ensures _ (c₅ .rule-row .ensures)) (c₃ .fit .given .1))
-    (c₁ .fill-pattern .ensures _ (result-packed (c₅ .rule-row .ensures) _ (c₂ .pattern .ensures))) (c .enum-told2 .given .1) _
+    (c₁ .fill-result .ensures _ (result-packed (c₅ .rule-row .ensures) _ (c₂ .pattern .ensures))) (c .enum-told2 .given .1) _
 
 copy-within-requires : tie.Need-copy-within-requires
 copy-within-requires c κs =
@@ -73,7 +68,7 @@ copy-within-requires c κs =
     let c₅ = c₄ .before .before .before .before in
     let c₆ = c₅ .before .before in
     copy-pre _ (done-by _ (operands-fit _ _ _ _ (c₄ .match-operands .ensures _ (c₅ .rule-row .ensures)) (c₃ .fit .given .1))
-    (c₁ .fill-pattern .ensures _ (result-packed (c₅ .rule-row .ensures) _ (c₂ .pattern .ensures)))
+    (c₁ .fill-result .ensures _ (result-packed (c₅ .rule-row .ensures) _ (c₂ .pattern .ensures)))
     (c .before .before .filled .given .1)) (c₆ .pre)
 
 sub-t16 : tie.Need-sub-t16
@@ -86,7 +81,7 @@ sub-t16 c =
     let c₆ = c₅ .before .before .before .before in
     let c₇ = c₆ .before .before in
     copy-pre _ (done-by _ (operands-fit _ _ _ _ (c₅ .match-operands .ensures _ (c₆ .rule-row .ensures)) (c₄ .fit .given .1))
-    (c₂ .fill-pattern .ensures _ (result-packed (c₆ .rule-row .ensures) _ (c₃ .pattern .ensures)))
+    (c₂ .fill-result .ensures _ (result-packed (c₆ .rule-row .ensures) _ (c₃ .pattern .ensures)))
     (c₁ .filled .given .1)) (c₇ .pre) .0
 
 add-t17 : tie.Need-add-t17
@@ -99,7 +94,7 @@ add-t17 c =
     let c₆ = c₅ .before .before .before .before in
     let c₇ = c₆ .before .before in
     let p = copy-pre _ (done-by _ (operands-fit _ _ _ _ (c₅ .match-operands .ensures _ (c₆ .rule-row .ensures)) (c₄ .fit .given .1))
-    (c₂ .fill-pattern .ensures _ (result-packed (c₆ .rule-row .ensures) _ (c₃ .pattern .ensures))) (c₁ .filled .given .1))
+    (c₂ .fill-result .ensures _ (result-packed (c₆ .rule-row .ensures) _ (c₃ .pattern .ensures))) (c₁ .filled .given .1))
     (c₇ .pre) in omega (arith, c₇ .good, c₇ .pre .row .span .long, c₇ .pre .room, p .1, p .2)
 
 same-length-3 : tie.Need-same-length-3
@@ -114,7 +109,7 @@ returns-3 c =
     let c₅ = c₄ .before .before in
     let c₆ = c₅ .before .before .before .before in
     judge-typed _ (done-by _ (operands-fit _ _ _ _ (c₅ .match-operands .ensures _ (c₆ .rule-row .ensures)) (c₄ .fit .given .1))
-    (c₂ .fill-pattern .ensures _ (result-packed (c₆ .rule-row .ensures) _ (c₃ .pattern .ensures))) (c₁ .filled .given .1)) _
+    (c₂ .fill-result .ensures _ (result-packed (c₆ .rule-row .ensures) _ (c₃ .pattern .ensures))) (c₁ .filled .given .1)) _
     (c .before .before .copy-within .ensures)
 
 pub judge-types-spec : {M : Type 1} → statement M
@@ -128,8 +123,7 @@ judge-types-spec =
     same-length
     returns
     pattern-requires
-    add-fill-pattern
-    fill-pattern-requires
+    fill-result-requires
     enum-known-filled
     enum-told-2
     same-length-2

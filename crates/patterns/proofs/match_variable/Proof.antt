@@ -1,7 +1,8 @@
 use mathlib.Core.Path.{refl}
 use native.Mathlib.Omega.{arith}
 use borrow.Author.Tests.{not-true, not-false}
-use Rattle.patterns.proofs.MatchTurns.{first-type, fit-gap, next-new, fit-long, fit-differ, next-same, slot-span}
+use Rattle.results.proofs.Symbols.{slot-span}
+use Rattle.patterns.proofs.MatchTurns.{first-type, fit-gap, next-new, fit-long, fit-differ, next-same}
 use Rattle.patterns.proofs.match_variable.Statement.{statement}
 use Rattle.patterns.proofs.match_variable.Tie as tie
 

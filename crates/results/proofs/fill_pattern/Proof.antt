@@ -2,8 +2,8 @@ use mathlib.Core.Path.{refl}
 use Prim.Native.Nat.{_-_, _%_}
 use native.Mathlib.Omega.{arith}
 use lib.ListN.{length-set}
-use Rattle.patterns.proofs.MatchTurns.{slot-span, slot-some}
-use Rattle.patterns.proofs.FillTurns.{
+use Rattle.results.proofs.Symbols.{slot-span, slot-some}
+use Rattle.results.proofs.FillTurns.{
   Going,
   going-begins,
   going-next,
@@ -17,8 +17,8 @@ use Rattle.patterns.proofs.FillTurns.{
   fill-bound-pre,
   fill-bound,
 }
-use Rattle.patterns.proofs.fill_pattern.Statement.{statement}
-use Rattle.patterns.proofs.fill_pattern.Tie as tie
+use Rattle.results.proofs.fill_pattern.Statement.{statement}
+use Rattle.results.proofs.fill_pattern.Tie as tie
 
 abbrev Inv-loop : tie.InvT-loop
 Inv-loop pattern types₀ start limit starts ends k p₀ m₀ types p m = Going pattern types₀ start limit starts ends k p types m
