@@ -1,5 +1,5 @@
-// Numbers 8, 9 and 10, and the type of an expression: definitions and laws. `binding`, `identifiers`, `type_rules`, `patterns` and
-// `synthesis` have the code, and `checking` puts it together.
+// Numbers 8, 9 and 10, and the type of an expression: definitions and laws. `binding` (8), `claims` and `identifiers` (9), `type_rules`,
+// `results`, `patterns` and `synthesis` (10) have the code, and `checking` puts it together.
 
 // What a check answers. `specs/Check.antt` gives document 01's number and values for each case (`checkAnswer`).
 pub enum CheckAnswer {
