@@ -1,5 +1,5 @@
-pub mod OpenBinders
-pub mod BinderTags
-pub mod BoundWalk
-pub mod RowNodes
-pub mod BoundRows
+mod OpenBinders
+mod BinderTags
+mod BoundWalk
+mod RowNodes
+mod BoundRows

@@ -1,5 +1,5 @@
-pub mod RowTurns
-pub mod SubtreeTurns
-pub mod InterSubtrees
-pub mod DecisionTurns
-pub mod SpliceTurns
+mod RowTurns
+mod SubtreeTurns
+mod InterSubtrees
+mod DecisionTurns
+mod SpliceTurns

@@ -1,5 +1,5 @@
 // The new subtree by the kind of the decision.
-pub mod rows; // rows.rt: subtrees of the frame, one after the other
+mod rows; // rows.rt: subtrees of the frame, one after the other
 pub mod splicing; // splicing.rt: the new frame in the scratch buffer
 
 use crate::rows::Share;

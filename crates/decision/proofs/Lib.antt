@@ -3,7 +3,7 @@ pub mod TagRows
 pub mod TwoPlaces
 pub mod Children
 pub mod Opposites
-pub mod RowTurns
-pub mod Bridges
+mod RowTurns
+mod Bridges
 pub mod Series
 pub mod Descents

@@ -1,1 +1,1 @@
-pub mod SeriesKeeps
+mod SeriesKeeps

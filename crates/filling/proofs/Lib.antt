@@ -1,3 +1,3 @@
 pub mod Subtrees
-pub mod Types
-pub mod Fills
+mod Types
+mod Fills

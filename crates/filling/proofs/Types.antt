@@ -18,11 +18,11 @@ use Rattle.frame.proofs.Spans.{span-one}
 use Rattle.frame.proofs.Splices.{find-some}
 use Rattle.heads.proofs.View.{stands-at}
 use Rattle.typing.specs.Typing.{typeOf}
-use Rattle.type_bytes.specs.Buffers.{Copied}
+use Rattle.copies.specs.Copies.{Copied}
 use Rattle.synthesis.specs.TypingPosts.{TypePre, TypePost, Typing}
 use Rattle.patterns.specs.declared.Typed.{Typed}
 use Rattle.patterns.specs.declared.Typed.the-variants as T
-use Rattle.type_bytes.proofs.BufferLaws.{copied-span, span-kept}
+use Rattle.copies.proofs.CopyLaws.{copied-span, span-kept}
 use Rattle.nav.specs.PlaceTables.{arity, Framed, PlacedIn, ChildrenPost, EndAtPost}
 use Rattle.nav.proofs.Hops.{framed-few, place-end, place-sorted, place-stands}
 use Rattle.templates.specs.Programs.{template}

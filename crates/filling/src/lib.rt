@@ -1,11 +1,11 @@
 // What a pattern is filled with: the operands and binders as they stand in the frame, and the operands' types.
+use copies::copy_in;
 use nav::arity_at;
 use nav::end_at;
 use nav::start_at;
 use parts::Ranges;
 use patterns::Typed;
 use synthesis::type_tree;
-use type_bytes::copy_in;
 ghost use mathlib.Core.Path.{_≡_};
 ghost use Prim.Native.Nat.{_+_, _<_};
 ghost use lib.ListN.{getD};
@@ -152,5 +152,5 @@ pub fn fill(
     let mut types = [0u8; 129];
     operand_types(s, starts, leaves, pattern, first, second, &mut types);
     let r = ranges(s, n, starts, nexts, first, second, binder);
-    emit::fill_template(pattern, s, &types, r, out, at)
+    parts::fill_template(pattern, s, &types, r, out, at)
 }

@@ -1,3 +1,3 @@
-pub mod Bits
-pub mod NodeTurns
-pub mod RowTurns
+mod Bits
+mod NodeTurns
+mod RowTurns

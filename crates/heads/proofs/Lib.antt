@@ -1,4 +1,5 @@
-pub mod HeadTurns
+mod HeadTurns
 pub mod KnownTurns
 pub mod HeadSays
 pub mod View
+mod TypeEnds

@@ -1,1 +1,2 @@
 pub mod HeadPost
+pub mod TypeEnds

@@ -10,6 +10,7 @@ ghost use Rattle.frame.specs.Tags.{inRange};
 ghost use Rattle.tags.specs.TagCodes.{formAtCode, sortFor};
 ghost use Rattle.frame.specs.Reading.{numberAt, okTs, withTys};
 ghost use Rattle.heads.specs.HeadPost.{headAnswer, headThere, TypesStand, SkipPost, leadOf, partsOf, HeadStands, HeadEnd, KnownPost};
+ghost use Rattle.heads.specs.TypeEnds.{TypeAt, EndOf};
 use frame::refusals::BAD_COUNT;
 use frame::refusals::BAD_TAG;
 use frame::refusals::ENDS_INSIDE;
@@ -131,6 +132,14 @@ pub fn skip_types(s: &[u8], at: usize, m: usize) -> usize
         left = left - 1 + type_parts(b);
     }
     p
+}
+
+// Where the type at `at` ends that was read before.
+pub fn type_end(s: &[u8], at: usize) -> usize
+    requires { ⌜ TypeAt (now s) at ⌝ }
+    ensures { λ r. ⌜ EndOf (now (s .entry)) at r ⌝ }
+{
+    skip_types(s, at, 1)
 }
 
 // Where the head ends of a tree that was read before.

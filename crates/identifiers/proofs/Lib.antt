@@ -1,5 +1,5 @@
-pub mod Claims
-pub mod NotedClaims
-pub mod NotingTypes
-pub mod NotingNodes
-pub mod TreeNames
+mod Claims
+mod NotedClaims
+mod NotingTypes
+mod NotingNodes
+mod TreeNames

@@ -1,2 +1,2 @@
-pub mod JunctionTurns
-pub mod JunctionMeans
+mod JunctionTurns
+mod JunctionMeans

@@ -1,2 +1,4 @@
-pub mod LogicTurns
-pub mod QuantTurns
+mod LogicTurns
+mod QuantTurns
+mod ImpTurns
+mod AndTurns

@@ -1,4 +1,5 @@
 // ⇔ (75 to 81) and ¬ (82 to 84), and the negation of an operand.
+pub mod implication; // implication.rt: ⇒
 pub mod quantified; // quantified.rt: ∀ and ∃
 
 use decision::Decision;

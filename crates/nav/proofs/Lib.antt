@@ -1,4 +1,4 @@
 pub mod Hops
 pub mod PlaceTurns
-pub mod EarlyTurns
+mod EarlyTurns
 pub mod SamePlaces

@@ -10,8 +10,8 @@ use lib.Seq.{ext-getD, getD-append-add, getD-drop, getD-take, length-take-le}
 use lib.Dec.{ltb}
 use borrow.Author.Tests.{ltb-true, ltb-false, lt-ltb, le-ltb}
 use Rattle.frame.specs.Tags.{pick}
-use Rattle.type_bytes.specs.Buffers.{Copied}
-use Rattle.typing.specs.Check.{check, checkAnswer}
+use Rattle.copies.specs.Copies.{Copied}
+use Rattle.typing.specs.Check.{check}
 use Rattle.typing.specs.declared.CheckAnswer.{CheckAnswer}
 use Rattle.typing.specs.declared.CheckAnswer.the-variants as C
 use Rattle.typing.proofs.Answers.{accepted-is, refused-is}

@@ -1,8 +1,8 @@
 // The lent output: what it is too short for (number 12), and the frame that goes there.
+use copies::copy_in;
 use frame::limits::FRAME_LIMIT;
 use frame::refusals::NO_ROOM;
 use step::StepAnswer;
-use type_bytes::copy_in;
 use typing::CheckAnswer;
 ghost use mathlib.Core.Path.{_≡_};
 ghost use mathlib.Core.List.{_++_};

@@ -1,2 +1,2 @@
-pub mod MadeTypes
-pub mod Parts
+mod MadeTypes
+mod Parts

@@ -8,6 +8,7 @@ use lib.ListN.{length, getD}
 use Rattle.frame.specs.Types.{Ty, bool, int, given, pow, prod}
 use Rattle.frame.specs.Encoding.{encNumber, encTy, enc}
 use Rattle.frame.specs.Spans.{Spans}
+use Rattle.heads.specs.TypeEnds.{TypeAt as Standing, EndOf}
 use Rattle.frame.proofs.Spans.{span-first, span-left, span-right}
 use Rattle.frame.proofs.Inversion.{true-not}
 use Rattle.typing.specs.Typing.{element, first, second}
@@ -21,6 +22,13 @@ use Rattle.parts.specs.Holds.{boolAt, MadeFrom, HasParts, PartAt, CanMak
 use Rattle.put.specs.declared.type_expression.Written.{Written}
 use Rattle.put.proofs.Puts.{puts-then, puts-as, between-span}
 use Rattle.put.proofs.TypeBytes.{lead, lead-is, type-at, pow-bytes}
+
+-- ---- what the end of a type asks and answers
+pub as-type : (s : List ℕ) (at : ℕ) → HasType s at → Standing s at
+as-type s at h = record { type = h .0; end = _; span = h .1 }
+
+pub as-end : (s : List ℕ) (at q : ℕ) → EndOf s at q → TypeEnd s at q
+as-end s at q p = record { end = λ t a. p .is t _ a }
 
 -- ---- a power's type and a product's types, further on
 product-of : (t : Ty) → lead t ≡ 4 → (u : Ty) × (v : Ty) × (t ≡ prod u v)

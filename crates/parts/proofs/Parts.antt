@@ -12,7 +12,7 @@ use Rattle.frame.proofs.Numbers.{number-length}
 use Rattle.put.specs.Out.{Puts}
 use Rattle.put.specs.Copied.{between}
 use Rattle.templates.specs.Template.{Mode, whole, Part, tag, byte, operand, type, expression, binders, Filling, operandAt, typeAt, partBytes, filled}
-use Rattle.templates.specs.Programs.{modeCode, opOf, code, program}
+use Rattle.templates.specs.Programs.{modeCode, opOf, code, program, ProgramAt}
 use Rattle.parts.specs.Holds.{
   fromOf,
   endOf,
@@ -27,7 +27,6 @@ use Rattle.parts.specs.Holds.{
   PartReady,
   PartPut,
   sizeOf,
-  ProgramAt,
   Ready,
   Ran,
 }

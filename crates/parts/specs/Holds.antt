@@ -33,7 +33,7 @@ use Rattle.templates.specs.Template.{
   partBytes,
   filled,
 }
-use Rattle.templates.specs.Programs.{modeCode, code, program}
+use Rattle.templates.specs.Programs.{modeCode, code, ProgramAt}
 use Rattle.parts.specs.declared.Ranges.{Ranges}
 
 -- the operands' ranges by their number; only 0 and 1 are in use
@@ -144,9 +144,6 @@ sizeOf (suc (suc (suc (suc (suc zero))))) = 3
 sizeOf (suc (suc (suc (suc (suc (suc c)))))) = 1
 
 -- ---- a template
-abbrev pub ProgramAt : List ℕ → ℕ → List Part → Type 0
-ProgramAt g at ps = Spans g at (at + length (program ps)) (program ps)
-
 abbrev pub Ready : List ℕ → ℕ → List ℕ → List ℕ → Ranges → Type 0
 Ready g at s types r = (ps : List Part) × (f : Filling) × ProgramAt g at ps × Holds s types r f ps
 

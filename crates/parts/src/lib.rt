@@ -1,16 +1,18 @@
 // A right side's byte program is run over the operands, their types and the binders as they stand in the buffers: part by part.
+use heads::type_end;
+use programs::program_of;
 use put::put_byte;
 use put::put_copy;
 use put::put_word;
 use put::type_expression::to_expression;
-use type_bytes::type_end;
 ghost use mathlib.Core.Path.{_≡_};
-ghost use Prim.Native.Nat.{_≤_};
+ghost use Prim.Native.Nat.{_≤_, _<_};
 ghost use lib.ListN.{length};
 ghost use Rattle.typing.specs.Typing.{element, first, second};
 ghost use Rattle.put.specs.Out.{Puts};
 ghost use Rattle.put.specs.Copied.{between};
-ghost use Rattle.parts.specs.Holds.{fromOf, endOf, typeOfOperand, HasParts, PartAt, CanMake, powerCode, InnerAt, MadeType, MadeExpression, PartReady, PartPut, sizeOf, Ready, Ran};
+ghost use Rattle.parts.specs.Holds.{fromOf, endOf, typeOfOperand, HasParts, PartAt, CanMake, powerCode, InnerAt, MadeType, MadeExpression, PartReady, PartPut, sizeOf, Ready, Ran, Fillable, Filled};
+ghost use Rattle.templates.specs.Programs.{template};
 
 // Where the operands stand in the frame, where the bytes of their types stand, and where the binders' count and types stand.
 pub struct Ranges {
@@ -169,7 +171,8 @@ fn size_of(op: u8) -> usize
     }
 }
 
-pub fn run_program(
+// The program of g at `start`, to its end.
+fn run_program(
     g: &[u8],
     start: usize,
     s: &[u8],
@@ -188,4 +191,21 @@ pub fn run_program(
         at += size_of(g[at]);
     }
     m
+}
+
+// The right side of a place, filled.
+pub fn fill_template(
+    place: usize,
+    s: &[u8],
+    types: &[u8],
+    r: Ranges,
+    out: &mut [u8; 4096],
+    n: usize,
+) -> usize
+    requires { ⌜ (place < 88) × Fillable (template place) (now s) (now types) r ⌝ }
+    ensures { λ k. ⌜ Filled (template place) (now (s .entry)) (now (types .entry)) r (now (out .entry)) n (now (out .exit)) k ⌝ }
+{
+    let program = program_of(place);
+    let bytes = program.bytes;
+    run_program(&bytes, program.start, s, types, r, out, n)
 }

@@ -31,7 +31,7 @@ use Rattle.type_rules.specs.Patterns.{
   judge,
 }
 use Rattle.type_rules.specs.RuleNumbers.{Packed}
-use Rattle.type_bytes.specs.Buffers.{Copied, Apart}
+use Rattle.copies.specs.Copies.{Copied, Apart}
 use Rattle.results.specs.ResultPosts.{Slots, EnvAt, Kept, FillPre, Filling, FillPost}
 use Rattle.results.specs.declared.Filled.{Filled}
 use Rattle.results.specs.declared.Filled.the-variants as L
@@ -54,7 +54,7 @@ use Rattle.patterns.specs.declared.Fit.{Fit}
 use Rattle.patterns.specs.declared.Fit.the-variants as F
 use Rattle.patterns.specs.declared.Pairs.{Pairs}
 use Rattle.patterns.specs.declared.Pairs.the-variants as P
-use Rattle.type_bytes.proofs.BufferLaws.{copied-span, apart-down}
+use Rattle.copies.proofs.CopyLaws.{copied-span, apart-down}
 use Rattle.patterns.proofs.PairTurns.{env-empty}
 
 pub pairs-pre : (ps : List ℕ) (p : ℕ) → Packed ps p → {o : List ℕ} {from n : ℕ} {s e : List ℕ} → Slots s e → JudgePre o from n

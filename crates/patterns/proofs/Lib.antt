@@ -1,3 +1,3 @@
-pub mod MatchTurns
-pub mod PairTurns
-pub mod JudgeTurns
+mod MatchTurns
+mod PairTurns
+mod JudgeTurns

@@ -22,7 +22,7 @@ use Rattle.frame.proofs.SameTrees.{same-ty}
 use Rattle.typing.specs.Typing.{ty}
 use Rattle.type_rules.specs.Patterns.{symbolOf, partsOf, Matched, differs, matches}
 use Rattle.type_rules.specs.RuleNumbers.{Packed}
-use Rattle.type_bytes.specs.Buffers.{TypeAt, EndOf}
+use Rattle.heads.specs.TypeEnds.{TypeAt, EndOf}
 use Rattle.octets.specs.Bytes.{SameBytes}
 use Rattle.results.specs.ResultPosts.{EnvAt}
 use Rattle.results.proofs.Symbols.{packed-end, by-symbol, fit-at, fit-snoc}
@@ -31,7 +31,7 @@ use Rattle.patterns.specs.declared.Part.{Part}
 use Rattle.patterns.specs.declared.Part.the-variants as W
 use Rattle.patterns.specs.declared.Fit.{Fit}
 use Rattle.patterns.specs.declared.Fit.the-variants as F
-use Rattle.type_bytes.proofs.BufferLaws.{span-get, span-by}
+use Rattle.copies.proofs.CopyLaws.{span-get, span-by}
 use Rattle.typing.proofs.Same.{same-ty-of}
 
 -- ---- types in a row

@@ -11,7 +11,7 @@ use Rattle.frame.specs.Types.{Ty}
 use Rattle.frame.specs.Encoding.{encTy}
 use Rattle.type_rules.specs.Patterns.{Matched, fits, differs, matches, isFit, pairsFit}
 use Rattle.type_rules.specs.RuleNumbers.{Packed}
-use Rattle.type_bytes.specs.Buffers.{TypeAt, EndOf}
+use Rattle.heads.specs.TypeEnds.{TypeAt, EndOf}
 use Rattle.results.specs.ResultPosts.{Slots, EnvAt}
 use Rattle.patterns.specs.PatternPosts.{RowAt, MatchPre, Matching, MatchPost, PairsPre, Pairing, PairsPost}
 use Rattle.patterns.specs.declared.Fit.{Fit}

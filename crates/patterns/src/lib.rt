@@ -1,13 +1,13 @@
 // Typing rules at work: the patterns of a rule (type_rules/specs/Patterns.antt) are matched with types that stand in a row, and `results`
 // makes the type of the node.
+use copies::copy_within;
+use heads::type_end;
 use octets::same_bytes;
 use octets::wide;
 use results::Filled;
 use results::PATTERN_END;
 use results::VARIABLES;
 use results::fill_result;
-use type_bytes::copy_within;
-use type_bytes::type_end;
 ghost use mathlib.Core.List.{List};
 ghost use Prim.Native.Nat.{ℕ, _<_};
 ghost use Rattle.frame.specs.Tags.{classOf};

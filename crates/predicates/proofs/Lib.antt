@@ -1,4 +1,4 @@
-pub mod Negations
-pub mod FiniteTurns
-pub mod SetTurns
-pub mod PartTurns
+mod Negations
+mod FiniteTurns
+mod SetTurns
+mod PartTurns

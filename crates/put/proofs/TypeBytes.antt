@@ -14,7 +14,6 @@ use Rattle.frame.proofs.ReadTypes.{ty-long}
 use Rattle.typing.specs.TypeExpression.{toExpression}
 use Rattle.put.specs.Out.{Puts}
 use Rattle.put.specs.Copied.{between}
-use Rattle.type_bytes.specs.Buffers.{TypeAt as Standing, EndOf}
 use Rattle.put.specs.Written.{TypeAt, HasType, TypeEnd, Expressed, givenBytes}
 use Rattle.put.specs.declared.type_expression.Written.{Written}
 use Rattle.put.proofs.Puts.{puts-then, puts-as, between-span}
@@ -38,13 +37,6 @@ module _ {s : List ℕ} {at : ℕ} where
 
 pub type-within : (s : List ℕ) (at : ℕ) → HasType s at → at < length s
 type-within s at h = lead-is (h .0) (h .1) .1
-
--- what the end of a type asks and answers
-pub as-type : (s : List ℕ) (at : ℕ) → HasType s at → Standing s at
-as-type s at h = record { type = h .0; end = _; span = h .1 }
-
-pub as-end : (s : List ℕ) (at q : ℕ) → EndOf s at q → TypeEnd s at q
-as-end s at q p = record { end = λ t a. p .is t _ a }
 
 -- a type is not empty, and ends in the bytes
 pub type-past : (s : List ℕ) (at q : ℕ) → HasType s at → TypeEnd s at q → (at < q) × (q ≤ length s)

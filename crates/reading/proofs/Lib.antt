@@ -1,5 +1,5 @@
-pub mod NodeTurns
-pub mod TreesTurns
+mod NodeTurns
+mod TreesTurns
 pub mod FrameSays
-pub mod FrameTurns
+mod FrameTurns
 pub mod AgainTurns

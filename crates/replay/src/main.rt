@@ -3,61 +3,70 @@
 // - `S PLACE LENT FRAME`, a step at that place that is lent so many bytes: CHANGED and the new frame, UNCHANGED, or REFUSED and the number.
 // - `R BUDGET LENT FRAME`, a run: REST, SPENT or FULL, the count of steps and the last frame, or REFUSED and the number.
 // Where a byte was written that must stay as it was, TOUCHED follows. A line of another form is REFUSED 1.
+mod shown; // shown.rt: what is printed
+mod trials; // trials.rt: lines and input
+
+use crate::shown::fill;
+use crate::shown::print_refused;
+use crate::shown::print_run;
+use crate::shown::print_step;
+use crate::trials::BEGUN;
+use crate::trials::CHECKS;
+use crate::trials::Input;
+use crate::trials::LENT_LIMIT;
+use crate::trials::Line;
+use crate::trials::Next;
+use crate::trials::STEP;
+use crate::trials::line_end;
+use crate::trials::line_in;
+use crate::trials::line_next;
+use crate::trials::next_byte;
 use frame::refusals::BAD_LINE;
 use libc::STDOUT_FILENO;
 use lines::LineAnswer;
-use lustrejasper::lustrejasper_check;
-use lustrejasper::lustrejasper_run;
-use lustrejasper::lustrejasper_step;
 use reading::FrameAnswer;
-use trials::BEGUN;
-use trials::CHECKS;
-use trials::Input;
-use trials::LENT_LIMIT;
-use trials::Line;
-use trials::Next;
-use trials::STEP;
-use trials::fill;
-use trials::line_end;
-use trials::line_in;
-use trials::line_next;
-use trials::next_byte;
-use trials::print_check;
-use trials::print_refused;
-use trials::print_run;
-use trials::print_step;
+use typing::CheckAnswer;
 
 // A budget has 32 bits.
 const BUDGET_LIMIT: usize = 4294967295;
 
-fn print_read(frame: &[u8]) {
+// What the checks answer for a frame with n nodes.
+fn print_checked(frame: &[u8], n: usize, out: &[u8]) {
+    io::print_decimal(STDOUT_FILENO, n as u64);
+    let answer = checking::check(frame);
+    match answer {
+        CheckAnswer::Accepted(_n) => {
+            io::write_all(STDOUT_FILENO, b" CHECKED");
+        }
+        CheckAnswer::Refused(c) => {
+            io::write_all(STDOUT_FILENO, b" ");
+            print_refused(c, out)
+        }
+    }
+}
+
+fn print_read(frame: &[u8], out: &[u8]) {
     let read = reading::read(frame);
     let answer = read.answer;
     match answer {
-        FrameAnswer::Nodes(n) => {
-            io::print_decimal(STDOUT_FILENO, n as u64);
-            io::write_all(STDOUT_FILENO, b" ");
-            print_check(lustrejasper_check(frame))
-        }
-        FrameAnswer::Refused(c) => print_refused(c as u64),
+        FrameAnswer::Nodes(n) => print_checked(frame, n, out),
+        FrameAnswer::Refused(c) => print_refused(c, out),
     }
 }
 
 // The number is a step's place or a run's budget. The output shows which of its bytes a call writes.
 fn print_answer(form: u8, number: usize, frame: &[u8], out: &mut [u8]) {
+    fill(out);
     if form == CHECKS {
-        print_read(frame)
+        print_read(frame, out)
+    } else if form == STEP {
+        let answer = stepping::step(frame, number, out);
+        print_step(answer, out)
+    } else if number <= BUDGET_LIMIT {
+        let answer = running::run(frame, number as u32, out);
+        print_run(answer, out)
     } else {
-        fill(out);
-        if form == STEP {
-            let answer = lustrejasper_step(frame, number as u64, out);
-            print_step(answer, out)
-        } else if number <= BUDGET_LIMIT {
-            let answer = lustrejasper_run(frame, number as u32, out);
-            print_run(answer, out)
-        } else {
-            print_refused(BAD_LINE as u64)
-        }
+        print_refused(BAD_LINE, out)
     }
 }
 
@@ -79,7 +88,7 @@ fn print_line(line: Line, buf: &[u8; 4096]) {
     let answer = line_end(line);
     match answer {
         LineAnswer::Frame(n) => print_frame(line, buf, n),
-        LineAnswer::Refused(c) => print_refused(c as u64),
+        LineAnswer::Refused(c) => print_refused(c, b""),
     }
     io::write_all(STDOUT_FILENO, b"\n");
 }

@@ -18,11 +18,11 @@ use Rattle.frame.proofs.Spans.{span-nil, span-one, span-join}
 use Rattle.typing.specs.Typing.{ty}
 use Rattle.type_rules.specs.Patterns.{symbolBytes, filled, allBound}
 use Rattle.type_rules.specs.RuleNumbers.{Packed}
-use Rattle.type_bytes.specs.Buffers.{Copied, Apart}
+use Rattle.copies.specs.Copies.{Copied, Apart}
 use Rattle.results.specs.ResultPosts.{EnvAt, Kept, FillPre, Filling, FillPost}
 use Rattle.results.specs.declared.Filled.{Filled}
 use Rattle.results.specs.declared.Filled.the-variants as L
-use Rattle.type_bytes.proofs.BufferLaws.{span-kept, copied-span, apart-up}
+use Rattle.copies.proofs.CopyLaws.{span-kept, copied-span, apart-up}
 use Rattle.results.proofs.Symbols.{packed-end, by-symbol}
 
 filled-cons : (b : ℕ) (ps : List ℕ) (ρ : List Ty) → filled (b ∷ ps) ρ ≡ symbolBytes b ρ ++ filled ps ρ

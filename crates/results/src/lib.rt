@@ -1,6 +1,6 @@
 // The result of a typing rule: its pattern (type_rules/specs/Patterns.antt) filled with the types of the variables, 64 bytes at most.
+use copies::copy_within;
 use frame::limits::TYPE_LIMIT;
-use type_bytes::copy_within;
 ghost use mathlib.Core.List.{List};
 ghost use Prim.Native.Nat.{ℕ, _+_};
 ghost use Rattle.frame.specs.Reading.{typeLimit};

@@ -1,2 +1,9 @@
-pub mod NodeTurns
-pub mod DispatchTurns
+mod NodeTurns
+mod DispatchTurns
+mod SingleTurns
+mod InterTurns
+mod TypeTurns
+mod EmptyTurns
+mod OwnTypes
+mod OwnTurns
+mod PairTurns

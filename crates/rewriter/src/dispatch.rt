@@ -24,8 +24,8 @@ pub fn decide(
         701 => predicates::negation::rewrite_not(s, starts, nexts, k),
         620 => predicates::finite::rewrite_finite(s, starts, nexts, a),
         901 => predicates::partition::rewrite_partition(s, starts, nexts, k),
-        101 => equals::equality::equal_at(s, starts, nexts, a, b),
-        111 => equals::equality::subset_at(s, starts, nexts, a, b),
+        101 => crate::equals::equality::equal_at(s, starts, nexts, a, b),
+        111 => crate::equals::equality::subset_at(s, starts, nexts, a, b),
         _ => Decision::Rests,
     }
 }

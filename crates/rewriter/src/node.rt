@@ -19,7 +19,7 @@ pub fn simplify_predicate_node(
     match tag {
         351 => junction::simplify_assoc_pred(s, starts, nexts, k, kept),
         352 => junction::simplify_assoc_pred(s, starts, nexts, k, kept),
-        251 => implication::implication_at(s, starts, nexts, a, b),
+        251 => logic::implication::implication_at(s, starts, nexts, a, b),
         252 => logic::equivalence_at(s, starts, nexts, a, b),
         701 => logic::negation_at(s, starts, nexts, a),
         851 => logic::quantified::forall_at(s, starts, nexts, k),

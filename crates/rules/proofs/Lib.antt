@@ -1,16 +1,16 @@
-pub mod Shapes
+mod Shapes
 pub mod EmptyInstance
-pub mod TypeInstance
-pub mod Recovery
-pub mod NotFiniteInstance
-pub mod JunctionInstance
-pub mod SimplifyInstance
+mod TypeInstance
+mod Recovery
+mod NotFiniteInstance
+mod JunctionInstance
+mod SimplifyInstance
 pub mod Instance
 pub mod Nodes
 pub mod NewNodes
 pub mod OldNodes
 pub mod Operands
-pub mod EmptyAccepted
-pub mod TypeAccepted
+mod EmptyAccepted
+mod TypeAccepted
 pub mod LogicAccepted
 pub mod EquationAccepted

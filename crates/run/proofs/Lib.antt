@@ -1,4 +1,4 @@
 pub mod Runs
 pub mod Calls
-pub mod UnionFigure
+mod UnionFigure
 pub mod Sizes

@@ -1,2 +1,2 @@
-pub mod SearchTurns
-pub mod Turns
+mod SearchTurns
+mod Turns

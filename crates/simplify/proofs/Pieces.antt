@@ -9,8 +9,8 @@ use lib.Seq.{length-take-le, take-take, take-add, take-all}
 use Rattle.lines.specs.declared.LineState.{LineState}
 use Rattle.program.specs.Stream.{lastLine}
 use Rattle.program.proofs.Pieces.{last-join}
-use Rattle.streaming.specs.LinePosts.{Holds}
-use Rattle.streaming.specs.StreamPosts.{FeedPost}
+use Rattle.simplify.specs.LinePosts.{Holds}
+use Rattle.simplify.specs.StreamPosts.{FeedPost}
 use Rattle.simplify.specs.Posts.{Carried}
 
 -- the part of a list from a place on

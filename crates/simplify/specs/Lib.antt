@@ -1,1 +1,3 @@
 pub mod Posts
+pub mod LinePosts
+pub mod StreamPosts

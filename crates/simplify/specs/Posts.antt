@@ -6,7 +6,7 @@ use Prim.Native.Nat.{ℕ, _≤_}
 use lib.ListN.{length, take}
 use Rattle.lines.specs.declared.LineState.{LineState}
 use Rattle.program.specs.Stream.{lastLine}
-use Rattle.streaming.specs.LinePosts.{Holds}
+use Rattle.simplify.specs.LinePosts.{Holds}
 
 -- the line after a text is that of the definition
 abbrev pub Carried : List ℕ → LineState → List ℕ → LineState → List ℕ → Type 0

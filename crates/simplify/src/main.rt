@@ -2,16 +2,18 @@
 // prints the answer word, the count of steps and the last frame, or REFUSED and the number.
 // Input and output go in large pieces. What is written for what is read is `streaming`'s: no contract can speak of what a file
 // holds, so those here say which line goes on after a piece, and that the loops are safe and end.
+mod streaming; // streaming.rt: a line and its answer; the input in pieces
+
 ghost use Prim.Native.Nat.{_≤_};
 ghost use lib.ListN.{length};
 ghost use Rattle.printing.specs.AnswerPosts.{longest};
 ghost use Rattle.simplify.specs.Posts.{PiecePost, ReadPost};
+use crate::streaming::feed;
+use crate::streaming::finish;
 use libc::STDIN_FILENO;
 use libc::STDOUT_FILENO;
 use lines::LineState;
 use lines::line_start;
-use streaming::feed;
-use streaming::finish;
 
 // The line that goes on, and whether there may be more input.
 struct Turn {

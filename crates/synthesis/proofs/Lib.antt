@@ -1,10 +1,10 @@
-pub mod Machine
-pub mod OwnTurns
-pub mod OwnResults
-pub mod OpenTurns
-pub mod StackBelow
-pub mod StackTurns
-pub mod StepTurns
-pub mod Again
-pub mod TreeTurns
-pub mod MirPieces
+mod Machine
+mod OwnTurns
+mod OwnResults
+mod OpenTurns
+mod StackBelow
+mod StackTurns
+mod StepTurns
+mod Again
+mod TreeTurns
+mod MirPieces

@@ -17,7 +17,8 @@ use Rattle.frame.specs.Spans.{Bytes, Spans}
 use Rattle.frame.proofs.Spans.{span-nil, span-first, span-left, span-right}
 use Rattle.type_rules.specs.Patterns.{ownTypes, Judged, typed, wrong, judge, ruleAt}
 use Rattle.type_rules.specs.RuleNumbers.{ruleNumber}
-use Rattle.type_bytes.specs.Buffers.{EndOf, Copied}
+use Rattle.heads.specs.TypeEnds.{EndOf}
+use Rattle.copies.specs.Copies.{Copied}
 use Rattle.patterns.specs.PatternPosts.{RowAt, Judging, JudgePost}
 use Rattle.synthesis.specs.TypingPosts.{PutPre, Putting, PutPost, OwnPre, Owning, OwnPost, stateOf, closedTo, Closing, ClosePost}
 use Rattle.patterns.specs.declared.Typed.{Typed}
@@ -25,7 +26,7 @@ use Rattle.patterns.specs.declared.Typed.the-variants as T
 use Rattle.synthesis.specs.declared.State.{State}
 use Rattle.synthesis.specs.declared.Turned.{Turned}
 use Rattle.synthesis.specs.declared.Turned.the-variants as U
-use Rattle.type_bytes.proofs.BufferLaws.{copied-span}
+use Rattle.copies.proofs.CopyLaws.{copied-span}
 use Rattle.type_rules.proofs.RuleTables.{carried-own, bound-own, none-own}
 
 -- ---- a type that stands in bytes is well formed

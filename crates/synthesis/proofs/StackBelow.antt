@@ -22,7 +22,7 @@ use Rattle.patterns.specs.PatternPosts.{RowAt}
 use Rattle.synthesis.specs.Machine.{is, Open, given}
 use Rattle.type_rules.specs.Patterns.{Operands}
 use Rattle.synthesis.specs.TypingPosts.{Held, Stack}
-use Rattle.type_bytes.proofs.BufferLaws.{span-kept}
+use Rattle.copies.proofs.CopyLaws.{span-kept}
 
 -- ---- rows and what is written above them
 pub row-kept : (o p : List ℕ) (at n : ℕ) (us : List Ty) → Kept o p n → RowAt o at n us → RowAt p at n us

@@ -1,19 +1,19 @@
 // Number 10 and the type of an expression. The nodes are met in prefix order, and those whose operands are still to come are kept on a
 // stack. The types of the operands that have come stand in a buffer, one after the other; a node's own operands' types start where
 // its record says. (The source's `synthesize_*` go from the children up instead.)
-pub mod stack; // stack.rt: the open nodes, a lent slice of records
+mod stack; // stack.rt: the open nodes, a lent slice of records
 
 use crate::stack::OpenNode;
 use crate::stack::pop;
 use crate::stack::push;
+use copies::copy_in;
 use frame::limits::TYPE_LIMIT;
 use heads::known_head;
+use heads::type_end;
 use octets::wide16;
 use octets::wide32;
 use patterns::Typed;
 use patterns::judge_types;
-use type_bytes::copy_in;
-use type_bytes::type_end;
 use type_rules::rule_of;
 ghost use mathlib.Core.Path.{_≡_};
 ghost use Prim.Native.Nat.{_+_, _-_, _<_};

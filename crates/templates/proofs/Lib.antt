@@ -1,3 +1,3 @@
-pub mod Onto
+mod Onto
 pub mod RightSides
 pub mod Joins

@@ -3,10 +3,12 @@
 -- only, that is operand 0. Places that join any number of operands have the pattern of one operand here.
 use mathlib.Core.Bool.{Bool, false, _||_}
 use mathlib.Core.List.{List, [], _∷_, _++_}
-use Prim.Native.Nat.{ℕ}
+use Prim.Native.Nat.{ℕ, _+_}
+use lib.ListN.{length}
 use lib.Dec.{eqb}
 use Rattle.frame.specs.Tags.{pick}
 use Rattle.frame.specs.Encoding.{encNumber}
+use Rattle.frame.specs.Spans.{Spans}
 use Rattle.frame.specs.Operators.{
   #SetExt,
   #Equal,
@@ -193,3 +195,7 @@ code binders = 6 ∷ []
 unfoldable pub program : List Part → List ℕ
 program [] = 0 ∷ []
 program (p ∷ ps) = code p ++ program ps
+
+-- the program of these parts stands at `at`
+abbrev pub ProgramAt : List ℕ → ℕ → List Part → Type 0
+ProgramAt g at ps = Spans g at (at + length (program ps)) (program ps)

@@ -1,1 +1,1 @@
-// Right sides as patterns: definitions and laws. `parts` and `emit` have the code.
+// Right sides as patterns: definitions and laws. `programs` and `parts` have the code.

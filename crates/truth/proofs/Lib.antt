@@ -1,18 +1,18 @@
 pub mod Sound
-pub mod Premises
-pub mod Emptied
-pub mod Many
-pub mod Connectives
-pub mod Quantifiers
-pub mod FiniteRules
-pub mod Junctions
-pub mod EmptySets
-pub mod EmptySetsMore
-pub mod EmptyRulesKit
-pub mod EmptyRules
-pub mod EmptyRulesMany
-pub mod EmptyRulesCaps
-pub mod EmptyRulesAll
-pub mod TypeSets
-pub mod TypeRules
+mod Premises
+mod Emptied
+mod Many
+mod Connectives
+mod Quantifiers
+mod FiniteRules
+mod Junctions
+mod EmptySets
+mod EmptySetsMore
+mod EmptyRulesKit
+mod EmptyRules
+mod EmptyRulesMany
+mod EmptyRulesCaps
+mod EmptyRulesAll
+mod TypeSets
+mod TypeRules
 pub mod EquationKeeps

@@ -1,1 +1,1 @@
-pub mod Ways
+mod Ways

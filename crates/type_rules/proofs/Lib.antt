@@ -1,7 +1,7 @@
-pub mod Matching
+mod Matching
 pub mod RuleShapes
-pub mod ClassShapes
-pub mod PatternRules
+mod ClassShapes
+mod PatternRules
 pub mod TagRules
 pub mod RuleTables
 pub mod NodeRules

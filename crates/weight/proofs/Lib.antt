@@ -1,6 +1,6 @@
 pub mod Positive
 pub mod Monotone
-pub mod Forests
-pub mod Empties
-pub mod Fills
+mod Forests
+mod Empties
+mod Fills
 pub mod Equations

@@ -1,7 +1,6 @@
-use Rattle.put.proofs.TypeBytes.{as-type, as-end}
 use native.Mathlib.Omega.{arith}
 use Rattle.put.proofs.TypeBytes.{type-past}
-use Rattle.parts.proofs.MadeTypes.{inner-has, type-power, type-plain}
+use Rattle.parts.proofs.MadeTypes.{as-type, as-end, inner-has, type-power, type-plain}
 use borrow.Author.Needs.{needs}
 use Rattle.parts.proofs.put_type.Statement.{statement}
 use Rattle.parts.proofs.put_type.Tie as tie

@@ -1,5 +1,4 @@
-use Rattle.put.proofs.TypeBytes.{as-type, as-end}
-use Rattle.parts.proofs.MadeTypes.{parts-within, product-has, second-below, second-none}
+use Rattle.parts.proofs.MadeTypes.{as-type, as-end, parts-within, product-has, second-below, second-none}
 use borrow.Author.Needs.{needs}
 use Rattle.parts.proofs.second_at.Statement.{statement}
 use Rattle.parts.proofs.second_at.Tie as tie

@@ -1,0 +1,30 @@
+// Copies of bytes, from one buffer to another and within one.
+ghost use Prim.Native.Nat.{_+_, _-_, _≤_};
+ghost use lib.ListN.{length};
+ghost use Rattle.copies.specs.Copies.{Copied, Apart};
+
+// The bytes of s from a up to e, into the buffer from `to` on.
+pub fn copy_in(s: &[u8], a: usize, e: usize, buf: &mut [u8], to: usize)
+    requires { ⌜ (a ≤ e) × (e ≤ length (now s)) × (to + (e - a) ≤ length (now buf)) ⌝ }
+    ensures { λ r. ⌜ Copied (now (s .entry)) a (e - a) (now (buf .entry)) (now (buf .exit)) to ⌝ }
+{
+    let n = e - a;
+    let mut i = 0;
+    while i < n {
+        buf[to + i] = s[a + i];
+        i += 1;
+    }
+}
+
+// The buffer's own bytes from a up to e, from `to` on: further up, or from the left on further down.
+pub fn copy_within(buf: &mut [u8], a: usize, e: usize, to: usize)
+    requires { ⌜ (a ≤ e) × (e ≤ length (now buf)) × (to + (e - a) ≤ length (now buf)) × Apart a e to ⌝ }
+    ensures { λ r. ⌜ Copied (now (buf .entry)) a (e - a) (now (buf .entry)) (now (buf .exit)) to ⌝ }
+{
+    let n = e - a;
+    let mut i = 0;
+    while i < n {
+        buf[to + i] = buf[a + i];
+        i += 1;
+    }
+}

@@ -1,2 +1,0 @@
-pub mod ImpTurns
-pub mod AndTurns

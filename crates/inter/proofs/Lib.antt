@@ -1,2 +1,0 @@
-pub mod SingleTurns
-pub mod InterTurns

@@ -1,0 +1,2 @@
+pub mod Inter
+pub mod OwnType

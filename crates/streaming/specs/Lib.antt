@@ -1,2 +1,0 @@
-pub mod LinePosts
-pub mod StreamPosts
