@@ -8,3 +8,4 @@ mod StepTurns
 mod Again
 mod TreeTurns
 mod MirPieces
+mod LentStack
