@@ -1,22 +1,10 @@
 // The lent output: what it is too short for (number 12), and the frame that goes there.
-use copies::copy_in;
+use copies::put_front;
 use frame::limits::FRAME_LIMIT;
 use frame::refusals::NO_ROOM;
 use step::StepAnswer;
 use typing::CheckAnswer;
-ghost use mathlib.Core.Path.{_≡_};
-ghost use mathlib.Core.List.{_++_};
-ghost use Prim.Native.Nat.{_≤_};
-ghost use lib.ListN.{length, take, drop};
 ghost use Rattle.output.specs.OutPosts.{OutPre, OutPost, AdmitPost};
-
-// The first m bytes of s go to the front of the buffer, and what stands behind them stays.
-pub fn put_front(s: &[u8], m: usize, buf: &mut [u8])
-    requires { ⌜ (m ≤ length (now s)) × (m ≤ length (now buf)) ⌝ }
-    ensures { λ r. ⌜ now (buf .exit) ≡ take m (now (s .entry)) ++ drop m (now (buf .entry)) ⌝ }
-{
-    copy_in(s, 0, m, buf, 0);
-}
 
 // The m bytes in the scratch buffer go to the output, if they fit both.
 pub fn write_out(scratch: &[u8; 4096], m: usize, out: &mut [u8]) -> StepAnswer

@@ -20,7 +20,7 @@ use Rattle.step.proofs.Steps.{step-accepted}
 use Rattle.output.specs.OutPosts.{Admits, AdmitPost}
 use Rattle.output.specs.declared.Admitted.{Admitted}
 use Rattle.output.specs.declared.Admitted.the-variants as D
-use Rattle.output.proofs.OutTurns.{front-keeps, front-is}
+use Rattle.copies.proofs.Fronts.{front-keeps, front-is}
 use Rattle.typing.specs.declared.CheckAnswer.{CheckAnswer}
 use Rattle.run.specs.Run.{next, firstStep, runTree, RunOutcome, ended, turnedDown, endedBy, runOn, run, wordAnswer, runAnswer, runOutput}
 use Rattle.run.proofs.Runs.{first-step}

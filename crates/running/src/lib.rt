@@ -2,9 +2,9 @@
 mod searching; // searching.rt: the first place where a rule applies
 
 use crate::searching::first_step;
+use copies::put_front;
 use output::Admitted;
 use output::admit;
-use output::put_front;
 use run::RunAnswer;
 ghost use mathlib.Core.Path.{_≡_};
 ghost use lib.ListN.{length};

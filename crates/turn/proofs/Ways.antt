@@ -13,7 +13,7 @@ use Rattle.frame.specs.Tags.{pick}
 use Rattle.frame.specs.Encoding.{enc}
 use Rattle.put.specs.Out.{Wrote}
 use Rattle.put.proofs.Puts.{wrote-held, wrote-full}
-use Rattle.output.proofs.OutTurns.{front-keeps, front-is}
+use Rattle.copies.proofs.Fronts.{front-keeps, front-is}
 use Rattle.run.specs.Run.{First, next, nowhere, firstStep, Word, REST, SPENT, FULL, ran, atEnd, goOn, runTree, wordAnswer}
 use Rattle.run.specs.declared.RunAnswer.the-variants as A
 use Rattle.turn.specs.TurnPosts.{Gives, TurnPre, TurnPost}

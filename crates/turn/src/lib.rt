@@ -1,7 +1,7 @@
 // One turn of a run: what it does with the first step that was found. It stands apart from the search for that step, so that it is
 // proved without the rules' code.
+use copies::put_front;
 use frame::limits::FRAME_LIMIT;
-use output::put_front;
 use run::RunAnswer;
 ghost use Rattle.turn.specs.TurnPosts.{TurnPre, TurnPost};
 

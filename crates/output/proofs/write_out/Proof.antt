@@ -1,4 +1,5 @@
-use Rattle.output.proofs.OutTurns.{front-keeps, out-over, out-short, out-written}
+use Rattle.output.proofs.OutTurns.{out-over, out-short, out-written}
+use Rattle.copies.proofs.Fronts.{front-keeps}
 use mathlib.Core.Path.{ap, _∙_}
 use lib.ListN.{length}
 use native.Mathlib.Omega.{arith}

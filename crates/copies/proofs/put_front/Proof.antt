@@ -1,7 +1,7 @@
-use Rattle.output.proofs.OutTurns.{front-put}
+use Rattle.copies.proofs.Fronts.{front-put}
 use borrow.Author.Needs.{needs}
-use Rattle.output.proofs.put_front.Statement.{statement}
-use Rattle.output.proofs.put_front.Tie as tie
+use Rattle.copies.proofs.put_front.Statement.{statement}
+use Rattle.copies.proofs.put_front.Tie as tie
 
 copy-in-requires : tie.Need-copy-in-requires
 copy-in-requires c κs = search needs
