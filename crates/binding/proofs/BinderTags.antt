@@ -12,14 +12,14 @@ use borrow.Author.Tests.{eqb-true, ltb-true, ltb-false, lt-ltb, le-ltb}
 use Rattle.frame.specs.Types.{Ty}
 use Rattle.frame.specs.Trees.{head, Tree, node, Forest, nil, cons, nodes, nodesIn}
 use Rattle.frame.specs.Tags.{pick, Sort, Layout, these, payload, counted, binding, Form, formOf, formAt, Class, table, typesOf, bindersOf}
+use Rattle.frame.specs.Operators.{#BoundIdent}
 use Rattle.tags.specs.TagCodes.{layoutKind, formAtCode}
 use Rattle.frame.specs.Places.{Ctx, push, under}
 use Rattle.frame.specs.WellFormed.{HeadWf}
 use Rattle.tags.proofs.TagTables.{beyond, code-form}
 use Rattle.frame.proofs.EveryTag.{alongRows, every-tag}
 use Rattle.typing.specs.Typing.{typeAt}
-use Rattle.typing.specs.Binding.{boundTag}
-use Rattle.typing.specs.Leaves.{LeavesAt, LeavesIn}
+use Rattle.heads.specs.Leaves.{LeavesAt, LeavesIn}
 use Rattle.binding.specs.Bound.{Below}
 use Rattle.binding.proofs.OpenBinders.{TyAt}
 
@@ -33,7 +33,7 @@ mutual
 
   pub leaves-same : (t : Tree) (Γ : Ctx) (k : ℕ) (s l m : List ℕ) (j : ℕ) → k + nodes t ≤ j → Below j l m → LeavesAt t Γ k s l → LeavesAt t Γ k s m
   leaves-same (node (head g n us) ks) Γ k s l m j le h a = (
-    leaf-same s (eqb g boundTag) (getD l k 0) (getD m k 0) (typeAt Γ n) (sym (h k (omega arith))) (a .0),
+    leaf-same s (eqb g #BoundIdent) (getD l k 0) (getD m k 0) (typeAt Γ n) (sym (h k (omega arith))) (a .0),
     leaves-same-in ks
         (under g us Γ) (suc k) s l m j (omega arith) h (a .1),
   )

@@ -9,6 +9,7 @@ use native.Mathlib.Omega.{arith}
 use lib.ListN.{length, getD, set, length-set}
 use Rattle.frame.specs.Trees.{head, Tree, node, Forest, nil, cons, append, count, nodes, nodesIn}
 use Rattle.frame.specs.Tags.{predicate}
+use Rattle.frame.specs.Operators.{#BoundIdent}
 use Rattle.frame.specs.Encoding.{enc, encs}
 use Rattle.frame.specs.Reading.{frameLimit}
 use Rattle.frame.specs.Places.{Ctx, under}
@@ -19,8 +20,8 @@ use Rattle.heads.specs.declared.KnownHead.{KnownHead}
 use Rattle.frame.proofs.Inversion.{true-not}
 use Rattle.frame.proofs.ReadTypes.{tys-long}
 use Rattle.heads.proofs.View.{at-span, at-wf}
-use Rattle.typing.specs.Binding.{boundTag, closedTree, closedForest}
-use Rattle.typing.specs.Leaves.{LeavesAt}
+use Rattle.typing.specs.Binding.{closedTree, closedForest}
+use Rattle.heads.specs.Leaves.{LeavesAt}
 use Rattle.binding.specs.Bound.{Opened, Outside, Ready, Row, RowHere, OpenPost, BoundRow, BindingPost}
 use Rattle.binding.specs.declared.Bound.{Bound}
 use Rattle.binding.specs.declared.Bound.the-variants.{Ends, Refused}
@@ -117,7 +118,7 @@ module _ {s : List ℕ} {at m depth k : ℕ} {b₀ l₀ : List ℕ} {p left j : 
   left-fits = row-long s to (left - 1 + c) _ _ (joined s p left _ _ hd (u .some) now)
 
   -- ---- a bound identifier
-  module _ (is : g ≡ boundTag) where
+  module _ (is : g ≡ #BoundIdent) where
     pub turn-none : depth ≤ x → BoundRow s at m depth k b₀ l₀ b l Refused
     turn-none le = w .back b l Refused (record { by = by })
       where
@@ -186,7 +187,7 @@ module _ {s : List ℕ} {at m depth k : ℕ} {b₀ l₀ : List ℕ} {p left j : 
           }
 
   -- ---- any other node
-  module _ (other : g ≡ boundTag → ⊥) where
+  module _ (other : g ≡ #BoundIdent → ⊥) where
     -- without binders
     module _ (plain : g < 801) where
       plain-back : (b₂ l₂ : List ℕ) (r : Bound) → BoundRow s to (left - 1 + c) depth (j + 1) b l b₂ l₂ r → BoundRow s p left depth j b l b₂ l₂ r

@@ -14,12 +14,13 @@ use borrow.Author.Tests.{lt-ltb, le-ltb, ne-eqb, eq-eqb}
 use Rattle.frame.specs.Types.{Ty}
 use Rattle.frame.specs.Trees.{head, Tree, node, Forest, nil, cons, append, nodes, nodesIn}
 use Rattle.frame.specs.Tags.{pick}
+use Rattle.frame.specs.Operators.{#BoundIdent}
 use Rattle.frame.specs.Places.{Ctx, under}
 use Rattle.frame.proofs.Inversion.{true-not}
 use Rattle.frame.proofs.Forests.{nodes-append}
 use Rattle.typing.specs.Typing.{typeAt}
-use Rattle.typing.specs.Binding.{boundTag, closedTree, closedForest}
-use Rattle.typing.specs.Leaves.{LeavesAt, LeavesIn}
+use Rattle.typing.specs.Binding.{closedTree, closedForest}
+use Rattle.heads.specs.Leaves.{LeavesAt, LeavesIn}
 use Rattle.binding.specs.Bound.{Opened, Below, boundAnswer, Walked}
 use Rattle.binding.specs.declared.Bound.{Bound}
 use Rattle.binding.specs.declared.Bound.the-variants.{Ends, Refused}
@@ -43,21 +44,21 @@ answer-yes true q j p i e = (refl, cc, cc)
 answer-yes false q j p i e = let z : _≡_ {A = ℕ} 0 1 = cc in absurd (omega arith)
 
 -- ---- a node that is no bound identifier
-closed-other : (g n : ℕ) (us : List Ty) (ks : Forest) (Γ : Ctx) → (g ≡ boundTag → ⊥)
+closed-other : (g n : ℕ) (us : List Ty) (ks : Forest) (Γ : Ctx) → (g ≡ #BoundIdent → ⊥)
     → closedForest ks (under g us Γ) ≡ closedTree (node (head g n us) ks) Γ
 unfolding closedTree
-closed-other g n us ks Γ d = rw (ne-eqb g boundTag d)
+closed-other g n us ks Γ d = rw (ne-eqb g #BoundIdent d)
 
-leaves-other : (g n : ℕ) (us : List Ty) (ks : Forest) (Γ : Ctx) (k : ℕ) (s l : List ℕ) → (g ≡ boundTag → ⊥)
+leaves-other : (g n : ℕ) (us : List Ty) (ks : Forest) (Γ : Ctx) (k : ℕ) (s l : List ℕ) → (g ≡ #BoundIdent → ⊥)
     → LeavesIn ks (under g us Γ) (suc k) s l → LeavesAt (node (head g n us) ks) Γ k s l
 unfolding LeavesAt
 leaves-other g n us ks Γ k s l d a = (
   subst (λ (b : Bool). pick {X = Type 0} b (TyAt s (getD l k 0) (typeAt Γ n)) (Unit {0}))
-      (sym (ne-eqb g boundTag d)) tt,
+      (sym (ne-eqb g #BoundIdent d)) tt,
   a,
 )
 
-module _ (g n : ℕ) (us : List Ty) (ks : Forest) (Γ : Ctx) (d : g ≡ boundTag → ⊥) (s : List ℕ) (depth inside k q : ℕ)
+module _ (g n : ℕ) (us : List Ty) (ks : Forest) (Γ : Ctx) (d : g ≡ #BoundIdent → ⊥) (s : List ℕ) (depth inside k q : ℕ)
     (b₀ l₀ b₁ b₂ l₂ : List ℕ) (r : Bound) where
   abbrev here : Tree
   here = node (head g n us) ks
@@ -84,23 +85,23 @@ module _ (g n : ℕ) (us : List Ty) (ks : Forest) (Γ : Ctx) (d : g ≡ boundTag
       wider i (inr l) = inr (omega arith)
 
 -- ---- a bound identifier
-closed-none : (g n : ℕ) (us : List Ty) (ks : Forest) (Γ : Ctx) → g ≡ boundTag → length Γ ≤ n → closedTree (node (head g n us) ks) Γ ≡ false
+closed-none : (g n : ℕ) (us : List Ty) (ks : Forest) (Γ : Ctx) → g ≡ #BoundIdent → length Γ ≤ n → closedTree (node (head g n us) ks) Γ ≡ false
 unfolding closedTree
-closed-none g n us ks Γ e l = rw (eq-eqb g boundTag e, le-ltb n (length Γ) l)
+closed-none g n us ks Γ e l = rw (eq-eqb g #BoundIdent e, le-ltb n (length Γ) l)
 
-closed-some : (g n : ℕ) (us : List Ty) (Γ : Ctx) → g ≡ boundTag → n < length Γ → closedTree (node (head g n us) nil) Γ ≡ true
+closed-some : (g n : ℕ) (us : List Ty) (Γ : Ctx) → g ≡ #BoundIdent → n < length Γ → closedTree (node (head g n us) nil) Γ ≡ true
 unfolding closedTree
-closed-some g n us Γ e l = rw (eq-eqb g boundTag e, lt-ltb n (length Γ) l)
+closed-some g n us Γ e l = rw (eq-eqb g #BoundIdent e, lt-ltb n (length Γ) l)
 
 leaves-some : (g n : ℕ) (us : List Ty) (Γ : Ctx) (k : ℕ) (s l : List ℕ) → TyAt s (getD l k 0) (typeAt Γ n) → LeavesAt (node (head g n us) nil) Γ k s l
 unfolding LeavesAt
-leaves-some g n us Γ k s l a = (either (eqb g boundTag), tt)
+leaves-some g n us Γ k s l a = (either (eqb g #BoundIdent), tt)
   where
     either : (b : Bool) → pick {X = Type 0} b (TyAt s (getD l k 0) (typeAt Γ n)) (Unit {0})
     either true = a
     either false = tt
 
-module _ (s : List ℕ) (g n : ℕ) (us : List Ty) (Γ : Ctx) (is : g ≡ boundTag) (depth k q : ℕ) (b l : List ℕ)
+module _ (s : List ℕ) (g n : ℕ) (us : List Ty) (Γ : Ctx) (is : g ≡ #BoundIdent) (depth k q : ℕ) (b l : List ℕ)
     (ll : length l ≡ 2048) (o : Opened s Γ b depth) where
   -- its index has no binder
   pub walk-none : (ks : Forest) → depth ≤ n → Walked (closedTree (node (head g n us) ks) Γ) (LeavesAt (node (head g n us) ks) Γ k s) depth k
@@ -204,7 +205,7 @@ leaves-append (cons t ks) ls Γ k s l a =
     let z : k + nodes t + nodesIn ks ≡ k + (nodes t + nodesIn ks) = omega arith in
     ((a .0, w .0), subst (λ (i : ℕ). LeavesIn ls Γ i s l) z (w .1))
 
-module _ (g n : ℕ) (us : List Ty) (ks ls : Forest) (Γ : Ctx) (d : g ≡ boundTag → ⊥) (plain : Γ ≡ under g us Γ) (s : List ℕ) where
+module _ (g n : ℕ) (us : List Ty) (ks ls : Forest) (Γ : Ctx) (d : g ≡ #BoundIdent → ⊥) (plain : Γ ≡ under g us Γ) (s : List ℕ) where
   closed-plain : closedForest (append ks ls) Γ ≡ closedForest (cons (node (head g n us) ks) ls) Γ
   unfolding closedTree
   closed-plain =

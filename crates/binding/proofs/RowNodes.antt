@@ -10,6 +10,7 @@ use lib.ListN.{length, length-append}
 use Rattle.frame.specs.Types.{Ty}
 use Rattle.frame.specs.Trees.{head, Tree, node, Forest, nil, cons, append, count, nodes}
 use Rattle.frame.specs.Tags.{Sort, Form, formOf, formAt, classOf, lookup, payloadOf, sortsOf}
+use Rattle.frame.specs.Operators.{#BoundIdent}
 use Rattle.tags.specs.TagCodes.{formAtCode, kindsFor}
 use Rattle.frame.specs.Encoding.{encTys, enc, encs}
 use Rattle.frame.specs.WellFormed.{numberIn, HeadWf, Wfs}
@@ -23,7 +24,6 @@ use Rattle.frame.proofs.Extents.{nodes-enc}
 use Rattle.frame.proofs.ReadBack.{enc-long}
 use Rattle.tags.proofs.TagTables.{code-form}
 use Rattle.heads.proofs.View.{stands-at, kids-span, kids-wf, known-view}
-use Rattle.typing.specs.Binding.{boundTag}
 use Rattle.binding.specs.Bound.{Row, RowHere}
 
 -- ---- the first tree
@@ -86,8 +86,8 @@ pub record FirstNode (s : List ℕ) (at m : ℕ) (ts : Forest) (q : ℕ) (hd : K
   pub later : Forest
   pub mid : ℕ
   pub is : ts ≡ cons (node (head (hd .tag) n us) ks) later
-  pub index : hd .tag ≡ boundTag → n ≡ hd .number
-  pub alone : hd .tag ≡ boundTag → hd .count ≡ 0
+  pub index : hd .tag ≡ #BoundIdent → n ≡ hd .number
+  pub alone : hd .tag ≡ #BoundIdent → hd .count ≡ 0
   pub types : Spans s (hd .types) (hd .children) (encTys us)
   pub wf : HeadWf e (hd .tag) n us (count ks)
   pub kids : Row s (hd .children) (hd .count) ks mid
@@ -97,7 +97,7 @@ pub record FirstNode (s : List ℕ) (at m : ℕ) (ts : Forest) (q : ℕ) (hd : K
   pub places : at + (nodes (node (head (hd .tag) n us) ks) + nodes (node (head (hd .tag) n us) ks)) ≤ mid
 
 module _ (s : List ℕ) (bs : Bytes s) (at m : ℕ) (l : 0 < m) (hd : KnownHead) (kn : KnownPost s at hd) where
-  own-form : hd .tag ≡ boundTag → formOf 3 ≡ formAtCode (hd .form)
+  own-form : hd .tag ≡ #BoundIdent → formOf 3 ≡ formAtCode (hd .form)
   own-form z = sym (code-form (hd .tag) (hd .form) (kn .form) ∙ ap formOf z)
 
   pub node-of : (ts : Forest) (q : ℕ) → Row s at m ts q → FirstNode s at m ts q hd

@@ -16,7 +16,7 @@ use Rattle.frame.specs.WellFormed.{TysWf, Wfs}
 use Rattle.frame.specs.Spans.{Spans}
 use Rattle.frame.specs.At.{IsAt}
 use Rattle.typing.specs.Binding.{closedTree, closedForest}
-use Rattle.typing.specs.Leaves.{LeavesAt, LeavesIn}
+use Rattle.heads.specs.Leaves.{LeavesAt, LeavesIn}
 use Rattle.binding.specs.declared.Bound.{Bound}
 use Rattle.binding.specs.declared.Bound.the-variants.{Ends, Refused}
 

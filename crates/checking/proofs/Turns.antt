@@ -20,7 +20,7 @@ use Rattle.heads.proofs.View.{parse-at, at-span}
 use Rattle.typing.specs.Typing.{typedTree}
 use Rattle.typing.specs.Binding.{closedTree}
 use Rattle.typing.specs.Identifiers.{namesAgree}
-use Rattle.typing.specs.Leaves.{LeavesAt}
+use Rattle.heads.specs.Leaves.{LeavesAt}
 use Rattle.typing.specs.Check.{accepted, checkTree, checkParsed, check, checkAnswer}
 use Rattle.typing.proofs.Decides.{check-accepted}
 use Rattle.synthesis.specs.TypingPosts.{TypePre, TypePost, Typing}

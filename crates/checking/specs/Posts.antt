@@ -9,7 +9,7 @@ use Rattle.frame.specs.Tags.{predicate}
 use Rattle.frame.specs.Reading.{tree, parse, frameLimit}
 use Rattle.frame.specs.At.{IsAt}
 use Rattle.typing.specs.Typing.{typedTree}
-use Rattle.typing.specs.Leaves.{LeavesAt}
+use Rattle.heads.specs.Leaves.{LeavesAt}
 use Rattle.typing.specs.Check.{accepted, check, checkAnswer}
 use Rattle.typing.specs.declared.CheckAnswer.{CheckAnswer}
 

@@ -1,7 +1,7 @@
 -- Demand 3. After any series of calls (steps at any places, runs with any budgets, refused and unchanged ones too) the predicate
 -- held has the first one's truth value in every interpretation that document 01 covers, and the changing steps number at most
 -- a figure worked out from the first tree alone. Document 01: "Demand 3 is a single claim about the whole list, whatever its
--- calls, places, budgets and outputs, and not one for each call."
+-- calls, places, budgets and outputs, and not one for each call. Once both calls run, demand 3 is owed, all of it."
 use mathlib.Core.Path.{_≡_}
 use mathlib.Core.List.{List, []}
 use Prim.Native.Nat.{ℕ, _<_}

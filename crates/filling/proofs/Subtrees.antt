@@ -21,7 +21,7 @@ use Rattle.frame.proofs.Numbers.{number-length}
 use Rattle.frame.proofs.Spans.{span-left, span-right}
 use Rattle.frame.proofs.Splices.{find-lt}
 use Rattle.typing.specs.Typing.{typeOf, typedTree}
-use Rattle.typing.specs.Leaves.{LeavesAt, LeavesIn}
+use Rattle.heads.specs.Leaves.{LeavesAt, LeavesIn}
 use Rattle.typing.proofs.Decides.{accepted-typed}
 use Rattle.typing.proofs.Derived.{short-of}
 use Rattle.typing.specs.Signature.{signature}

@@ -11,7 +11,7 @@ use Rattle.frame.specs.Encoding.{encTys, enc}
 use Rattle.frame.specs.Spans.{Spans}
 use Rattle.frame.specs.Places.{Ctx, found, find}
 use Rattle.typing.specs.Typing.{typeOf}
-use Rattle.typing.specs.Leaves.{LeavesAt}
+use Rattle.heads.specs.Leaves.{LeavesAt}
 use Rattle.typing.specs.Accepted.{Accepted}
 use Rattle.typing.specs.Signature.{signature}
 use Rattle.nav.specs.PlaceTables.{Framed, Table}

@@ -3,12 +3,8 @@
 use mathlib.Core.Path.{_≡_}
 use mathlib.Core.List.{List}
 use Prim.Native.Nat.{ℕ, _+_}
-use lib.ListN.{length}
 use Rattle.frame.specs.Trees.{Tree, Forest}
 use Rattle.frame.specs.Tags.{Sort, width, formOf}
-use Rattle.frame.specs.Encoding.{encs}
-use Rattle.frame.specs.WellFormed.{Wfs}
-use Rattle.frame.specs.Spans.{Spans}
 use Rattle.frame.specs.Reading.{numberAt, ok, okF, readMany, readNode}
 
 -- where the types of the head at `at` start: behind its tag and its number
@@ -21,9 +17,3 @@ IsAt s e at t q = (f : ℕ) × (readNode f s e at ≡ ok t q)
 -- trees of these sorts, one after the other
 abbrev pub KidsAt : List ℕ → List Sort → ℕ → Forest → ℕ → Type 0
 KidsAt s es at ts q = (f : ℕ) × (readMany es (readNode f s) at ≡ okF ts q)
-
--- trees that stand one after the other, from `at` to the end of the frame: of each node that was met its children come first,
--- then what came after the node
-pub record Rest (s : List ℕ) (at : ℕ) (ts : Forest) (es : List Sort) : Type 0 where
-  pub span : Spans s at (length s) (encs ts)
-  pub wf : Wfs ts es

@@ -36,8 +36,8 @@ unfoldable mutual
   encs nil = []
   encs (cons t ts) = enc t ++ encs ts
 
--- where the nodes of a tree start that itself starts at p, in prefix order: what "a fixed table of 2,048 node starts, all zero
--- before reading" is filled with
+-- where the nodes of a tree start that itself starts at p, in prefix order: "Shared pointers (`Arc`) become positions in the frame, with
+-- a fixed table of 2,048 node starts, all zero before reading.": what the table is filled with
 unfoldable mutual
   pub starts : Tree → ℕ → List ℕ
   starts (node h ks) p = p ∷ startsIn ks (p + length (encHead h (count ks)))

@@ -1,2 +1,3 @@
 pub mod HeadPost
+pub mod Leaves
 pub mod TypeEnds

@@ -11,12 +11,12 @@ use borrow.Author.Tests.{ne-eqb, eq-eqb}
 use Rattle.frame.specs.Types.{Ty}
 use Rattle.frame.specs.Trees.{Head, head, node, Forest, nil, cons, count, append}
 use Rattle.frame.specs.Tags.{Sort, formOf, formAt, classOf, lookup, width, typesOf, sortsOf, Form}
+use Rattle.frame.specs.Operators.{#FreeIdent}
 use Rattle.tags.specs.TagCodes.{formCode, formAtCode}
 use Rattle.frame.specs.Encoding.{encNumber, encTy, encTys, encHead, enc, encs}
 use Rattle.frame.specs.Reading.{numberAt}
 use Rattle.frame.specs.WellFormed.{TyWf, TysWf, numberIn, HeadWf}
 use Rattle.frame.specs.Spans.{Spans}
-use Rattle.frame.specs.At.{Rest}
 use Rattle.frame.proofs.Spans.{span-left, span-right}
 use Rattle.frame.proofs.Numbers.{number-length, number-back}
 use Rattle.frame.proofs.ReadBack.{enc-long}
@@ -24,7 +24,8 @@ use Rattle.frame.proofs.Forests.{encs-append, wfs-append}
 use Rattle.tags.proofs.TagTables.{code-form}
 use Rattle.typing.specs.Typing.{carriedTy}
 use Rattle.typing.specs.Members.{All}
-use Rattle.typing.specs.Identifiers.{identTag, Named, named, givensTys, identOf}
+use Rattle.typing.specs.Identifiers.{Named, named, givensTys, identOf}
+use Rattle.reading.specs.Post.{Rest}
 use Rattle.claims.specs.Table.{TypeAt, Noted, Held, NamePost}
 use Rattle.identifiers.specs.Claims.{powers, claimsOf, claims, claimsIn, TypesAt, NotedTo, TypesPost, NodePost, Unlisted}
 use Rattle.identifiers.specs.declared.Noting.{Noting}
@@ -127,7 +128,7 @@ ident-head e g n us k z w =
 
 record Now (s : List ℕ) (at tag n : ℕ) (us : List Ty) (w x m q : ℕ) : Type 0 where
   types : TypesAt s (at + 2 + w) m us q
-  name : tag ≡ identTag → (x ≡ n) × (x < 65536) × TypeAt s (at + 2 + w) q (carriedTy us)
+  name : tag ≡ #FreeIdent → (x ≡ n) × (x < 65536) × TypeAt s (at + 2 + w) q (carriedTy us)
 
 -- what was read: the tag, its form, and the number behind it
 pub record Seen (s : List ℕ) (at tag form w x m : ℕ) : Type 0 where
@@ -192,11 +193,11 @@ left-room s at l h tag et form ef w ew =
     let y : w ≡ width (formOf (o .g) .layout) = ew ∙ ap (λ (fm : Form). width (fm .layout)) f in
     omega (arith, v .room .1)
 
-ident-none : (g n : ℕ) (us : List Ty) → (g ≡ identTag → ⊥) → identOf g n us ≡ []
-ident-none g n us d = rw (ne-eqb g identTag d)
+ident-none : (g n : ℕ) (us : List Ty) → (g ≡ #FreeIdent → ⊥) → identOf g n us ≡ []
+ident-none g n us d = rw (ne-eqb g #FreeIdent d)
 
-ident-some : (g n : ℕ) (us : List Ty) → g ≡ identTag → identOf g n us ≡ named n (carriedTy us) ∷ []
-ident-some g n us e = rw (eq-eqb g identTag e)
+ident-some : (g n : ℕ) (us : List Ty) → g ≡ #FreeIdent → identOf g n us ≡ named n (carriedTy us) ∷ []
+ident-some g n us e = rw (eq-eqb g #FreeIdent e)
 
 module _ (s : List ℕ) (at tag form w x m : ℕ) (d : Seen s at tag form w x m) where
   now : (g n : ℕ) (us : List Ty) (ks later : Forest) (es : List Sort) → Rest s at (cons (node (head g n us) ks) later) es
@@ -231,12 +232,12 @@ module _ (s : List ℕ) (at tag form w x m : ℕ) (d : Seen s at tag form w x m)
         (subst (NotedTo s t₀ t₁ (powers (givensTys us)) q) er a))
 
     module _ (q : ℕ) (er : r ≡ Ends q) where
-      pub node-other : (tag ≡ identTag → ⊥) → NodePost s at t₀ t₁ (Ends q)
+      pub node-other : (tag ≡ #FreeIdent → ⊥) → NodePost s at t₀ t₁ (Ends q)
       node-other ne =
           node-by t₁ (Ends q) (λ g n us o z v a. rw (ident-none g n us (λ e. ne (z ∙ e)), append-nil)
           (subst (NotedTo s t₀ t₁ (powers (givensTys us)) o) er a))
 
-      pub node-past : tag ≡ identTag → length t₁ ≤ x → NodePost s at t₀ t₁ Beyond
+      pub node-past : tag ≡ #FreeIdent → length t₁ ≤ x → NodePost s at t₀ t₁ Beyond
       node-past is k = node-by t₁ Beyond (λ g n us o z v a.
           let c = subst (NotedTo s t₀ t₁ (powers (givensTys us)) o) er a in
           let e = v .name (sym z ∙ is) in
@@ -245,7 +246,7 @@ module _ (s : List ℕ) (at tag form w x m : ℕ) (d : Seen s at tag form w x m)
           (unlisted-one t₀ t₁ n (carriedTy us) (c .1 .size) (omega arith) (omega (arith, e .1)))))
 
       -- what is asked for an identifier's own claim
-      pub own-asks : tag ≡ identTag → at < length s → Held s t₀ → Left s at → (x < 65536) × Held s t₁ × ((t : Ty) × TypeAt s (at + 2 + w) q t)
+      pub own-asks : tag ≡ #FreeIdent → at < length s → Held s t₀ → Left s at → (x < 65536) × Held s t₁ × ((t : Ty) × TypeAt s (at + 2 + w) q t)
       own-asks is l k h =
           let o = first s at l h in
           let v = now (o .g) (o .n) (o .us) (o .ks) (o .later) (o .es) (o .rest) in
@@ -256,7 +257,7 @@ module _ (s : List ℕ) (at tag form w x m : ℕ) (d : Seen s at tag form w x m)
             (carriedTy (o .us), subst (λ (i : ℕ). TypeAt s (at + 2 + w) i (carriedTy (o .us))) (sym (c .0)) (e .2)),
           )
 
-      module _ (is : tag ≡ identTag) (t₂ : List ℕ) (fits : Bool) (own : NamePost s x (at + 2 + w) q t₁ t₂ fits) where
+      module _ (is : tag ≡ #FreeIdent) (t₂ : List ℕ) (fits : Bool) (own : NamePost s x (at + 2 + w) q t₁ t₂ fits) where
         own-claim : (g n : ℕ) (us : List Ty) (o : ℕ) → tag ≡ g → Now s at g n us w x m o → q ≡ o → Noted s t₁ t₂ (identOf g n us) fits
         own-claim g n us o z v e =
             let c = v .name (sym z ∙ is) in

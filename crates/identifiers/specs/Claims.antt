@@ -10,10 +10,10 @@ use Rattle.frame.specs.Trees.{Head, head, Tree, node, Forest, nil, cons, count}
 use Rattle.frame.specs.Tags.{Sort}
 use Rattle.frame.specs.Encoding.{encTys, encHead}
 use Rattle.frame.specs.WellFormed.{TyWf}
-use Rattle.frame.specs.At.{Rest}
 use Rattle.frame.specs.Spans.{Spans}
 use Rattle.typing.specs.Members.{In, All}
 use Rattle.typing.specs.Identifiers.{Named, named, givensTys, identOf, namesAgree}
+use Rattle.reading.specs.Post.{Rest}
 use Rattle.claims.specs.Table.{Noted}
 use Rattle.identifiers.specs.declared.Noting.{Noting}
 use Rattle.identifiers.specs.declared.Noting.the-variants.{Ends, Clashed, Beyond}

@@ -17,9 +17,10 @@ ghost use lib.ListN.{length};
 ghost use Rattle.frame.specs.Types.{Ty};
 ghost use Rattle.frame.specs.Trees.{Tree, Forest};
 ghost use Rattle.frame.specs.Tags.{Sort, predicate};
-ghost use Rattle.frame.specs.At.{IsAt, Rest};
+ghost use Rattle.frame.specs.At.{IsAt};
 ghost use Rattle.frame.specs.Reading.{frameLimit};
 ghost use Rattle.typing.specs.Identifiers.{namesAgree};
+ghost use Rattle.reading.specs.Post.{Rest};
 ghost use Rattle.claims.specs.Table.{Held};
 ghost use Rattle.identifiers.specs.Claims.{TypesAt, TypesPost, NodePost, Clear, Decides};
 

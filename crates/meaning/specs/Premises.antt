@@ -12,7 +12,7 @@ use Rattle.meaning.specs.Lists.{any}
 use Rattle.meaning.specs.Operations.{opOf}
 use Rattle.meaning.specs.Meaning.{Interpretation, Vals, truth, kid, setOf, some, choices, bindersIn, meansAll}
 
--- ---- "Integers only as single numbers: no type in the first tree, carried or derived, holds 01 inside another type, and
+-- ---- "Integers only as single numbers": "no type in the first tree, carried or derived, holds 01 inside another type, and
 -- no binder has type 01"
 -- `NoInt`: 01 stands nowhere in the type. `Single`: 01 stands nowhere inside another type
 abbrev pub NoInt : Ty → Type 0
@@ -46,7 +46,7 @@ unfoldable mutual
   SingleIntegersIn nil Γ = Unit {0}
   SingleIntegersIn (cons t ts) Γ = SingleIntegers t Γ × SingleIntegersIn ts Γ
 
--- ---- "No intersection over nothing: at each 755 and 802 of the first tree, for every choice of values of the binders
+-- ---- "No intersection over nothing": "at each 755 and 802 of the first tree, for every choice of values of the binders
 -- around that node, the operand of 755 has a member, and the predicate of 802 is true for some values of its own binders". 755 has no
 -- binders of its own, so there Δ is Γ.
 module _ (I : Interpretation) where

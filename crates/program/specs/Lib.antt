@@ -1,3 +1,4 @@
 pub mod Text
 pub mod Stream
+pub mod Pieces
 pub mod Sample

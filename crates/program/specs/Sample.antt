@@ -1,7 +1,7 @@
 -- Document 01's own example of the program, a line that is none and a last line without an end, by one evaluation of `simplified`; then
 -- how answers of every word are printed.
 use mathlib.Core.Path.{_≡_, refl}
-use mathlib.Core.List.{List, [], _∷_, map}
+use mathlib.Core.List.{List, [], _∷_, map, flatMap}
 use Prim.Native.Nat.{ℕ}
 use Prim.Native.String.{String}
 use Rattle.frame.specs.Trees.{nodes}
@@ -27,7 +27,7 @@ use Rattle.rules.specs.Dispatch.{dispatch}
 use Rattle.step.specs.Step.{stepTree}
 use Rattle.run.specs.Run.{firstFrom, firstStep, runTree, REST, SPENT, FULL, RunOutcome, ended, turnedDown, run}
 use Rattle.program.specs.Text.{decimalIn, decimal, endedText, refusedText, answerText, lineText}
-use Rattle.program.specs.Stream.{answers, lastLine, simplified}
+use Rattle.program.specs.Stream.{linesOf, simplified}
 
 data Case : Type 0 where
   -- an input, and the whole output
@@ -56,7 +56,7 @@ unfolding digitOf readLine digitFor writeLine nodes lookup classOf formAt encNum
     givensTy givensTys idents givens agrees agreesWithGivens consistent namesAgree checkTree check toExpression onTag contains makeNeg verdict scan
     simplifyAssocPred simplifyPredicateNode rewriteNot rewritePartition uses recovers functionalCheck rewriteFinite anySingle firstSingle
     anyMinus minuends subtrahends interEmpty rewriteEqualsEmptySet rewriteEqualsType dispatch stepTree firstFrom firstStep runTree run
-    decimalIn decimal endedText refusedText answerText lineText answers lastLine simplified cases
+    decimalIn decimal endedText refusedText answerText lineText flatMap linesOf simplified cases
 sample = refl
 
 -- ---- answers of every word, with counts of one digit and of more: "prints the answer word, the step count in decimal and the frame, or

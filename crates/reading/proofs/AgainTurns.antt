@@ -14,9 +14,9 @@ use Rattle.tags.specs.TagCodes.{firstSort, laterSort, kindsFor}
 use Rattle.frame.specs.Encoding.{encHead, enc, encs, starts, startsIn}
 use Rattle.frame.specs.Reading.{okH, readHead, tree, parse}
 use Rattle.frame.specs.Spans.{Bytes, Spans}
-use Rattle.frame.specs.At.{typesAt, IsAt, Rest}
+use Rattle.frame.specs.At.{typesAt, IsAt}
 use Rattle.heads.specs.HeadPost.{headAnswer, headThere, HeadStands, HeadEnd}
-use Rattle.reading.specs.Post.{frameAnswer, tableSize, tableOf, PlacesPre, PlacesPost}
+use Rattle.reading.specs.Post.{frameAnswer, tableSize, tableOf, Rest, PlacesPre, PlacesPost}
 use Rattle.reading.specs.declared.FrameAnswer.the-variants as F
 use Rattle.frame.proofs.Spans.{span-left, span-right, span-join}
 use Rattle.frame.proofs.Frames.{parse-inv}

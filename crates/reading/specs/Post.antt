@@ -7,9 +7,10 @@ use lib.ListN.{length, replicate}
 use lib.Seq.{sets}
 use Rattle.frame.specs.Trees.{Tree, Forest, nodes, nodesIn}
 use Rattle.frame.specs.Tags.{Sort}
-use Rattle.frame.specs.Encoding.{starts, startsIn}
+use Rattle.frame.specs.Encoding.{encs, starts, startsIn}
+use Rattle.frame.specs.WellFormed.{Wfs}
+use Rattle.frame.specs.Spans.{Spans}
 use Rattle.frame.specs.Reading.{Res, ok, no, FRes, okF, noF, readMany, readNode, Parsed, tree, bad, frameLimit}
-use Rattle.frame.specs.At.{Rest}
 use Rattle.reading.specs.declared.NodeAnswer.{NodeAnswer}
 use Rattle.reading.specs.declared.NodeAnswer.the-variants as N
 use Rattle.reading.specs.declared.FrameAnswer.{FrameAnswer}
@@ -48,7 +49,8 @@ abbrev pub frameAnswer : Parsed → FrameAnswer
 frameAnswer (tree t) = F.Nodes (nodes t)
 frameAnswer (bad c) = F.Refused c
 
--- "a fixed table of 2,048 node starts, all zero before reading"
+-- "a fixed table of 2,048 node starts, all zero before reading": "A [0; 2048] array of u16 positions by value, filled in prefix
+-- order by the reader."
 abbrev pub tableSize : ℕ
 tableSize = 2048
 
@@ -58,6 +60,12 @@ tableOf (tree t) = starts t 0 ++ replicate (tableSize - nodes t) 0
 tableOf (bad c) = replicate tableSize 0
 
 -- ---- a frame that was read before
+-- trees that stand one after the other, from `at` to the end of the frame: of each node that was met its children come first,
+-- then what came after the node
+pub record Rest (s : List ℕ) (at : ℕ) (ts : Forest) (es : List Sort) : Type 0 where
+  pub span : Spans s at (length s) (encs ts)
+  pub wf : Wfs ts es
+
 -- nodes stand from `at` to its end, and the table has room for them from place k on
 pub record PlacesPre (s : List ℕ) (at k : ℕ) (table : List ℕ) : Type 0 where
   pub room : Room s at k

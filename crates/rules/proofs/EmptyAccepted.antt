@@ -128,8 +128,8 @@ module _ {σ : ℕ → Ty} {Γ : Ctx} where
     pub no-members : (s : Tree) (u : Ty) → Has σ Γ s (pow (pow u)) → Holds σ Γ (s ⊆ ext (sole (∅ (element (typeOf s Γ)))))
     no-members s u h = rw (h .type) (subset-holds h (single-has (short h) (empty-has u (ok-of ok h) (short-member (pow u) (short h)))))
 
-    pub empties-holds : {place : ℕ} {e r : Tree} {t : Ty} → Empties Γ place e r → Has σ Γ e t → Holds σ Γ r
-    empties-holds («SIMP_SETENUM_EQUAL_EMPTY» as′) h = false-holds
+    pub empties-holds : {rule : ℕ} {e r : Tree} {t : Ty} → Empties Γ rule e r → Has σ Γ e t → Holds σ Γ r
+    empties-holds («SIMP_SETENUM_EQUAL_EMPTY» a as′) h = false-holds
     empties-holds («SIMP_BINTER_SING_EQUAL_EMPTY» a ks left right p) h =
         let k = rw p at h in
         let o = of-cap (append left (cons (ext (sole a)) right)) k in

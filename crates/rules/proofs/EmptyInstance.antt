@@ -5,8 +5,9 @@ use mathlib.Core.Bool.{Bool, true, false, not, _||_}
 use Prim.Native.Nat.{ℕ, _≤_}
 use native.Mathlib.Omega.{arith}
 use lib.Dec.{eqb}
+use borrow.Author.Tests.{eq-eqb}
 use Rattle.frame.specs.Types.{Ty}
-use Rattle.frame.specs.Trees.{head, Tree, node, Forest, nil, cons, count, leaf, two, many, sole, pair, append, mapF}
+use Rattle.frame.specs.Trees.{head, Tree, node, Forest, nil, cons, tagOf, count, leaf, two, many, sole, pair, append, mapF}
 use Rattle.frame.specs.Tags.{pick, classOf, lookup, formAt}
 use Rattle.frame.specs.Operators.{
   #SetExt,
@@ -151,7 +152,7 @@ single-empties Γ ks noneSingled w = nothing
 -- ---- (A ∖ B) ∩ C ∩ (D ∖ E)
 abbrev MinusAt : Tree → Minus → Type 0
 MinusAt k (minus a b) = k ≡ two #SetMinus a b
-MinusAt k (whole t) = k ≡ t
+MinusAt k (whole t) = (k ≡ t) × (tagOf t ≡ #SetMinus → ⊥)
 
 minus-at : (σ : ℕ → Ty) (Γ : Ctx) (k : Tree) → Ok σ Γ k → MinusAt k (minusOf k)
 unfolding classOf lookup formAt
@@ -159,20 +160,20 @@ minus-at σ Γ (node (head g n ts) ks) a = go (eqb g #SetMinus) refl
   where
     parts-at : (ks : Forest) (x y : Tree) → node (head g n ts) ks ≡ two #SetMinus x y
         → MinusAt (node (head g n ts) ks) (partsOf (node (head g n ts) ks) ks)
-    parts-at nil x y e = refl
-    parts-at (cons a nil) x y e = refl
+    parts-at nil x y e = let p : nil ≡ pair x y = cc in absurd (omega (arith, ap count p))
+    parts-at (cons a nil) x y e = let p : sole a ≡ pair x y = cc in absurd (omega (arith, ap count p))
     parts-at (cons a (cons b nil)) x y e = let p : a ≡ x = cc in let q : b ≡ y = cc in rw (p, q) (rw (p, q) at e)
-    parts-at (cons a (cons b (cons c ks))) x y e = refl
+    parts-at (cons a (cons b (cons c ks))) x y e = let p : cons a (cons b (cons c ks)) ≡ pair x y = cc in absurd (omega (arith, ap count p))
 
     go : (b : Bool) → eqb g #SetMinus ≡ b
         → MinusAt (node (head g n ts) ks) (pick b (partsOf (node (head g n ts) ks) ks) (whole (node (head g n ts) ks)))
     go true h = let w = is-two #SetMinus a h refl in parts-at ks (w .0) (w .1) (w .2)
-    go false h = refl
+    go false h = (refl, λ e. true-not (sym h ∙ eq-eqb g #SetMinus e))
 
 subtracted-in : (k : Tree) (ks : Forest) (m : Minus) → MinusAt k m → Subtracted ks (minuends ks) (subtrahends ks)
     → Subtracted (cons k ks) (cons (minuend m) (minuends ks)) (withSubtrahend m (subtrahends ks))
 subtracted-in k ks (minus a b) e r = rw e (Subtracted.minus a b ks (minuends ks) (subtrahends ks) r)
-subtracted-in k ks (whole t) e r = rw e (Subtracted.other t ks (minuends ks) (subtrahends ks) r)
+subtracted-in k ks (whole t) e r = rw (e .0) (Subtracted.other t ks (minuends ks) (subtrahends ks) (e .1) r)
 
 subtracted : (σ : ℕ → Ty) (Γ : Ctx) (ks : Forest) → OkAll σ Γ ks → Subtracted ks (minuends ks) (subtrahends ks)
 unfolding minuends subtrahends
@@ -209,6 +210,10 @@ of-two k (cons x nil) f = nothing
 of-two k (cons x (cons y nil)) f = f x y refl
 of-two k (cons x (cons y (cons z ks))) f = nothing
 
+some-member : (ks : Forest) → 1 ≤ count ks → (k : Tree) × (rest : Forest) × (ks ≡ cons k rest)
+some-member nil h = absurd (omega arith)
+some-member (cons k rest) h = (k, rest, refl)
+
 natural-empties : {σ : ℕ → Ty} {Γ : Ctx} {e : Tree} → Ok σ Γ e → (isTag #Natural e || isTag #Natural1 e) ≡ true → Empties Γ 60 e (leaf #BFalse)
 unfolding classOf lookup formAt
 natural-empties {e} a h =
@@ -229,7 +234,10 @@ projection-empties {e} a h =
 pub empties : {σ : ℕ → Ty} {Γ : Ctx} {e : Tree} → Ok σ Γ e → Is (λ p u. Empties Γ p e u) (rewriteEqualsEmptySet Γ e)
 unfolding rewriteEqualsEmptySet classOf lookup formAt typeOf
 empties {σ} {Γ} {e} a =
-    or-else (by-test (isTag #SetExt e) (λ h. let w = is-many #SetExt a h 1 refl in rw (w .1) (gives (Equations.«SIMP_SETENUM_EQUAL_EMPTY» (w .0)))))
+    or-else (by-test (isTag #SetExt e) (λ h.
+    let w = is-many #SetExt a h 1 refl in
+    let k = some-member (w .0) (w .2) in
+    rw (w .1 ∙ ap ext (k .2)) (gives (Equations.«SIMP_SETENUM_EQUAL_EMPTY» (k .0) (k .1)))))
     (or-else (on-many _ #BInter a 2 refl (λ ks q m w. rw q (inter-empties σ Γ ks w)))
     (or-else (on-many _ #BUnion a 2 refl (λ ks q m w. rw (joined-many #LAnd (isEmpty Γ) ks m, q) (gives (Equations.«SIMP_BUNION_EQUAL_EMPTY» ks))))
     (or-else (on-two _ #SetMinus a refl (λ x y q v w. rw q (gives (Equations.«SIMP_SETMINUS_EQUAL_EMPTY» x y))))

@@ -48,18 +48,18 @@ use Rattle.rules.specs.Equations.{
   «SIMP_SPECIAL_NOT_EQUAL_TRUE_R»,
   «SIMP_SPECIAL_NOT_EQUAL_FALSE_L»,
   «SIMP_SPECIAL_NOT_EQUAL_TRUE_L»,
-  «SIMP_SPECIAL_AND_BFALSE/OR_BTRUE»,
-  «SIMP_MULTI_AND_NOT/OR_NOT»,
-  «SIMP_SPECIAL_AND_BTRUE/OR_BFALSE/MULTI_AND/OR/none»,
-  «SIMP_SPECIAL_AND_BTRUE/OR_BFALSE/MULTI_AND/OR/one»,
-  «SIMP_SPECIAL_AND_BTRUE/OR_BFALSE/MULTI_AND/OR»,
+  «SIMP_SPECIAL_AND_BFALSE/SIMP_SPECIAL_OR_BTRUE»,
+  «SIMP_MULTI_AND_NOT/SIMP_MULTI_OR_NOT»,
+  dropped-all,
+  dropped-but-one,
+  dropped-some,
   «SIMP_SPECIAL_IMP_BTRUE_L»,
   «SIMP_SPECIAL_IMP_BFALSE_L»,
   «SIMP_SPECIAL_IMP_BTRUE_R»,
   «SIMP_SPECIAL_IMP_BFALSE_R»,
   «SIMP_MULTI_IMP»,
   «SIMP_MULTI_IMP_AND»,
-  «SIMP_MULTI_IMP_AND_NOT_R/L»,
+  «SIMP_MULTI_IMP_AND_NOT_R/SIMP_MULTI_IMP_AND_NOT_L»,
   «SIMP_MULTI_IMP_NOT_L»,
   «SIMP_MULTI_IMP_NOT_R»,
   «SIMP_SPECIAL_EQV_BTRUE/right»,
@@ -158,7 +158,7 @@ module _ {σ : ℕ → Ty} {Γ : Ctx} where
       finite-holds (set-has (b .binders) (short-dom (m .0) (m .1) l) (b .pred) (m .3))
 
   module _ (ok : TysOk σ Γ) where
-    pub equation-holds : {place : ℕ} {l r : Tree} {t : Ty} → Equation Γ place l r → Is σ Γ predicate l t → Holds σ Γ r
+    pub equation-holds : {rule : ℕ} {l r : Tree} {t : Ty} → Equation Γ rule l r → Is σ Γ predicate l t → Holds σ Γ r
     equation-holds («SIMP_SPECIAL_FINITE» t) h = true-holds
     equation-holds «SIMP_FINITE_NATURAL» h = false-holds
     equation-holds «SIMP_FINITE_NATURAL1» h = false-holds
@@ -191,11 +191,11 @@ module _ {σ : ℕ → Ty} {Γ : Ctx} where
     equation-holds («SIMP_SPECIAL_NOT_EQUAL_TRUE_L» e) h = equal-holds false-has (after-true (of-not h))
     equation-holds (equal-type f x) h = fills-holds ok x (filled f h .1)
     equation-holds (equal-empty f x) h = empties-holds ok x (emptied f h .1)
-    equation-holds («SIMP_SPECIAL_AND_BFALSE/OR_BTRUE» g n d ps j a) h = absorbing-holds j
-    equation-holds («SIMP_MULTI_AND_NOT/OR_NOT» g n d ps q j a b) h = absorbing-holds j
-    equation-holds («SIMP_SPECIAL_AND_BTRUE/OR_BFALSE/MULTI_AND/OR/none» g n d ps j x) h = neutral-holds j
-    equation-holds («SIMP_SPECIAL_AND_BTRUE/OR_BFALSE/MULTI_AND/OR/one» g n d ps p j x) h = kept-holds x (junction-operands ps j h) .0
-    equation-holds («SIMP_SPECIAL_AND_BTRUE/OR_BFALSE/MULTI_AND/OR» g n d ps p q qs j x c) h = junction-holds (cons p (cons q qs)) j
+    equation-holds («SIMP_SPECIAL_AND_BFALSE/SIMP_SPECIAL_OR_BTRUE» g n d ps j a) h = absorbing-holds j
+    equation-holds («SIMP_MULTI_AND_NOT/SIMP_MULTI_OR_NOT» g n d ps q j a b) h = absorbing-holds j
+    equation-holds (dropped-all g n d ps j x) h = neutral-holds j
+    equation-holds (dropped-but-one g n d ps p j x) h = kept-holds x (junction-operands ps j h) .0
+    equation-holds (dropped-some g n d ps p q qs j x c) h = junction-holds (cons p (cons q qs)) j
         (kept-operands ps p q qs x (junction-operands ps j h))
     equation-holds («SIMP_SPECIAL_IMP_BTRUE_L» p) h = of-imp h .1
     equation-holds («SIMP_SPECIAL_IMP_BFALSE_L» p) h = true-holds
@@ -203,7 +203,7 @@ module _ {σ : ℕ → Ty} {Γ : Ctx} where
     equation-holds («SIMP_SPECIAL_IMP_BFALSE_R» p n o) h = opposite-holds o (of-imp h .0)
     equation-holds («SIMP_MULTI_IMP» p) h = true-holds
     equation-holds («SIMP_MULTI_IMP_AND» ps q a) h = true-holds
-    equation-holds («SIMP_MULTI_IMP_AND_NOT_R/L» ps q m o a) h = not-holds (of-imp h .0)
+    equation-holds («SIMP_MULTI_IMP_AND_NOT_R/SIMP_MULTI_IMP_AND_NOT_L» ps q m o a) h = not-holds (of-imp h .0)
     equation-holds («SIMP_MULTI_IMP_NOT_L» p) h = of-imp h .1
     equation-holds («SIMP_MULTI_IMP_NOT_R» p) h = of-imp h .1
     equation-holds («SIMP_SPECIAL_EQV_BTRUE/right» p) h = of-eqv h .0
@@ -223,6 +223,6 @@ module _ {σ : ℕ → Ty} {Γ : Ctx} where
         let y = of-imp (x .1) in
         imp-holds (forall-holds (x .0) (y .0)) (exists-holds (x .0) (y .1))
 
-pub equation-accepted : (σ : ℕ → Ty) (Γ : Ctx) (place : ℕ) (l r : Tree) → TysOk σ Γ → Equation Γ place l r → Accepted σ l Γ predicate
+pub equation-accepted : (σ : ℕ → Ty) (Γ : Ctx) (rule : ℕ) (l r : Tree) → TysOk σ Γ → Equation Γ rule l r → Accepted σ l Γ predicate
     → Accepted σ r Γ predicate
-equation-accepted σ Γ place l r ok e a = equation-holds ok e (holds σ l Γ a) .accepted
+equation-accepted σ Γ rule l r ok e a = equation-holds ok e (holds σ l Γ a) .accepted

@@ -67,5 +67,5 @@ instances a =
     (or-else (on-two _ #Equal a refl (λ x y q v w. rw q (equal-instance (equal-types (rw q at a)) v w)))
     (on-two _ #SubsetEq a refl (λ x y q v w. rw q (subset-instance v w)))))))
 
-pub instance : (σ : ℕ → Ty) (Γ : Ctx) (t : Tree) (place : ℕ) (u : Tree) → Accepted σ t Γ predicate → dispatch Γ t ≡ to place u → Equation Γ place t u
-instance σ Γ t place u a e = given-by (rw e at (instances {t = t} (record { sort = predicate; ok = a })))
+pub instance : (σ : ℕ → Ty) (Γ : Ctx) (t : Tree) (rule : ℕ) (u : Tree) → Accepted σ t Γ predicate → dispatch Γ t ≡ to rule u → Equation Γ rule t u
+instance σ Γ t rule u a e = given-by (rw e at (instances {t = t} (record { sort = predicate; ok = a })))

@@ -91,8 +91,8 @@ Says n d out c decides = (c ≡ leaf d) ⊎ Among (makeNeg c) out
 dropped-one : (n d : ℕ) (out : Forest) (c : Tree) (cs : Forest) (k : Kept) → (c ≡ leaf n) ⊎ Among c out
     → Scanned n d (append out cs) k → Scanned n d (append out (cons c cs)) k
 dropped-one n d out c cs (kept fin) (inl e) r =
-    Dropped.literal (append out (cons c cs)) fin out cs (ap (λ (x : Tree). append out (cons x cs)) e) r
-dropped-one n d out c cs (kept fin) (inr m) r = Dropped.repeated (append out (cons c cs)) fin out cs c refl m r
+    Dropped.«SIMP_SPECIAL_AND_BTRUE/SIMP_SPECIAL_OR_BFALSE» (append out (cons c cs)) fin out cs (ap (λ (x : Tree). append out (cons x cs)) e) r
+dropped-one n d out c cs (kept fin) (inr m) r = Dropped.«SIMP_MULTI_AND/SIMP_MULTI_OR» (append out (cons c cs)) fin out cs c refl m r
 dropped-one n d out c cs decided h (inl m) = inl (among-more (leaf d) out c cs m)
 dropped-one n d out c cs decided h (inr m) = inr (m .0, among-more (m .0) out c cs (m .1), among-more (¬ᵖ (m .0)) out c cs (m .2))
 
@@ -144,13 +144,13 @@ other-count k m h e = true-not (sym (ap not (eq-eqb k m e)) ∙ h)
 
 finish-instance : {Γ : Ctx} {g n d : ℕ} → Junction g n d → (m : ℕ) (ps : Forest) → m ≡ count ps → (k : Kept) → Scanned n d ps k
     → Is (λ p u. Equation Γ p (many g ps) u) (finish g n d m k)
-finish-instance {g} {n} {d} j m ps c decided (inl h) = gives (Equations.«SIMP_SPECIAL_AND_BFALSE/OR_BTRUE» g n d ps j h)
-finish-instance {g} {n} {d} j m ps c decided (inr h) = gives (Equations.«SIMP_MULTI_AND_NOT/OR_NOT» g n d ps (h .0) j (h .1) (h .2))
-finish-instance {g} {n} {d} j m ps c (kept nil) h = gives (Equations.«SIMP_SPECIAL_AND_BTRUE/OR_BFALSE/MULTI_AND/OR/none» g n d ps j h)
-finish-instance {g} {n} {d} j m ps c (kept (cons a nil)) h = gives (Equations.«SIMP_SPECIAL_AND_BTRUE/OR_BFALSE/MULTI_AND/OR/one» g n d ps a j h)
+finish-instance {g} {n} {d} j m ps c decided (inl h) = gives (Equations.«SIMP_SPECIAL_AND_BFALSE/SIMP_SPECIAL_OR_BTRUE» g n d ps j h)
+finish-instance {g} {n} {d} j m ps c decided (inr h) = gives (Equations.«SIMP_MULTI_AND_NOT/SIMP_MULTI_OR_NOT» g n d ps (h .0) j (h .1) (h .2))
+finish-instance {g} {n} {d} j m ps c (kept nil) h = gives (Equations.dropped-all g n d ps j h)
+finish-instance {g} {n} {d} j m ps c (kept (cons a nil)) h = gives (Equations.dropped-but-one g n d ps a j h)
 finish-instance {g} {n} {d} j m ps c (kept (cons a (cons b ks))) h =
     by-test (not (eqb (count (cons a (cons b ks))) m)) (λ i. gives
-    (Equations.«SIMP_SPECIAL_AND_BTRUE/OR_BFALSE/MULTI_AND/OR» g n d ps a b ks j h
+    (Equations.dropped-some g n d ps a b ks j h
     (λ e. other-count (count (cons a (cons b ks))) m i (e ∙ sym c))))
 
 pub junction-instance : (σ : ℕ → Ty) (Γ : Ctx) {g n d : ℕ} → Junction g n d → (ks : Forest) → OkAll σ Γ ks

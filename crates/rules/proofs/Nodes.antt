@@ -81,13 +81,13 @@ use Rattle.frame.specs.Tags.{
   comprehension,
   unlisted,
 }
+use Rattle.frame.specs.Operators.{#FreeIdent}
 use Rattle.frame.specs.Encoding.{encTy}
 use Rattle.frame.specs.Places.{Ctx, under}
 use Rattle.frame.specs.WellFormed.{TysWf, numberIn}
 use Rattle.frame.proofs.Booleans.{both-true}
 use Rattle.typing.specs.Typing.{wants, result, shape, carriedTy, alike, typeOf, typesIn}
 use Rattle.typing.specs.Binding.{indexBound}
-use Rattle.typing.specs.Identifiers.{identTag}
 use Rattle.typing.specs.Accepted.{TyOk, TysOk, HeadOk, Accepted, AcceptedAll}
 use Rattle.typing.proofs.Derived.{derived-ok, short-of}
 
@@ -255,7 +255,7 @@ pub record Binders (σ : ℕ → Ty) (us : List Ty) : Type 0 where
 
 module _ {σ : ℕ → Ty} {Γ : Ctx} {e : Sort} (g k : ℕ) (small : g < 65536) where
   pub these-head : {es : List Sort} → formOf g ≡ row e (these es) → indexBound g 0 Γ ≡ true
-      → pick {X = Type 0} (eqb g identTag) (bool ≡ σ 0) (Unit {0}) → bool ≡ shape g bool → HeadOk σ Γ e g 0 [] k
+      → pick {X = Type 0} (eqb g #FreeIdent) (bool ≡ σ 0) (Unit {0}) → bool ≡ shape g bool → HeadOk σ Γ e g 0 [] k
   these-head f i m s =
       record {
         formed = record { small = small; listed = rw f; sort = rw f; fits = rw f (lit< tt); own = rw f; range = rw f; many = rw f; types = tt };
@@ -266,7 +266,7 @@ module _ {σ : ℕ → Ty} {Γ : Ctx} {e : Sort} (g k : ℕ) (small : g < 65536)
       }
 
   pub counted-head : {lo hi : ℕ} {d : Sort} → formOf g ≡ row e (counted lo hi d) → indexBound g 0 Γ ≡ true
-      → pick {X = Type 0} (eqb g identTag) (bool ≡ σ 0) (Unit {0}) → bool ≡ shape g bool → lo ≤ k → k ≤ hi → hi < 256 → HeadOk σ Γ e g 0 [] k
+      → pick {X = Type 0} (eqb g #FreeIdent) (bool ≡ σ 0) (Unit {0}) → bool ≡ shape g bool → lo ≤ k → k ≤ hi → hi < 256 → HeadOk σ Γ e g 0 [] k
   counted-head f i m s l h b =
       record {
         formed =
@@ -288,7 +288,7 @@ module _ {σ : ℕ → Ty} {Γ : Ctx} {e : Sort} (g k : ℕ) (small : g < 65536)
       }
 
   pub binding-head : {us : List Ty} {es : List Sort} → formOf g ≡ row e (binding 1 32 es) → indexBound g 0 Γ ≡ true
-      → pick {X = Type 0} (eqb g identTag) (carriedTy us ≡ σ 0) (Unit {0}) → carriedTy us ≡ shape g (carriedTy us)
+      → pick {X = Type 0} (eqb g #FreeIdent) (carriedTy us ≡ σ 0) (Unit {0}) → carriedTy us ≡ shape g (carriedTy us)
       → Binders σ us → HeadOk σ Γ e g 0 us k
   binding-head f i m s b =
       record {

@@ -10,7 +10,7 @@ use Rattle.frame.specs.Trees.{Tree, Forest, nil, cons, count, leaf, two, append
 use Rattle.frame.specs.Tags.{Sort, expression}
 use Rattle.frame.specs.Operators.{#SetMinus}
 use Rattle.frame.specs.Places.{Ctx}
-use Rattle.rules.specs.Equations.{⋀, ⋁, Dropped, done, literal, repeated, Subtracted, none, minus, other}
+use Rattle.rules.specs.Equations.{⋀, ⋁, Dropped, done, «SIMP_SPECIAL_AND_BTRUE/SIMP_SPECIAL_OR_BFALSE», «SIMP_MULTI_AND/SIMP_MULTI_OR», Subtracted, none, minus, other}
 use Rattle.rules.proofs.Nodes.{Is, Holds, Every, Each}
 use Rattle.rules.proofs.NewNodes.{and-holds, or-holds}
 use Rattle.rules.proofs.OldNodes.{Operands, of-minus-at}
@@ -36,19 +36,19 @@ count-without (cons k left) q right = ap suc (count-without left q right)
 
 pub dropped-count : {n : ℕ} {ks ls : Forest} → Dropped n ks ls → count ls ≤ count ks
 dropped-count (done ks) = omega arith
-dropped-count {n} (literal ks ls left right e d) =
+dropped-count {n} («SIMP_SPECIAL_AND_BTRUE/SIMP_SPECIAL_OR_BFALSE» ks ls left right e d) =
     rw e (omega (arith, count-without left (leaf n) right, dropped-count d))
-dropped-count (repeated ks ls left right q e a d) = rw e (omega (arith, count-without left q right, dropped-count d))
+dropped-count («SIMP_MULTI_AND/SIMP_MULTI_OR» ks ls left right q e a d) = rw e (omega (arith, count-without left q right, dropped-count d))
 
 pub subtracted-same : {ks ls ms : Forest} → Subtracted ks ls ms → count ls ≡ count ks
 subtracted-same none = refl
 subtracted-same (minus a b ks ls ms d) = ap suc (subtracted-same d)
-subtracted-same (other k ks ls ms d) = ap suc (subtracted-same d)
+subtracted-same (other k ks ls ms o d) = ap suc (subtracted-same d)
 
 pub subtracted-fewer : {ks ls ms : Forest} → Subtracted ks ls ms → count ms ≤ count ks
 subtracted-fewer none = omega arith
 subtracted-fewer (minus a b ks ls ms d) = omega (arith, subtracted-fewer d)
-subtracted-fewer (other k ks ls ms d) = omega (arith, subtracted-fewer d)
+subtracted-fewer (other k ks ls ms o d) = omega (arith, subtracted-fewer d)
 
 -- ---- what each is
 module _ {σ : ℕ → Ty} {Γ : Ctx} where
@@ -65,19 +65,19 @@ module _ (P : Tree → Type 0) where
 
   pub dropped-every : {n : ℕ} {ks ls : Forest} → Dropped n ks ls → Every P ks → Every P ls
   dropped-every (done ks) h = h
-  dropped-every {n} (literal ks ls left right p d) h = dropped-every d (every-mid left (leaf n) right (rw p at h) .1)
-  dropped-every (repeated ks ls left right q p a d) h = dropped-every d (every-mid left q right (rw p at h) .1)
+  dropped-every {n} («SIMP_SPECIAL_AND_BTRUE/SIMP_SPECIAL_OR_BFALSE» ks ls left right p d) h = dropped-every d (every-mid left (leaf n) right (rw p at h) .1)
+  dropped-every («SIMP_MULTI_AND/SIMP_MULTI_OR» ks ls left right q p a d) h = dropped-every d (every-mid left q right (rw p at h) .1)
 
   module _ (parts : (a b : Tree) → P (two #SetMinus a b) → P a × P b) where
     pub minuends-every : {ks ls ms : Forest} → Subtracted ks ls ms → Every P ks → Every P ls
     minuends-every none h = tt
     minuends-every (minus a b ks ls ms d) h = (parts a b (h .0) .0, minuends-every d (h .1))
-    minuends-every (other k ks ls ms d) h = (h .0, minuends-every d (h .1))
+    minuends-every (other k ks ls ms o d) h = (h .0, minuends-every d (h .1))
 
     pub subtrahends-every : {ks ls ms : Forest} → Subtracted ks ls ms → Every P ks → Every P ms
     subtrahends-every none h = tt
     subtrahends-every (minus a b ks ls ms d) h = (parts a b (h .0) .1, subtrahends-every d (h .1))
-    subtrahends-every (other k ks ls ms d) h = subtrahends-every d (h .1)
+    subtrahends-every (other k ks ls ms o d) h = subtrahends-every d (h .1)
 
 module _ (σ : ℕ → Ty) (Γ : Ctx) (u : Ty) where
   pub minuends : {ks ls ms : Forest} → Subtracted ks ls ms → Each σ Γ expression (pow u) ks → Each σ Γ expression (pow u) ls

@@ -21,7 +21,7 @@ use Rattle.typing.specs.Typing.{shape, carriedTy}
 use Rattle.typing.specs.Accepted.{Accepted, AcceptedAll}
 use Rattle.rules.specs.Change.{Change, to, same, _orElse_, when, isTag, onTag}
 
--- ---- answers: where there is one, R holds of its place and its tree
+-- ---- answers: where there is one, R holds of its rule and its tree
 pub data Is (R : ℕ → Tree → Type 0) : Change → Type 0 where
   gives : {p : ℕ} {u : Tree} → R p u → Is R (to p u)
   nothing : Is R same
@@ -260,11 +260,11 @@ module _ {σ : ℕ → Ty} {Γ : Ctx} {t : Tree} (g : ℕ) (a : Ok σ Γ t) (h :
       let w = fixed-node σ Γ g (v .0) (v .1) (v .2) (rw (v .3) at a) 0 0 i in
       v .3 ∙ bare (w .number) (w .types) ∙ ap (many g) (no-kids (v .2) (w .kids))
 
-  pub is-many : (m : ℕ) → listing m (formOf g .layout) (formOf g .carried) ≡ true → (ks : Forest) × (t ≡ many g ks)
+  pub is-many : (m : ℕ) → listing m (formOf g .layout) (formOf g .carried) ≡ true → (ks : Forest) × (t ≡ many g ks) × (m ≤ count ks)
   is-many m i =
       let v = tagged g t h in
       let w = listing-node σ Γ g (v .0) (v .1) (v .2) (rw (v .3) at a) m i in
-      (v .2, v .3 ∙ bare (w .number) (w .types))
+      (v .2, v .3 ∙ bare (w .number) (w .types), w .kids)
 
   pub is-one : fixed 0 1 (formOf g .layout) (formOf g .carried) ≡ true → (x : Tree) × (t ≡ one g x)
   is-one i =

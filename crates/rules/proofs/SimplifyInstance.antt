@@ -24,7 +24,7 @@ among-instance : {σ : ℕ → Ty} {Γ : Ctx} {y : Tree} (ks : Forest) → Ok σ
 unfolding makeNeg
 among-instance {y} ks w =
     or-else (by-test (contains y ks) (λ h. gives (Equations.«SIMP_MULTI_IMP_AND» ks y (contains-among y ks h))))
-    (by-test (contains (makeNeg y) ks) (λ h. gives (Equations.«SIMP_MULTI_IMP_AND_NOT_R/L» ks y (makeNeg y) (make-opposite w)
+    (by-test (contains (makeNeg y) ks) (λ h. gives (Equations.«SIMP_MULTI_IMP_AND_NOT_R/SIMP_MULTI_IMP_AND_NOT_L» ks y (makeNeg y) (make-opposite w)
     (contains-among (makeNeg y) ks h))))
 
 imp-instance : {σ : ℕ → Ty} {Γ : Ctx} {x y : Tree} → Ok σ Γ x → Ok σ Γ y → Is (λ p u. Equation Γ p (x ⇒ y) u) (simplifyImp x y)

@@ -61,7 +61,7 @@ module _ {σ : ℕ → Ty} {Γ : Ctx} (ok : TysOk σ Γ) where
   pub only-member : (s : Tree) (u : Ty) → Has σ Γ s (pow (pow u)) → Holds σ Γ (s ≐ ext (sole (toExpression (element (element (typeOf s Γ))))))
   only-member s u h = rw (h .type) (equal-holds h (single-has (short h) (type-has u (ok-of ok h) (short-member (pow u) (short h)))))
 
-  pub fills-holds : {place : ℕ} {e r : Tree} {t : Ty} → Fills Γ place e r → Has σ Γ e t → Holds σ Γ r
+  pub fills-holds : {rule : ℕ} {e r : Tree} {t : Ty} → Fills Γ rule e r → Has σ Γ e t → Holds σ Γ r
   fills-holds («SIMP_BINTER_EQUAL_TYPE» ks) h = all-hold (_≐Ty Γ) (λ k x. is-type ok x) (of-cap ks h .1)
   fills-holds («SIMP_SETMINUS_EQUAL_TYPE» a b) h = let x = of-minus h in and-two (is-type ok (x .1)) (is-empty ok (x .2))
   fills-holds («SIMP_CPROD_EQUAL_TYPE» s t) h = let x = of-times h in and-two (is-type ok (x .2)) (is-type ok (x .3))

@@ -44,7 +44,7 @@ subsetRules Γ left right = when (isTag #EmptySet right) (rewriteEqualsEmptySet 
 -- "Should a place in the source build, for some operator, a tree that differs in truth from what it replaces in a frame and an
 -- interpretation that demand 3 covers, its premise on integers included, that place is left out for that operator: it counts as
 -- giving nothing there and dispatch goes on. docs/DIFFERENCES.md names each such place with a frame and an interpretation, and the
--- difference is proved; nothing else is left out on this ground." None is left out: `equation-keeps` (crates/meaning/proofs/EquationKeeps.antt).
+-- difference is proved; nothing else is left out on this ground." None is left out: `equation-keeps` (crates/truth/proofs/EquationKeeps.antt).
 unfoldable pub dispatch : Ctx → Tree → Change
 dispatch Γ t =
     simplifyPredicateNode t

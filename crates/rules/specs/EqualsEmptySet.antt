@@ -146,7 +146,7 @@ interEmpty children =
 abbrev pub inter : Tree → Tree → Tree
 inter a b = many #BInter (pair a b)
 
--- "A surjective relation set (204) is empty when A = ∅ and B ≠ ∅, not the reverse.": place 43.
+-- "A surjective relation set (204) is empty when A = ∅ and B ≠ ∅, not the reverse.": rule 43.
 -- "BComp p, q tests ran(q) ∩ dom(p); FComp tests ran(p) ∩ dom(q).": places 57 and 56.
 -- `rel` builds what 40, 42, 46, 48 and 54 answer, `bfalse` the ⊥ of 36, 52, 60 and 61.
 unfoldable pub rewriteEqualsEmptySet : Ctx → Tree → Change

@@ -13,7 +13,7 @@ use mathlib.Core.List.{List}
 use Prim.Native.Nat.{ℕ, _+_, _<_}
 use lib.ListN.{length}
 use Rattle.frame.specs.Types.{Ty, prod}
-use Rattle.frame.specs.Trees.{head, Tree, node, Forest, nil, cons, count, leaf, one, two, many, typed, sole, pair, quantified, bodied, append, mapF}
+use Rattle.frame.specs.Trees.{head, Tree, node, Forest, nil, cons, tagOf, count, leaf, one, two, many, typed, sole, pair, quantified, bodied, append, mapF}
 use Rattle.frame.specs.Tags.{formOf, bindersOf}
 use Rattle.frame.specs.Operators.{
   #BoundIdent,
@@ -170,12 +170,13 @@ pub data Junction : ℕ → ℕ → ℕ → Type 0 where
   conjunction : Junction #LAnd #BTrue #BFalse
   disjunction : Junction #LOr #BFalse #BTrue
 
--- some operands are dropped: the neutral literal, and an operand that stands further left too
+-- operands are dropped, any number of times: P ∧ … ∧ ⊤ ∧ … ∧ Q == P ∧ … ∧ Q, and so P ∨ … ∨ ⊥ ∨ … ∨ Q; and an operand that stands further
+-- left too, P ∧ … ∧ Q ∧ … ∧ Q ∧ … ∧ R == P ∧ … ∧ Q ∧ … ∧ R, and so with ∨
 pub data Dropped (neutral : ℕ) : Forest → Forest → Type 0 where
   done : (ks : Forest) → Dropped neutral ks ks
-  literal : (ks ls left right : Forest) → ks ≡ append left (cons (leaf neutral) right)
+  «SIMP_SPECIAL_AND_BTRUE/SIMP_SPECIAL_OR_BFALSE» : (ks ls left right : Forest) → ks ≡ append left (cons (leaf neutral) right)
       → Dropped neutral (append left right) ls → Dropped neutral ks ls
-  repeated : (ks ls left right : Forest) (q : Tree) → ks ≡ append left (cons q right) → Among q left
+  «SIMP_MULTI_AND/SIMP_MULTI_OR» : (ks ls left right : Forest) (q : Tree) → ks ≡ append left (cons q right) → Among q left
       → Dropped neutral (append left right) ls → Dropped neutral ks ls
 
 -- n is ¬p, or p is ¬n: a double negation may go
@@ -183,12 +184,11 @@ pub data Opposite : Tree → Tree → Type 0 where
   negated : (p : Tree) → Opposite p (¬ᵖ p)
   restored : (p : Tree) → Opposite (¬ᵖ p) p
 
--- (A ∖ B), C, (D ∖ E): the operands A, C, D and the subtracted B, E. An operand may be taken as it stands, one with a ∖ too: the
--- equation holds for any of them (the source moves all).
+-- (A ∖ B), C, (D ∖ E): the operands A, C, D and the subtracted B, E; of an operand A ∖ B the B is always taken
 pub data Subtracted : Forest → Forest → Forest → Type 0 where
   none : Subtracted nil nil nil
   minus : (a b : Tree) (ks ls ms : Forest) → Subtracted ks ls ms → Subtracted (cons (two #SetMinus a b) ks) (cons a ls) (cons b ms)
-  other : (k : Tree) (ks ls ms : Forest) → Subtracted ks ls ms → Subtracted (cons k ks) (cons k ls) ms
+  other : (k : Tree) (ks ls ms : Forest) → (tagOf k ≡ #SetMinus → ⊥) → Subtracted ks ls ms → Subtracted (cons k ks) (cons k ls) ms
 
 -- ---- binders: i counts back from the nearest list around a tree, as its index does
 -- it occurs in t; below a node with binders it is counted past these
@@ -204,7 +204,8 @@ pub data Leaf : ℕ → Tree → Type 0 where
 
 -- ---- E = ∅ == new, and E = Ty == new
 pub data Empties (Γ : Ctx) : ℕ → Tree → Tree → Type 0 where
-  «SIMP_SETENUM_EQUAL_EMPTY» : (as′ : Forest) → Empties Γ 36 (ext as′) ⊥ᵖ
+  -- {A, …, B} has a member at least
+  «SIMP_SETENUM_EQUAL_EMPTY» : (a : Tree) (as′ : Forest) → Empties Γ 36 (ext (cons a as′)) ⊥ᵖ
   «SIMP_BINTER_SING_EQUAL_EMPTY» : (a : Tree) (ks left right : Forest) → ks ≡ append left (cons (ext (sole a)) right)
       → Empties Γ 37 (inters ks) (¬ᵖ (a ∈ᵖ over #BInter (append left right)))
   «SIMP_BINTER_SETMINUS_EQUAL_EMPTY» : (ks ls : Forest) (b : Tree) (ms : Forest) → Subtracted ks ls (cons b ms)
@@ -300,19 +301,19 @@ pub data Equation (Γ : Ctx) : ℕ → Tree → Tree → Type 0 where
   «SIMP_SPECIAL_NOT_EQUAL_FALSE_L» : (e : Tree) → Equation Γ 22 (¬ᵖ (leaf #False ≐ e)) (leaf #True ≐ e)
   «SIMP_SPECIAL_NOT_EQUAL_TRUE_L» : (e : Tree) → Equation Γ 23 (¬ᵖ (leaf #True ≐ e)) (leaf #False ≐ e)
   -- rewrite_equals_type, rewrite_equals_empty_set
-  equal-type : {place : ℕ} {e l r : Tree} → Fullness Γ e l → Fills Γ place e r → Equation Γ place l r
-  equal-empty : {place : ℕ} {e l r : Tree} → Emptiness e l → Empties Γ place e r → Equation Γ place l r
-  -- simplify_assoc_pred; SIMP_SPECIAL_AND_BFALSE is P ∧ … ∧ ⊥ ∧ … ∧ Q == ⊥, and so on
-  «SIMP_SPECIAL_AND_BFALSE/OR_BTRUE» : (g n d : ℕ) (ps : Forest) → Junction g n d → Among (leaf d) ps → Equation Γ 62 (many g ps) (leaf d)
-  «SIMP_MULTI_AND_NOT/OR_NOT» : (g n d : ℕ) (ps : Forest) (q : Tree) → Junction g n d → Among q ps → Among (¬ᵖ q) ps
+  equal-type : {rule : ℕ} {e l r : Tree} → Fullness Γ e l → Fills Γ rule e r → Equation Γ rule l r
+  equal-empty : {rule : ℕ} {e l r : Tree} → Emptiness e l → Empties Γ rule e r → Equation Γ rule l r
+  -- simplify_assoc_pred: P ∧ … ∧ ⊥ ∧ … ∧ Q == ⊥; P ∧ … ∧ Q ∧ … ∧ ¬Q ∧ … ∧ R == ⊥; with ∨ both are ⊤
+  «SIMP_SPECIAL_AND_BFALSE/SIMP_SPECIAL_OR_BTRUE» : (g n d : ℕ) (ps : Forest) → Junction g n d → Among (leaf d) ps → Equation Γ 62 (many g ps) (leaf d)
+  «SIMP_MULTI_AND_NOT/SIMP_MULTI_OR_NOT» : (g n d : ℕ) (ps : Forest) (q : Tree) → Junction g n d → Among q ps → Among (¬ᵖ q) ps
       → Equation Γ 62 (many g ps) (leaf d)
-  -- SIMP_SPECIAL_AND_BTRUE and SIMP_MULTI_AND, SIMP_SPECIAL_OR_BFALSE and SIMP_MULTI_OR: nothing is left, one, or more; some
-  -- operand is dropped
-  «SIMP_SPECIAL_AND_BTRUE/OR_BFALSE/MULTI_AND/OR/none» : (g n d : ℕ) (ps : Forest) → Junction g n d → Dropped n ps nil
+  -- by the equations of `Dropped` nothing is left, or one operand, or more. In each some operand was dropped: 65 says so, and where fewer
+  -- than two are left it follows, as ∧ and ∨ have two at least.
+  dropped-all : (g n d : ℕ) (ps : Forest) → Junction g n d → Dropped n ps nil
       → Equation Γ 63 (many g ps) (leaf n)
-  «SIMP_SPECIAL_AND_BTRUE/OR_BFALSE/MULTI_AND/OR/one» : (g n d : ℕ) (ps : Forest) (p : Tree) → Junction g n d → Dropped n ps (sole p)
+  dropped-but-one : (g n d : ℕ) (ps : Forest) (p : Tree) → Junction g n d → Dropped n ps (sole p)
       → Equation Γ 64 (many g ps) p
-  «SIMP_SPECIAL_AND_BTRUE/OR_BFALSE/MULTI_AND/OR» : (g n d : ℕ) (ps : Forest) (p q : Tree) (qs : Forest) → Junction g n d
+  dropped-some : (g n d : ℕ) (ps : Forest) (p q : Tree) (qs : Forest) → Junction g n d
       → Dropped n ps (cons p (cons q qs)) → (count (cons p (cons q qs)) ≡ count ps → ⊥)
       → Equation Γ 65 (many g ps) (many g (cons p (cons q qs)))
   -- simplify_predicate_node: ⇒
@@ -322,7 +323,7 @@ pub data Equation (Γ : Ctx) : ℕ → Tree → Tree → Type 0 where
   «SIMP_SPECIAL_IMP_BFALSE_R» : (p n : Tree) → Opposite p n → Equation Γ 69 (p ⇒ ⊥ᵖ) n
   «SIMP_MULTI_IMP» : (p : Tree) → Equation Γ 70 (p ⇒ p) ⊤
   «SIMP_MULTI_IMP_AND» : (ps : Forest) (q : Tree) → Among q ps → Equation Γ 71 (⋀ ps ⇒ q) ⊤
-  «SIMP_MULTI_IMP_AND_NOT_R/L» : (ps : Forest) (q m : Tree) → Opposite q m → Among m ps → Equation Γ 72 (⋀ ps ⇒ q) (¬ᵖ (⋀ ps))
+  «SIMP_MULTI_IMP_AND_NOT_R/SIMP_MULTI_IMP_AND_NOT_L» : (ps : Forest) (q m : Tree) → Opposite q m → Among m ps → Equation Γ 72 (⋀ ps ⇒ q) (¬ᵖ (⋀ ps))
   «SIMP_MULTI_IMP_NOT_L» : (p : Tree) → Equation Γ 73 (¬ᵖ p ⇒ p) p
   «SIMP_MULTI_IMP_NOT_R» : (p : Tree) → Equation Γ 74 (p ⇒ ¬ᵖ p) (¬ᵖ p)
   -- ⇔

@@ -76,9 +76,9 @@ finiteLambda decls body value =
 
 -- the type carried by id, prj1, prj2 is ℙ(s × _): finite of s
 abbrev pub finiteSource : ℕ → List Ty → Change
-finiteSource place ts = to place (finite (toExpression (source (carriedTy ts))))
+finiteSource rule ts = to rule (finite (toExpression (source (carriedTy ts))))
 
--- "finite(A × B) is A = ∅ or B = ∅ or both finite, in that nesting.": place 8. `btrue` and `bfalse` build the ⊤ and ⊥ of 1 to 3,
+-- "finite(A × B) is A = ∅ or B = ∅ or both finite, in that nesting.": rule 8. `btrue` and `bfalse` build the ⊤ and ⊥ of 1 to 3,
 -- 5 and 10.
 unfoldable pub rewriteFinite : Ctx → Tree → Change
 rewriteFinite Γ child =

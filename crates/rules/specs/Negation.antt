@@ -1,4 +1,4 @@
--- `rewrite_not` and `rewrite_partition` (document 000), in the source's order.
+-- `is_empty`, `rewrite_partition` and `rewrite_not` (document 000), in the source's order.
 use Rattle.frame.specs.Trees.{Tree, Forest, nil, cons, leaf, two, typed}
 use Rattle.frame.specs.Operators.{#Equal, #Lt, #Le, #Gt, #Ge, #True, #False, #EmptySet, #Not}
 use Rattle.frame.specs.Places.{Ctx}
@@ -8,6 +8,12 @@ use Rattle.rules.specs.Change.{Change, to, same, _orElse_, when, isTag, 
 -- `is_empty`: "`E = ∅` with the empty set typed like `E`"
 abbrev pub isEmpty : Ctx → Tree → Tree
 isEmpty Γ e = two #Equal e (typed #EmptySet (typeOf e Γ))
+
+unfoldable pub rewritePartition : Ctx → Forest → Change
+rewritePartition Γ nil = same
+rewritePartition Γ (cons single nil) = to 14 (isEmpty Γ single)
+rewritePartition Γ (cons left (cons right nil)) = to 15 (two #Equal left right)
+rewritePartition Γ (cons left (cons right (cons third ks))) = same
 
 -- "¬(a ≤ b) is a > b." The closure `flip` builds what 16 to 19 answer; `bool_atom` builds the TRUE and FALSE of 20 to 23, and
 -- `is_atomic` is `isTag`.
@@ -25,9 +31,3 @@ rewriteNotInner inner =
 
 unfoldable pub rewriteNot : Tree → Change
 rewriteNot t = unary #Not t rewriteNotInner
-
-unfoldable pub rewritePartition : Ctx → Forest → Change
-rewritePartition Γ nil = same
-rewritePartition Γ (cons single nil) = to 14 (isEmpty Γ single)
-rewritePartition Γ (cons left (cons right nil)) = to 15 (two #Equal left right)
-rewritePartition Γ (cons left (cons right (cons third ks))) = same

@@ -48,14 +48,15 @@ afterVerdict keeps child out go = go (append out (cons child nil))
 afterVerdict decides child out go = decided
 
 -- "leaves both loops once a child meets its opposite": where a child decides, those after it are not looked at. In the code
--- "`out.contains` becomes a search over kept children that leaves both loops once a child meets its opposite."
+-- "`out.contains` becomes a search over kept children that leaves both loops once a child meets its opposite": "Outer loop over
+-- children, inner over kept ones; a label leaves both with the determinant literal."
 unfoldable pub scan : ℕ → ℕ → Forest → Forest → Kept
 scan neutral determinant nil out = kept out
 scan neutral determinant (cons child children) out =
     afterVerdict (verdict neutral determinant out child) child out (λ o. scan neutral determinant children o)
 
 -- g is the operator, n the number of children before. (The source also keeps a flag `changed`; it is set only where
--- the list gets shorter.)
+-- the list gets shorter. Its parameter `do_multi` is true at both calls.)
 abbrev pub finish : ℕ → ℕ → ℕ → ℕ → Kept → Change
 finish g neutral determinant n decided = to 62 (leaf determinant)
 finish g neutral determinant n (kept nil) = to 63 (leaf neutral)

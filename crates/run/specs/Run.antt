@@ -58,7 +58,8 @@ runTree (suc budget) n t = goOn (firstStep t) n t (runTree budget (n + 1))
 
 -- What each word says of the last tree u, with m steps counted where no more than `most` could be: "REST, no rule applies anywhere; SPENT,
 -- budget used and some rule still applies; FULL, budget left but that first step would pass 4,096 bytes". Said again, apart from the
--- run, and proved of it (`run-ends`).
+-- run, and proved of it (`run-ends`), so that with the count (`run-steps`) these are shut out: "a run that makes its first step and calls
+-- that REST", "an invented count", "SPENT with no step made and budget left, or FULL with a next step that fits".
 abbrev pub EndsAs : Word → ℕ → ℕ → Tree → Type 0
 EndsAs REST m most u = firstStep u ≡ nowhere
 EndsAs SPENT m most u = (m ≡ most) × ((v : Tree) × (firstStep u ≡ next v))
@@ -83,7 +84,8 @@ unfoldable pub run : List ℕ → ℕ → ℕ → RunOutcome
 run s budget c = runOn budget c (check s)
 
 -- "Where an answer is an enum, a definition gives this paper's number and values for each case of the enum. The promises use that
--- definition." "Its answer, and a run's, gives the frame's length."
+-- definition." "Its answer, and a run's, gives the frame's length." "The contract of each entry gives answer, count and every byte of the
+-- output afterwards, refusals too: by an equation with a definition": of the entry `run`, with `runAnswer` and `runOutput`.
 abbrev pub wordAnswer : Word → ℕ → ℕ → RunAnswer
 wordAnswer REST n l = Rest n l
 wordAnswer SPENT n l = Spent n l

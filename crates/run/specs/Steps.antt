@@ -1,4 +1,5 @@
--- Steps one after the other, at any places and with results of any length: no frame, no limit, no output plays a part.
+-- Steps one after the other, at any places and with results of any length: no frame, no limit, no output plays a part. (Of the step bound
+-- document 01 says: "holds as well if results may be of any length".)
 use mathlib.Core.Path.{_≡_}
 use Prim.Native.Nat.{ℕ, suc}
 use Rattle.frame.specs.Trees.{Tree}

@@ -1,5 +1,6 @@
 -- What the code of sameness answers (src/lib.rt), for all trees that stand at the two positions. "Predicates hold expressions and
--- expressions predicates: comparing them is two functions that call each other over a falling byte count."
+-- expressions predicates: comparing them is two functions that call each other over a falling byte count." "Sameness of predicates and of
+-- expressions call one another, remaining frame bytes falling."
 use Prim.Native.Nat.{ℕ, _+_, _≤_}
 use mathlib.Core.Path.{_≡_}
 use mathlib.Core.Bool.{Bool}

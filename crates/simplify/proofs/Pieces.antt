@@ -7,7 +7,7 @@ use native.Mathlib.Omega.{arith}
 use lib.ListN.{length, take, drop, length-drop}
 use lib.Seq.{length-take-le, take-take, take-add, take-all}
 use Rattle.lines.specs.declared.LineState.{LineState}
-use Rattle.program.specs.Stream.{lastLine}
+use Rattle.program.specs.Pieces.{lastLine}
 use Rattle.program.proofs.Pieces.{last-join}
 use Rattle.simplify.specs.LinePosts.{Holds}
 use Rattle.simplify.specs.StreamPosts.{FeedPost}

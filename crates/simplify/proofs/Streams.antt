@@ -15,7 +15,7 @@ use Rattle.lines.specs.LineState.{lineBytes, shortened, lineState, LineGoes}
 use Rattle.lines.specs.declared.LineState.{LineState}
 use Rattle.lines.proofs.LineTurns.{count-said}
 use Rattle.program.specs.Text.{newline, lineText}
-use Rattle.program.specs.Stream.{answers, lastLine, lastAnswer}
+use Rattle.program.specs.Pieces.{answers, lastLine, lastAnswer}
 use Rattle.program.proofs.Pieces.{answers-join, last-join}
 use Rattle.printing.specs.AnswerPosts.{longest}
 use Rattle.printing.proofs.Writes.{appends-none, appends-then, appends-as}

@@ -5,7 +5,7 @@ use mathlib.Core.List.{List}
 use Prim.Native.Nat.{ℕ, _≤_}
 use lib.ListN.{length, take}
 use Rattle.lines.specs.declared.LineState.{LineState}
-use Rattle.program.specs.Stream.{lastLine}
+use Rattle.program.specs.Pieces.{lastLine}
 use Rattle.simplify.specs.LinePosts.{Holds}
 
 -- the line after a text is that of the definition

@@ -1,11 +1,11 @@
--- What the code that answers line by line asks and answers, by the definitions of program/specs/Stream.antt.
+-- What the code that answers line by line asks and answers, by the definitions of program/specs/Pieces.antt.
 use mathlib.Core.Path.{_≡_}
 use mathlib.Core.List.{List, [], _∷_}
 use Prim.Native.Nat.{ℕ, _-_, _≤_, _<_}
 use lib.ListN.{length, take, drop, getD}
 use Rattle.lines.specs.declared.LineState.{LineState}
 use Rattle.program.specs.Text.{newline}
-use Rattle.program.specs.Stream.{answers, lastLine, lastAnswer}
+use Rattle.program.specs.Pieces.{answers, lastLine, lastAnswer}
 use Rattle.printing.specs.PrintPosts.{Appends}
 use Rattle.printing.specs.AnswerPosts.{longest}
 use Rattle.simplify.specs.LinePosts.{Holds}

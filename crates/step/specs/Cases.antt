@@ -1,6 +1,7 @@
 -- "The starred cases form one table, proved by one evaluation of the definitions": those of document 01, "Frames to try", each by
--- the whole step on bytes, at place 0, with an output of 4,096 bytes. Frames stand here as document 01 writes them. Then what a step
--- answers, and what it leaves in the lent output, for each way in which it ends.
+-- the whole step on bytes, at place 0, with an output of 4,096 bytes. Frames stand here as document 01 writes them. ("the others, and
+-- frames made at random, are run through the port and the Rust built from the repository and compared": docs/COMPARISON.md.) Then what
+-- a step answers, and what it leaves in the lent output, for each way in which it ends.
 use mathlib.Core.Path.{_≡_, refl}
 use mathlib.Core.List.{List, [], _∷_, map}
 use Prim.Native.Nat.{ℕ}

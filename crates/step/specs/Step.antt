@@ -62,7 +62,9 @@ unfoldable pub step : List ℕ → ℕ → ℕ → Outcome
 step s k c = outcomeOn k c (check s)
 
 -- "Where an answer is an enum, a definition gives this paper's number and values for each case of the enum. The promises use that
--- definition." "Its answer [..] gives the frame's length."
+-- definition." "Its answer [..] gives the frame's length." "The contract of each entry gives answer, count and every byte of the output
+-- afterwards, refusals too: by an equation with a definition": of the entry `step`, with `stepAnswer` and `stepOutput`. So it shuts out
+-- "a step that is always unchanged", "an answer of ⊤ for every node", "refusing every frame".
 abbrev pub stepAnswer : Outcome → StepAnswer
 stepAnswer (wrote xs) = Changed (length xs)
 stepAnswer kept = Unchanged

@@ -23,7 +23,7 @@ use Rattle.frame.proofs.ReadBack.{enc-long}
 use Rattle.frame.proofs.Forests.{no-kids}
 use Rattle.frame.proofs.Extents.{some-node}
 use Rattle.typing.specs.Typing.{result, nodeTyped, typedTree}
-use Rattle.typing.specs.Leaves.{LeavesAt, LeavesIn}
+use Rattle.heads.specs.Leaves.{LeavesAt, LeavesIn}
 use Rattle.type_rules.specs.Patterns.{ownTypes, ruleAt, Judged, typed, wrong, judge}
 use Rattle.results.specs.ResultPosts.{Kept}
 use Rattle.patterns.specs.PatternPosts.{RowAt, JudgePre}

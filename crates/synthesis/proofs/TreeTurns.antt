@@ -14,7 +14,7 @@ use Rattle.frame.specs.Encoding.{encTy}
 use Rattle.frame.specs.Places.{Ctx}
 use Rattle.frame.specs.Spans.{Spans}
 use Rattle.typing.specs.Typing.{typeOf, typedTree}
-use Rattle.typing.specs.Leaves.{LeavesAt}
+use Rattle.heads.specs.Leaves.{LeavesAt}
 use Rattle.type_rules.specs.Patterns.{ownTypes}
 use Rattle.patterns.specs.PatternPosts.{RowAt}
 use Rattle.synthesis.specs.Machine.{Answer, is, bad, Open, opened, closeUp, answerOf}

@@ -10,14 +10,14 @@ use lib.Dec.{eqb}
 use Rattle.frame.specs.Types.{Ty}
 use Rattle.frame.specs.Trees.{head, Tree, node, Forest, count, nodes, nodesIn}
 use Rattle.frame.specs.Tags.{pick, Sort, Class, classOf}
+use Rattle.frame.specs.Operators.{#BoundIdent}
 use Rattle.frame.specs.Encoding.{encTy}
 use Rattle.frame.specs.Reading.{typeLimit, frameLimit}
 use Rattle.frame.specs.WellFormed.{TyWf}
 use Rattle.frame.specs.Places.{Ctx}
 use Rattle.frame.specs.Spans.{Spans}
 use Rattle.typing.specs.Typing.{typeAt, typedTree, typeOf}
-use Rattle.typing.specs.Binding.{boundTag}
-use Rattle.typing.specs.Leaves.{LeavesAt, LeavesIn}
+use Rattle.heads.specs.Leaves.{LeavesAt, LeavesIn}
 use Rattle.type_rules.specs.Patterns.{ownTypes, ruleAt, Judged, typed, wrong, judge}
 use Rattle.type_rules.specs.RuleNumbers.{ruleNumber}
 use Rattle.results.specs.ResultPosts.{Kept}
@@ -74,7 +74,7 @@ pub record OwnPost (c : Class) (s : List ℕ) (p : ℕ) (types : List ℕ) (end 
 -- where it is a bound identifier, its type stands at `leaf`
 abbrev pub LeafAt : Tree → Ctx → List ℕ → ℕ → Type 0
 LeafAt (node (head g n us) ks) Γ s leaf = let t = encTy (typeAt Γ n) in
-    pick {X = Type 0} (eqb g boundTag) (Spans s leaf (leaf + length t) t) (Unit {0})
+    pick {X = Type 0} (eqb g #BoundIdent) (Spans s leaf (leaf + length t) t) (Unit {0})
 
 pub record OpenPre (s : List ℕ) (at leaf : ℕ) (types : List ℕ) (end : ℕ) : Type 0 where
   pub sort : Sort

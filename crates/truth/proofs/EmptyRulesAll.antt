@@ -160,7 +160,7 @@ module _ (I : Interpretation) (σ : ℕ → Ty) (Γ : Ctx) where
 
   -- ---- the equations
   rule-emptied : {place : ℕ} {e new : Tree} {t : Ty} → Empties Γ place e new → Has σ Γ e t → SingleIntegers e Γ → Emptied I σ Γ e new
-  rule-emptied («SIMP_SETENUM_EQUAL_EMPTY» as′) h s = ext-rule as′ h s
+  rule-emptied («SIMP_SETENUM_EQUAL_EMPTY» a as′) h s = ext-rule (cons a as′) h s
   rule-emptied («SIMP_BINTER_SING_EQUAL_EMPTY» a ks left right p) h s = rw p (single-rule a left right (rw p at h) (rw p at s))
   rule-emptied («SIMP_BINTER_SETMINUS_EQUAL_EMPTY» ks ls b ms d) h s = subtracted-rule ks ls (cons b ms) d h s
   rule-emptied («SIMP_BUNION_EQUAL_EMPTY» ks) h s = cup-rule ks h s

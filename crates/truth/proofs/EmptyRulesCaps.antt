@@ -113,7 +113,7 @@ module _ (I : Interpretation) (Γ : Ctx) where
     subtracted-is (minus a b ks ls ms d) =
         ap (λ c. (has (means I a Γ) && not (has (means I b Γ))) && c) (subtracted-is d)
         ∙ apart (has (means I a Γ)) (has (means I b Γ)) (all has (meansAll I ls Γ)) (any has (meansAll I ms Γ))
-    subtracted-is (other k ks ls ms d) =
+    subtracted-is (other k ks ls ms o d) =
         ap (λ c. has (means I k Γ) && c) (subtracted-is d) ∙ sym
         (and-assoc (has (means I k Γ)) (all has (meansAll I ls Γ)) (not (any has (meansAll I ms Γ))))
 

@@ -41,18 +41,18 @@ use Rattle.rules.specs.Equations.{
   «SIMP_SPECIAL_NOT_EQUAL_TRUE_R»,
   «SIMP_SPECIAL_NOT_EQUAL_FALSE_L»,
   «SIMP_SPECIAL_NOT_EQUAL_TRUE_L»,
-  «SIMP_SPECIAL_AND_BFALSE/OR_BTRUE»,
-  «SIMP_MULTI_AND_NOT/OR_NOT»,
-  «SIMP_SPECIAL_AND_BTRUE/OR_BFALSE/MULTI_AND/OR/none»,
-  «SIMP_SPECIAL_AND_BTRUE/OR_BFALSE/MULTI_AND/OR/one»,
-  «SIMP_SPECIAL_AND_BTRUE/OR_BFALSE/MULTI_AND/OR»,
+  «SIMP_SPECIAL_AND_BFALSE/SIMP_SPECIAL_OR_BTRUE»,
+  «SIMP_MULTI_AND_NOT/SIMP_MULTI_OR_NOT»,
+  dropped-all,
+  dropped-but-one,
+  dropped-some,
   «SIMP_SPECIAL_IMP_BTRUE_L»,
   «SIMP_SPECIAL_IMP_BFALSE_L»,
   «SIMP_SPECIAL_IMP_BTRUE_R»,
   «SIMP_SPECIAL_IMP_BFALSE_R»,
   «SIMP_MULTI_IMP»,
   «SIMP_MULTI_IMP_AND»,
-  «SIMP_MULTI_IMP_AND_NOT_R/L»,
+  «SIMP_MULTI_IMP_AND_NOT_R/SIMP_MULTI_IMP_AND_NOT_L»,
   «SIMP_MULTI_IMP_NOT_L»,
   «SIMP_MULTI_IMP_NOT_R»,
   «SIMP_SPECIAL_EQV_BTRUE/right»,
@@ -81,7 +81,7 @@ use Rattle.truth.proofs.Quantifiers as qua
 use Rattle.truth.proofs.EmptyRulesAll.{empties-emptied}
 use Rattle.truth.proofs.TypeRules.{fills-filled}
 
-pub equation-keeps : (I : Interpretation) (σ : ℕ → Ty) (Γ : Ctx) (place : ℕ) (l r : Tree) → TysOk σ Γ → Equation Γ place l r
+pub equation-keeps : (I : Interpretation) (σ : ℕ → Ty) (Γ : Ctx) (rule : ℕ) (l r : Tree) → TysOk σ Γ → Equation Γ rule l r
     → Accepted σ l Γ predicate → SingleIntegers l Γ → Keeps I Γ l r
 equation-keeps I σ Γ z l r k («SIMP_SPECIAL_FINITE» t) a s = fin.finite-top-keeps I σ Γ (∅ t)
 equation-keeps I σ Γ z l r k «SIMP_FINITE_NATURAL» a s = fin.finite-naturals-keeps I σ Γ s
@@ -111,16 +111,16 @@ equation-keeps I σ Γ z l r k («SIMP_SPECIAL_NOT_EQUAL_FALSE_R» e) a s = con.
 equation-keeps I σ Γ z l r k («SIMP_SPECIAL_NOT_EQUAL_TRUE_R» e) a s = con.not-true-right-keeps I σ Γ e a s
 equation-keeps I σ Γ z l r k («SIMP_SPECIAL_NOT_EQUAL_FALSE_L» e) a s = con.not-false-left-keeps I σ Γ e s
 equation-keeps I σ Γ z l r k («SIMP_SPECIAL_NOT_EQUAL_TRUE_L» e) a s = con.not-true-left-keeps I σ Γ e s
-equation-keeps I σ Γ z x y k (equal-type {place} {e} {l} {r} i f) a s = fullness-keeps I σ Γ i a
-    (fills-filled I σ Γ place e r k f (fullness-accepted σ Γ i a) (fullness-single I σ Γ i s))
-equation-keeps I σ Γ z x y k (equal-empty {place} {e} {l} {r} i f) a s = emptiness-keeps I σ Γ i a
-    (empties-emptied I σ Γ place e r k f (emptiness-accepted σ Γ i a) (emptiness-single I σ Γ i s))
-equation-keeps I σ Γ z l r k («SIMP_SPECIAL_AND_BFALSE/OR_BTRUE» g n d ps j i) a s = jun.junction-decided-keeps I σ Γ g n d ps j i
-equation-keeps I σ Γ z l r k («SIMP_MULTI_AND_NOT/OR_NOT» g n d ps q j i h) a s = jun.junction-opposite-keeps I σ Γ g n d ps j q i h
-equation-keeps I σ Γ z l r k («SIMP_SPECIAL_AND_BTRUE/OR_BFALSE/MULTI_AND/OR/none» g n d ps j h) a s = jun.junction-none-keeps I σ Γ g n d ps j h
-equation-keeps I σ Γ z l r k («SIMP_SPECIAL_AND_BTRUE/OR_BFALSE/MULTI_AND/OR/one» g n d ps p j h) a
+equation-keeps I σ Γ z x y k (equal-type {rule} {e} {l} {r} i f) a s = fullness-keeps I σ Γ i a
+    (fills-filled I σ Γ rule e r k f (fullness-accepted σ Γ i a) (fullness-single I σ Γ i s))
+equation-keeps I σ Γ z x y k (equal-empty {rule} {e} {l} {r} i f) a s = emptiness-keeps I σ Γ i a
+    (empties-emptied I σ Γ rule e r k f (emptiness-accepted σ Γ i a) (emptiness-single I σ Γ i s))
+equation-keeps I σ Γ z l r k («SIMP_SPECIAL_AND_BFALSE/SIMP_SPECIAL_OR_BTRUE» g n d ps j i) a s = jun.junction-decided-keeps I σ Γ g n d ps j i
+equation-keeps I σ Γ z l r k («SIMP_MULTI_AND_NOT/SIMP_MULTI_OR_NOT» g n d ps q j i h) a s = jun.junction-opposite-keeps I σ Γ g n d ps j q i h
+equation-keeps I σ Γ z l r k (dropped-all g n d ps j h) a s = jun.junction-none-keeps I σ Γ g n d ps j h
+equation-keeps I σ Γ z l r k (dropped-but-one g n d ps p j h) a
     s = jun.junction-one-keeps I σ Γ g n d ps j p h a s
-equation-keeps I σ Γ z l r k («SIMP_SPECIAL_AND_BTRUE/OR_BFALSE/MULTI_AND/OR» g n d ps p q qs j h c) a s = jun.junction-fewer-keeps I σ Γ g
+equation-keeps I σ Γ z l r k (dropped-some g n d ps p q qs j h c) a s = jun.junction-fewer-keeps I σ Γ g
     n d ps j (cons p (cons q qs)) h s
 equation-keeps I σ Γ z l r k («SIMP_SPECIAL_IMP_BTRUE_L» p) a s = con.imp-top-left-keeps I σ Γ p a s
 equation-keeps I σ Γ z l r k («SIMP_SPECIAL_IMP_BFALSE_L» p) a s = con.imp-bottom-left-keeps I σ Γ p
@@ -128,7 +128,7 @@ equation-keeps I σ Γ z l r k («SIMP_SPECIAL_IMP_BTRUE_R» p) a s = con.imp-to
 equation-keeps I σ Γ z l r k («SIMP_SPECIAL_IMP_BFALSE_R» p n o) a s = con.imp-bottom-right-keeps I σ Γ p n o a s
 equation-keeps I σ Γ z l r k («SIMP_MULTI_IMP» p) a s = con.imp-self-keeps I σ Γ p
 equation-keeps I σ Γ z l r k («SIMP_MULTI_IMP_AND» ps q i) a s = con.imp-among-keeps I σ Γ ps q i
-equation-keeps I σ Γ z l r k («SIMP_MULTI_IMP_AND_NOT_R/L» ps q m o i) a s = con.imp-opposite-keeps I σ Γ ps q m o i s
+equation-keeps I σ Γ z l r k («SIMP_MULTI_IMP_AND_NOT_R/SIMP_MULTI_IMP_AND_NOT_L» ps q m o i) a s = con.imp-opposite-keeps I σ Γ ps q m o i s
 equation-keeps I σ Γ z l r k («SIMP_MULTI_IMP_NOT_L» p) a s = con.imp-not-left-keeps I σ Γ p a s
 equation-keeps I σ Γ z l r k («SIMP_MULTI_IMP_NOT_R» p) a s = con.imp-not-right-keeps I σ Γ p s
 equation-keeps I σ Γ z l r k («SIMP_SPECIAL_EQV_BTRUE/right» p) a s = con.eqv-top-right-keeps I σ Γ p a s

@@ -13,7 +13,7 @@ use Rattle.frame.specs.Places.{Ctx}
 use Rattle.typing.specs.Accepted.{Accepted, AcceptedAll}
 use Rattle.typing.specs.Members.{In}
 use Rattle.typing.proofs.Members.{in-left}
-use Rattle.rules.specs.Equations.{¬ᵖ, Among, Junction, conjunction, disjunction, Dropped, done, literal, repeated}
+use Rattle.rules.specs.Equations.{¬ᵖ, Among, Junction, conjunction, disjunction, Dropped, done, «SIMP_SPECIAL_AND_BTRUE/SIMP_SPECIAL_OR_BFALSE», «SIMP_MULTI_AND/SIMP_MULTI_OR»}
 use Rattle.rules.proofs.Nodes.{Every}
 use Rattle.rules.proofs.Operands.{dropped-every}
 use Rattle.meaning.specs.Lists.{any, all}
@@ -145,8 +145,8 @@ module _ (I : Interpretation) (σ : ℕ → Ty) (Γ : Ctx) where
   dropped-says : (n : ℕ) (b : Bool) (ρ : Vals I Γ) → truth I (means I (leaf n) Γ) ρ ≡ not b → {ks ls : Forest} → Dropped n ks ls
       → says b ρ ks ≡ says b ρ ls
   dropped-says n b ρ h (done ks) = refl
-  dropped-says n b ρ h (literal ks ls left right e r) = ap (says b ρ) e ∙ drop-neutral b ρ left (leaf n) right h ∙ dropped-says n b ρ h r
-  dropped-says n b ρ h (repeated ks ls left right q e i r) = ap (says b ρ) e ∙ drop-repeated b ρ left q right i ∙ dropped-says n b ρ h r
+  dropped-says n b ρ h («SIMP_SPECIAL_AND_BTRUE/SIMP_SPECIAL_OR_BFALSE» ks ls left right e r) = ap (says b ρ) e ∙ drop-neutral b ρ left (leaf n) right h ∙ dropped-says n b ρ h r
+  dropped-says n b ρ h («SIMP_MULTI_AND/SIMP_MULTI_OR» ks ls left right q e i r) = ap (says b ρ) e ∙ drop-repeated b ρ left q right i ∙ dropped-says n b ρ h r
 
   one-says : (b : Bool) (ρ : Vals I Γ) (q : Tree) → says b ρ (sole q) ≡ truth I (means I q Γ) ρ
   unfolding means any all

@@ -13,13 +13,13 @@ use borrow.Author.Tests.{eqb-true, eqb-false, eq-eqb}
 use Rattle.frame.specs.Types.{Ty, bool, int, given, pow, prod}
 use Rattle.frame.specs.Trees.{head, Tree, node, Forest, nil, cons, count}
 use Rattle.frame.specs.Tags.{pick, Sort, classOf, formOf, sortsOf}
+use Rattle.frame.specs.Operators.{#FreeIdent}
 use Rattle.frame.specs.Places.{Ctx, under}
 use Rattle.frame.specs.Sameness.{sameTy}
 use Rattle.frame.specs.WellFormed.{TyWf, TysWf, Wf, Wfs, numberIn}
 use Rattle.typing.specs.Typing.{carriedTy, typeOf, typesIn}
 use Rattle.typing.specs.Members.{In, All}
 use Rattle.typing.specs.Identifiers.{
-  identTag,
   Named,
   named,
   identOf,
@@ -80,9 +80,9 @@ module _ (σ : ℕ → Ty) where
   of-name false n u h = tt
 
   pub node-named : (g n : ℕ) (us : List Ty) (ks : Forest) → Signed (node (head g n us) ks)
-      → pick {X = Type 0} (eqb g identTag) (carriedTy us ≡ σ n) (Unit {0})
+      → pick {X = Type 0} (eqb g #FreeIdent) (carriedTy us ≡ σ n) (Unit {0})
   unfolding idents
-  node-named g n us ks s = name-of (eqb g identTag) n (carriedTy us) (all-left NameOk (identOf g n us) (identsIn ks) (s .0))
+  node-named g n us ks s = name-of (eqb g #FreeIdent) n (carriedTy us) (all-left NameOk (identOf g n us) (identsIn ks) (s .0))
 
   ty-signed : (t : Ty) → TyWf t → All GivenOk (givensTy t) → TyOk σ t
   unfolding givensTy
@@ -142,7 +142,7 @@ module _ (σ : ℕ → Ty) where
       → Signed (node (head g n us) ks)
   unfolding idents givens
   signed-node Γ e g n us k ks h s = (
-    all-join NameOk (identOf g n us) (identsIn ks) (of-name (eqb g identTag) n (carriedTy us) (h .named)) (s .0),
+    all-join NameOk (identOf g n us) (identsIn ks) (of-name (eqb g #FreeIdent) n (carriedTy us) (h .named)) (s .0),
     all-join GivenOk
         (givensTys us) (givensIn ks) (signed-tys us (h .types)) (s .1),
   )

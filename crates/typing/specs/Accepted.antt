@@ -11,13 +11,13 @@ use lib.Dec.{eqb}
 use Rattle.frame.specs.Types.{Ty, bool, int, given, pow, prod}
 use Rattle.frame.specs.Trees.{head, Tree, node, Forest, nil, cons, count}
 use Rattle.frame.specs.Tags.{pick, Sort, classOf, formOf, sortsOf}
+use Rattle.frame.specs.Operators.{#FreeIdent}
 use Rattle.frame.specs.Encoding.{encTy}
 use Rattle.frame.specs.Reading.{typeLimit}
 use Rattle.frame.specs.Places.{Ctx, under}
 use Rattle.frame.specs.WellFormed.{HeadWf, numberIn}
 use Rattle.typing.specs.Typing.{wants, result, shape, carriedTy, typesIn}
 use Rattle.typing.specs.Binding.{indexBound}
-use Rattle.typing.specs.Identifiers.{identTag}
 
 -- a node's four parts
 pub record Node (H F S K : Type 0) : Type 0 where
@@ -48,7 +48,7 @@ module _ (σ : ℕ → Ty) where
     -- 8
     pub indexed : indexBound g n Γ ≡ true
     -- 9
-    pub named : pick {X = Type 0} (eqb g identTag) (carriedTy us ≡ σ n) (Unit {0})
+    pub named : pick {X = Type 0} (eqb g #FreeIdent) (carriedTy us ≡ σ n) (Unit {0})
     pub types : TysOk us
     -- 10
     pub shaped : carriedTy us ≡ shape g (carriedTy us)

@@ -8,13 +8,9 @@ use Rattle.frame.specs.Tags.{pick}
 use Rattle.frame.specs.Operators.{#BoundIdent}
 use Rattle.frame.specs.Places.{Ctx, under}
 
--- the tag of bound identifiers
-abbrev pub boundTag : ℕ
-boundTag = #BoundIdent
-
 -- a node's own index is below the number of binders around it
 abbrev pub indexBound : ℕ → ℕ → Ctx → Bool
-indexBound g n Γ = pick (eqb g boundTag) (ltb n (length Γ)) true
+indexBound g n Γ = pick (eqb g #BoundIdent) (ltb n (length Γ)) true
 
 unfoldable mutual
   pub closedTree : Tree → Ctx → Bool

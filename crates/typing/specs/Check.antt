@@ -28,7 +28,8 @@ check s = checkParsed (parse s)
 
 -- "Where an answer is an enum, a definition gives this paper's number and values for each case of the enum. The promises use that
 -- definition." The contract of the entry `check` is an equation with it: "The contract of each entry gives answer, count and every
--- byte of the output afterwards, refusals too"; the answer has the number of nodes, and there is no output here.
+-- byte of the output afterwards, refusals too"; the answer has the number of nodes, and there is no output here. "No entry is left
+-- with a contract that says nothing of what it gives."
 abbrev pub checkAnswer : Checked → CheckAnswer
 checkAnswer (accepted t) = A.Accepted (nodes t)
 checkAnswer (refused n) = A.Refused n

@@ -11,10 +11,6 @@ use Rattle.frame.specs.Operators.{#FreeIdent}
 use Rattle.frame.specs.Sameness.{sameTy}
 use Rattle.typing.specs.Typing.{carriedTy}
 
--- the tag of identifiers
-abbrev pub identTag : ℕ
-identTag = #FreeIdent
-
 -- an identifier's number and the type that it carries
 pub data Named : Type 0 where
   named : ℕ → Ty → Named
@@ -32,7 +28,7 @@ givensTys [] = []
 givensTys (t ∷ ts) = givensTy t ++ givensTys ts
 
 abbrev pub identOf : ℕ → ℕ → List Ty → List Named
-identOf g n us = pick (eqb g identTag) (named n (carriedTy us) ∷ []) []
+identOf g n us = pick (eqb g #FreeIdent) (named n (carriedTy us) ∷ []) []
 
 -- the identifiers of a tree
 unfoldable mutual

@@ -6,5 +6,4 @@ pub mod Check
 pub mod Accepted
 pub mod TypeExpression
 pub mod Signature
-pub mod Leaves
 pub mod Cases

@@ -130,7 +130,7 @@ meet-falls p q s t h es et = rw (es, et) (omega (arith, both-fall h))
 module _ (σ : ℕ → Ty) (Γ : Ctx) where
   pub empties-fall : {k : ℕ} {e r : Tree} → Empties Γ k e r → Accepted σ e Γ expression → weight r < 2 * weight e
   unfolding weight scaleOf scaleIn weigh classOf lookup formAt
-  empties-fall («SIMP_SETENUM_EQUAL_EMPTY» as′) a = omega (arith, product-positive as′)
+  empties-fall («SIMP_SETENUM_EQUAL_EMPTY» a′ as′) a = omega (arith, product-positive (cons a′ as′))
   empties-fall («SIMP_BINTER_SING_EQUAL_EMPTY» a′ ks left right e) a = single-falls a′ ks left right e
   empties-fall («SIMP_BINTER_SETMINUS_EQUAL_EMPTY» ks ls b ms d) a = minus-falls ks ls b ms d
   empties-fall («SIMP_BUNION_EQUAL_EMPTY» ks) a = omega (arith, all-empty Γ ks (least-twos ks (least-kids σ #BUnion 0 [] ks Γ expression a)))

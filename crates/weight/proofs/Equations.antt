@@ -23,8 +23,8 @@ use Rattle.rules.specs.Equations.{
   disjunction,
   Dropped,
   done,
-  literal,
-  repeated,
+  «SIMP_SPECIAL_AND_BTRUE/SIMP_SPECIAL_OR_BFALSE»,
+  «SIMP_MULTI_AND/SIMP_MULTI_OR»,
   Opposite,
   negated,
   restored,
@@ -62,18 +62,18 @@ use Rattle.rules.specs.Equations.{
   «SIMP_SPECIAL_NOT_EQUAL_TRUE_R»,
   «SIMP_SPECIAL_NOT_EQUAL_FALSE_L»,
   «SIMP_SPECIAL_NOT_EQUAL_TRUE_L»,
-  «SIMP_SPECIAL_AND_BFALSE/OR_BTRUE»,
-  «SIMP_MULTI_AND_NOT/OR_NOT»,
-  «SIMP_SPECIAL_AND_BTRUE/OR_BFALSE/MULTI_AND/OR/none»,
-  «SIMP_SPECIAL_AND_BTRUE/OR_BFALSE/MULTI_AND/OR/one»,
-  «SIMP_SPECIAL_AND_BTRUE/OR_BFALSE/MULTI_AND/OR»,
+  «SIMP_SPECIAL_AND_BFALSE/SIMP_SPECIAL_OR_BTRUE»,
+  «SIMP_MULTI_AND_NOT/SIMP_MULTI_OR_NOT»,
+  dropped-all,
+  dropped-but-one,
+  dropped-some,
   «SIMP_SPECIAL_IMP_BTRUE_L»,
   «SIMP_SPECIAL_IMP_BFALSE_L»,
   «SIMP_SPECIAL_IMP_BTRUE_R»,
   «SIMP_SPECIAL_IMP_BFALSE_R»,
   «SIMP_MULTI_IMP»,
   «SIMP_MULTI_IMP_AND»,
-  «SIMP_MULTI_IMP_AND_NOT_R/L»,
+  «SIMP_MULTI_IMP_AND_NOT_R/SIMP_MULTI_IMP_AND_NOT_L»,
   «SIMP_MULTI_IMP_NOT_L»,
   «SIMP_MULTI_IMP_NOT_R»,
   «SIMP_SPECIAL_EQV_BTRUE/right»,
@@ -113,14 +113,14 @@ among-light q (cons k ks) (inr h) = omega (arith, among-light q ks h)
 -- what is left after some operands are dropped is lighter
 pub dropped-light : {n : ℕ} {ks ls : Forest} → Dropped n ks ls → sumOf ls ≤ sumOf ks
 dropped-light (done ks) = omega arith
-dropped-light {n} (literal ks ls left right e d) = omega (arith, dropped-light d, ap sumOf e, sum-at left (leaf n) right)
-dropped-light (repeated ks ls left right q e h d) = omega (arith, dropped-light d, ap sumOf e, sum-at left q right)
+dropped-light {n} («SIMP_SPECIAL_AND_BTRUE/SIMP_SPECIAL_OR_BFALSE» ks ls left right e d) = omega (arith, dropped-light d, ap sumOf e, sum-at left (leaf n) right)
+dropped-light («SIMP_MULTI_AND/SIMP_MULTI_OR» ks ls left right q e h d) = omega (arith, dropped-light d, ap sumOf e, sum-at left q right)
 
 pub dropped-falls : {n : ℕ} {ks ls : Forest} → Dropped n ks ls → (ls ≡ ks) ⊎ (sumOf ls < sumOf ks)
 dropped-falls (done ks) = inl refl
-dropped-falls {n} (literal ks ls left right e d) = inr (omega
+dropped-falls {n} («SIMP_SPECIAL_AND_BTRUE/SIMP_SPECIAL_OR_BFALSE» ks ls left right e d) = inr (omega
     (arith, dropped-light d, ap sumOf e, sum-at left (leaf n) right, weight-positive (leaf n)))
-dropped-falls (repeated ks ls left right q e h d) = inr (omega (arith, dropped-light d, ap sumOf e, sum-at left q right, weight-positive q))
+dropped-falls («SIMP_MULTI_AND/SIMP_MULTI_OR» ks ls left right q e h d) = inr (omega (arith, dropped-light d, ap sumOf e, sum-at left q right, weight-positive q))
 
 junction-weight : {g n d : ℕ} (ks : Forest) → Junction g n d → weight (many g ks) ≡ sumOf ks + 1
 unfolding weight scaleOf scaleIn weigh
@@ -243,8 +243,8 @@ module _ (σ : ℕ → Ty) (Γ : Ctx) where
   falls («SIMP_SPECIAL_NOT_EQUAL_TRUE_L» e) acc = omega arith
   falls (equal-type m h) acc = omega (arith, fullness-weight m, fills-fall σ Γ h (fullness-accepted σ Γ m acc))
   falls (equal-empty m h) acc = omega (arith, emptiness-weight m, empties-fall σ Γ h (emptiness-accepted σ Γ m acc))
-  falls («SIMP_SPECIAL_AND_BFALSE/OR_BTRUE» g n d ps j i) acc = omega (arith, junction-weight ps j, absorbing-weight j, among-light (leaf d) ps i)
-  falls («SIMP_MULTI_AND_NOT/OR_NOT» g n d ps q j i i′) acc = omega (
+  falls («SIMP_SPECIAL_AND_BFALSE/SIMP_SPECIAL_OR_BTRUE» g n d ps j i) acc = omega (arith, junction-weight ps j, absorbing-weight j, among-light (leaf d) ps i)
+  falls («SIMP_MULTI_AND_NOT/SIMP_MULTI_OR_NOT» g n d ps q j i i′) acc = omega (
     arith,
     junction-weight ps j,
     absorbing-weight j,
@@ -252,10 +252,10 @@ module _ (σ : ℕ → Ty) (Γ : Ctx) where
         q ps i,
     weight-positive q,
   )
-  falls («SIMP_SPECIAL_AND_BTRUE/OR_BFALSE/MULTI_AND/OR/none» g n d ps j d′)
+  falls (dropped-all g n d ps j d′)
       acc = omega (arith, junction-weight ps j, neutral-weight j, sum-count ps, junction-many ps j acc)
-  falls («SIMP_SPECIAL_AND_BTRUE/OR_BFALSE/MULTI_AND/OR/one» g n d ps p j d′) acc = omega (arith, junction-weight ps j, dropped-light d′)
-  falls («SIMP_SPECIAL_AND_BTRUE/OR_BFALSE/MULTI_AND/OR» g n d ps p q qs j d′ c) acc = junction-falls ps (cons p (cons q qs)) j
+  falls (dropped-but-one g n d ps p j d′) acc = omega (arith, junction-weight ps j, dropped-light d′)
+  falls (dropped-some g n d ps p q qs j d′ c) acc = junction-falls ps (cons p (cons q qs)) j
       (dropped-falls d′) (λ e. c (ap count e))
   falls («SIMP_SPECIAL_IMP_BTRUE_L» p) acc = omega arith
   falls («SIMP_SPECIAL_IMP_BFALSE_L» p) acc = omega (arith, weight-positive p)
@@ -263,7 +263,7 @@ module _ (σ : ℕ → Ty) (Γ : Ctx) where
   falls («SIMP_SPECIAL_IMP_BFALSE_R» p n o) acc = omega (arith, opposite-light o)
   falls («SIMP_MULTI_IMP» p) acc = omega (arith, weight-positive p)
   falls («SIMP_MULTI_IMP_AND» ps q i) acc = omega (arith, weight-positive q)
-  falls («SIMP_MULTI_IMP_AND_NOT_R/L» ps q m o i) acc = omega (arith, weight-positive q)
+  falls («SIMP_MULTI_IMP_AND_NOT_R/SIMP_MULTI_IMP_AND_NOT_L» ps q m o i) acc = omega (arith, weight-positive q)
   falls («SIMP_MULTI_IMP_NOT_L» p) acc = omega arith
   falls («SIMP_MULTI_IMP_NOT_R» p) acc = omega (arith, weight-positive p)
   falls («SIMP_SPECIAL_EQV_BTRUE/right» p) acc = omega arith

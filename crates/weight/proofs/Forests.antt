@@ -103,7 +103,7 @@ subtracted-times none = omega arith
 subtracted-times (minus a b ks ls ms d) =
     let once : productOf ls * productOf ms ≤ productOf ks = omega (arith, subtracted-times d) in
     omega (arith, mul-le-mul-left (weight a * weight b) once, product-positive ks)
-subtracted-times (other k ks ls ms d) =
+subtracted-times (other k ks ls ms o d) =
     omega (arith, mul-le-mul-left (weight k) (subtracted-times d), mul-le-mul-right (more ms) (weight-positive k))
 
 pub subtracted-light : {ks ls ms : Forest} {b : Tree} → Subtracted ks ls (cons b ms) → productOf ls * productOf (cons b ms) < productOf ks

@@ -6,11 +6,11 @@ use lib.ListN.{length, getD}
 use lib.Dec.{eqb}
 use Rattle.frame.specs.Trees.{head, Tree, node, Forest, nil, cons, nodes}
 use Rattle.frame.specs.Tags.{pick}
+use Rattle.frame.specs.Operators.{#BoundIdent}
 use Rattle.frame.specs.Encoding.{encTy}
 use Rattle.frame.specs.Places.{Ctx, under}
 use Rattle.frame.specs.Spans.{Spans}
 use Rattle.typing.specs.Typing.{typeAt}
-use Rattle.typing.specs.Binding.{boundTag}
 
 -- in the frame s, at the position that the table has for the place k of a bound identifier, its type's bytes stand; k is
 -- the place of the tree's root
@@ -19,7 +19,7 @@ unfoldable mutual
   LeavesAt (node (head g n us) ks) Γ k s table =
       let at = getD table k 0 in
       let type = encTy (typeAt Γ n) in
-      pick {X = Type 0} (eqb g boundTag) (Spans s at (at + length type) type) (Unit {0}) × LeavesIn ks (under g us Γ) (suc k) s table
+      pick {X = Type 0} (eqb g #BoundIdent) (Spans s at (at + length type) type) (Unit {0}) × LeavesIn ks (under g us Γ) (suc k) s table
 
   pub LeavesIn : Forest → Ctx → ℕ → List ℕ → List ℕ → Type 0
   LeavesIn nil Γ k s table = Unit {0}
