@@ -29,7 +29,7 @@ int main(void)
 
     /* place 2 is an expression */
     step = lustrejasper_step(frame, sizeof frame, 2, out, sizeof out);
-    if (LUSTREJASPER_STEP_WORD(step) == LUSTREJASPER_NO_STEP)
+    if (LUSTREJASPER_STEP_WORD(step) == LUSTREJASPER_STEP_REFUSED)
         printf("step at place 2 refused %u\n", (unsigned)LUSTREJASPER_STEP_VALUE(step));
 
     uint64_t run = lustrejasper_run(frame, sizeof frame, 65535, out, sizeof out);
@@ -39,7 +39,7 @@ int main(void)
     }
 
     run = lustrejasper_run(frame, sizeof frame, 65535, out, 100);
-    if (LUSTREJASPER_RUN_WORD(run) == LUSTREJASPER_REFUSED)
+    if (LUSTREJASPER_RUN_WORD(run) == LUSTREJASPER_RUN_REFUSED)
         printf("run with 100 bytes of output refused %u\n", (unsigned)LUSTREJASPER_RUN_COUNT(run));
     return 0;
 }

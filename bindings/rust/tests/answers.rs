@@ -59,10 +59,16 @@ fn budgets_and_buffers() {
     assert_eq!(check(&[]), Err(Refused(2)));
 }
 
-/// 2,047 negations, the deepest frame, on a thread with the stack that the header names.
+/// Does it on a thread with the stack that the header names.
+fn on_that_stack(work: fn()) {
+    let thread = std::thread::Builder::new().stack_size(2 << 20).spawn(work).unwrap();
+    thread.join().unwrap();
+}
+
+/// 2,047 negations, the deepest frame.
 #[test]
 fn the_deepest_frame() {
-    let deep = || {
+    on_that_stack(|| {
         let mut frame = [0x02, 0xBD].repeat(2047);
         frame.extend([0x02, 0x62]);
         let mut out = lent(FRAME_LIMIT);
@@ -70,9 +76,24 @@ fn the_deepest_frame() {
         assert_eq!(step(&frame, 2046, &mut out), Ok(Step::Changed(4094)));
         let answer = run(&frame, 65535, &mut out).unwrap();
         assert_eq!((answer.word, answer.length), (Word::Rest, 2));
-    };
-    let thread = std::thread::Builder::new().stack_size(2 << 20).spawn(deep).unwrap();
-    thread.join().unwrap();
+    });
+}
+
+/// 1,023 implications, each the left side of the one around it: reading comes back to every one for its right side.
+#[test]
+fn the_deepest_left_sides() {
+    on_that_stack(|| {
+        let nested = |n: usize| [[0x00, 0xFB].repeat(n), [0x02, 0x62].repeat(n + 1)].concat();
+        let old = lent(FRAME_LIMIT);
+        let frame = nested(1023);
+        assert_eq!(frame.len(), 4094);
+        assert_eq!(check(&frame), Ok(()));
+        // the first is P ⇒ ⊤, which becomes ⊤; the last is ⊤ ⇒ ⊤, which becomes its right side
+        assert_eq!(step_text(&frame, 0, &old), "CHANGED 0262");
+        assert_eq!(step_text(&frame, 1022, &old), format!("CHANGED {}", hex(&nested(1022))));
+        assert_eq!(run_text(&frame, 65535, &old), "REST 1 0262");
+        assert_eq!(run_text(&frame, 0, &old), format!("SPENT 0 {}", hex(&frame)));
+    });
 }
 
 /// What a check, a step and a run answer, as `replay` prints it. All bytes of the output that must stay as they were are looked at.

@@ -1,5 +1,5 @@
-//! Stand-in: predicates, with the variants and fields that the source's files name; and their typing rules (document 01,
-//! number 10; the Event-B Mathematical Language).
+//! Stand-in: predicates, with the variants and fields that the source's files name; their hashes and sameness, after those of
+//! expressions in expression.rs; and their typing rules (document 01, number 10; the Event-B Mathematical Language).
 use std::sync::Arc;
 
 use crate::ast::Span;
@@ -7,7 +7,8 @@ use crate::ast::Span;
 use super::decl::BoundIdentDecl;
 use super::expression::Expression;
 use super::factory::FormulaFactory;
-use super::tag::{AssocPredOp, BinaryPredOp, LiteralPredOp, QuantPredOp, RelationalOp, Tag};
+use super::hashing::{combine, fold};
+use super::tag::{self, AssocPredOp, BinaryPredOp, LiteralPredOp, QuantPredOp, RelationalOp, Tag};
 use super::types::Type;
 
 #[derive(Debug, Clone)]
@@ -27,8 +28,7 @@ pub(super) struct Data<Kind> {
 
 pub(super) type PredData = Data<PredicateKind>;
 
-/// Declarations compare by name and type here; the names go by position in the list, so it is the types that tell.
-#[derive(Debug, PartialEq)]
+#[derive(Debug)]
 pub enum PredicateKind {
     Literal(LiteralPredOp),
     Relational { op: RelationalOp, left: Expression, right: Expression },
@@ -64,12 +64,62 @@ impl Predicate {
 
 impl PartialEq for Predicate {
     fn eq(&self, other: &Self) -> bool {
-        Arc::ptr_eq(&self.0, &other.0) || self.0.kind == other.0.kind
+        Arc::ptr_eq(&self.0, &other.0) || self.0.hash == other.0.hash && self.0.kind == other.0.kind
     }
 }
 
-pub(super) fn kind_hash(_kind: &PredicateKind) -> u64 {
-    0
+/// Of declarations the types tell, the names don't.
+impl PartialEq for PredicateKind {
+    fn eq(&self, other: &Self) -> bool {
+        use PredicateKind as K;
+        match (self, other) {
+            (K::Literal(a), K::Literal(b)) => a == b,
+            (K::Relational { op: a, left: l, right: r }, K::Relational { op: b, left, right }) => a == b && l == left && r == right,
+            (K::Binary { op: a, left: l, right: r }, K::Binary { op: b, left, right }) => a == b && l == left && r == right,
+            (K::Associative { op: a, children: c }, K::Associative { op: b, children }) => a == b && c == children,
+            (K::Not(a), K::Not(b)) => a == b,
+            (K::Quantified { op: a, decls: d, pred: p }, K::Quantified { op: b, decls, pred }) => {
+                a == b && d.len() == decls.len() && d.iter().zip(decls).all(|(x, y)| x.alpha_eq(y)) && p == pred
+            }
+            (K::Simple(a), K::Simple(b)) => a == b,
+            (K::Multiple(a), K::Multiple(b)) => a == b,
+            _ => false,
+        }
+    }
+}
+
+fn kind_tag(kind: &PredicateKind) -> Tag {
+    use PredicateKind as K;
+    match kind {
+        K::Literal(op) => op.tag(),
+        K::Relational { op, .. } => op.tag(),
+        K::Binary { op, .. } => op.tag(),
+        K::Associative { op, .. } => op.tag(),
+        K::Not(_) => tag::FIRST_UNARY_PREDICATE,
+        K::Quantified { op, .. } => op.tag(),
+        K::Simple(_) => tag::FIRST_SIMPLE_PREDICATE,
+        K::Multiple(_) => tag::FIRST_MULTIPLE_PREDICATE,
+        K::PredicateVariable(_) => tag::PREDICATE_VARIABLE,
+        K::Application { .. } => tag::PRED_APPL,
+        K::Extended { tag, .. } => *tag,
+    }
+}
+
+/// Children first, then the tag; of declarations their count.
+pub(super) fn kind_hash(kind: &PredicateKind) -> u64 {
+    use PredicateKind as K;
+    let children = match kind {
+        K::Literal(_) => 0,
+        K::Relational { left, right, .. } => combine(left.0.hash, right.0.hash),
+        K::Binary { left, right, .. } => combine(left.0.hash, right.0.hash),
+        K::Associative { children, .. } => fold(children.iter().map(|p| p.0.hash)),
+        K::Not(inner) => inner.0.hash,
+        K::Quantified { decls, pred, .. } => combine(decls.len() as u64, pred.0.hash),
+        K::Simple(e) => e.0.hash,
+        K::Multiple(parts) => fold(parts.iter().map(|e| e.0.hash)),
+        K::PredicateVariable(_) | K::Application { .. } | K::Extended { .. } => 0,
+    };
+    combine(children, u64::from(kind_tag(kind)))
 }
 
 pub(super) fn kind_typed(kind: &PredicateKind) -> bool {

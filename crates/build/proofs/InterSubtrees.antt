@@ -17,7 +17,7 @@ use Rattle.frame.proofs.Splices.{find-lt}
 use Rattle.frame.proofs.Within.{kids-of, kid-first, kid-next}
 use Rattle.frame.proofs.Forests.{count-append, encs-append}
 use Rattle.frame.proofs.Extents.{some-node}
-use Rattle.nav.specs.PlaceTables.{Table, Placed, PlacedIn, ChildrenPost}
+use Rattle.nav.specs.PlaceTables.{Table, Placed, PlacedIn, ArityPost}
 use Rattle.nav.proofs.Hops.{place-sorted}
 use Rattle.nav.proofs.SamePlaces.{only-child}
 use Rattle.rules.specs.Change.{Change, joined}
@@ -50,7 +50,7 @@ module _ (s : List ℕ) (n : ℕ) (st nx : List ℕ) (t : Tree) (tb : Table s t 
   inter-placed : Placed s st at
   inter-placed = record { t = t; n = n; framed = tb .framed; below = find-lt t [] at _ _ f }
 
-  module _ (m : ℕ) (pm : ChildrenPost s st at m) where
+  module _ (m : ℕ) (pm : ArityPost s st at m) where
     inter-count : m ≡ count ks
     inter-count = pm .many t n Ξ (node (head #BInter x vs) ks) (tb .framed) f
 
@@ -169,7 +169,7 @@ module _ (at single : ℕ) (s : List ℕ) (n : ℕ) (st nx leaves : List ℕ) wh
         (member-at (p .t) (p .c) (p .table) (p .means) .1);
   }
 
-  module _ (m : ℕ) (pm : ChildrenPost s st at m) where
+  module _ (m : ℕ) (pm : ArityPost s st at m) where
     pub apart-many : BuildPre (OfApart at single) s n st nx leaves → (2 ≤ m) × (m ≤ 255)
     apart-many p = inter-many s n st nx (p .t) (p .table) at _ _ _ _ (p .means .at-node) m pm
 
@@ -214,7 +214,7 @@ module _ (at : ℕ) (s : List ℕ) (n : ℕ) (st nx leaves : List ℕ) where
   pub within-few : BuildPre (OfWithin at) s n st nx leaves → at < 2048
   within-few p = place-few (p .table) (p .means .at-node)
 
-  module _ (m : ℕ) (pm : ChildrenPost s st at m) where
+  module _ (m : ℕ) (pm : ArityPost s st at m) where
     pub within-many : BuildPre (OfWithin at) s n st nx leaves → m ≤ 255
     within-many p = inter-many s n st nx (p .t) (p .table) at _ _ _ _ (p .means .at-node) m pm .1
 

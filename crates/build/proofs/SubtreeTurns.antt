@@ -19,7 +19,7 @@ use Rattle.frame.specs.Places.{Ctx, under, found, find}
 use Rattle.frame.proofs.Booleans.{both-true}
 use Rattle.frame.proofs.Splices.{find-lt}
 use Rattle.frame.proofs.Within.{kids-of}
-use Rattle.nav.specs.PlaceTables.{Table, Placed, ChildrenPost, TagPost}
+use Rattle.nav.specs.PlaceTables.{Table, Placed, ArityPost, TagPost}
 use Rattle.nav.proofs.Hops.{place-sorted}
 use Rattle.rules.specs.Change.{Change, to}
 use Rattle.put.specs.Out.{Puts}
@@ -141,7 +141,7 @@ module _ (place at binder : ℕ) (s : List ℕ) (n : ℕ) (st nx leaves : List �
   pub each-few : BuildPre (OfEach place at binder) s n st nx leaves → at < 2048
   each-few p = place-few (p .table) (p .means .at-node)
 
-  module _ (m : ℕ) (pm : ChildrenPost s st at m) where
+  module _ (m : ℕ) (pm : ArityPost s st at m) where
     count-is : (t : Tree) (c : Change) → Table s t st nx n → (e : EachMeans t place at binder c) → m ≡ count (e .ks)
     count-is t c tb e = pm .many t n (e .Ξ) (node (head (e .g) (e .n) (e .vs)) (e .ks)) (tb .framed) (e .at-node)
 

@@ -11,7 +11,7 @@ use Rattle.frame.specs.Places.{Ctx, under, found, find}
 use Rattle.frame.proofs.Splices.{find-lt}
 use Rattle.frame.proofs.Within.{KidsAtPlace}
 use Rattle.frame.proofs.Forests.{no-kids}
-use Rattle.nav.specs.PlaceTables.{Framed, Table, Placed, ChildrenPost}
+use Rattle.nav.specs.PlaceTables.{Framed, Table, Placed, ArityPost}
 use Rattle.nav.proofs.Hops.{framed-few, child-first, child-next}
 
 -- a child is left: it is at place c, and the others follow it
@@ -38,7 +38,7 @@ module _ (s st nx : List ℕ) (k : ℕ) where
       → find t [] k ≡ found Γ (node (head g x us) ks) → Z ks
 
   -- a child is left where not all are behind
-  pub child-left : (r : ℕ) → ChildrenPost s st k r → (c i : ℕ) → i < r → (t : Tree) (n : ℕ) (Γ : Ctx) (g x : ℕ) (us : List Ty) (ks : Forest)
+  pub child-left : (r : ℕ) → ArityPost s st k r → (c i : ℕ) → i < r → (t : Tree) (n : ℕ) (Γ : Ctx) (g x : ℕ) (us : List Ty) (ks : Forest)
       → Table s t st nx n → find t [] k ≡ found Γ (node (head g x us) ks) → (rest : Forest) → KidsAtPlace t [] c (under g us Γ) rest
       → i + count rest ≡ count ks → Child nx t (under g us Γ) rest c
   child-left r many c i h t n Γ g x us ks tb f rest below done =
@@ -59,7 +59,7 @@ module _ (s st nx : List ℕ) (k : ℕ) where
   pub walk-first : (P : Forest → ℕ → Forest → Type 0) → ((ks : Forest) → P ks (k + 1) ks) → Lefts P (k + 1) 0
   walk-first P p t n Γ g x us ks tb f = record { rest = ks; below = child-first t k Γ g x us ks f; done = omega arith; keeps = p ks }
 
-  module _ (P : Forest → ℕ → Forest → Type 0) (r : ℕ) (many : ChildrenPost s st k r) (c i : ℕ) (ls : Lefts P c i) where
+  module _ (P : Forest → ℕ → Forest → Type 0) (r : ℕ) (many : ArityPost s st k r) (c i : ℕ) (ls : Lefts P c i) where
     module _ (h : i < r) where
       child : (t : Tree) (n : ℕ) (Γ : Ctx) (g x : ℕ) (us : List Ty) (ks : Forest) (tb : Table s t st nx n)
           (f : find t [] k ≡ found Γ (node (head g x us) ks)) → Child nx t (under g us Γ) (ls t n Γ g x us ks tb f .rest) c

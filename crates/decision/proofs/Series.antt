@@ -1,6 +1,6 @@
 -- One rule after another.
 -- Main results: or-first, none-first, changes; same-rule, turned, series-first, series-next; imp-first, imp-and, imp-last (the ways out of
--- implication_at of implication/src/lib.rt).
+-- implication_at of logic/src/implication.rt).
 use mathlib.Core.Path.{_≡_, sym}
 use mathlib.Core.Bool.{true, false}
 use mathlib.Core.List.{List}

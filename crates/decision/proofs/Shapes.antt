@@ -19,7 +19,7 @@ use Rattle.frame.proofs.Splices.{find-lt}
 use Rattle.frame.proofs.Booleans.{both-true}
 use Rattle.frame.proofs.Inversion.{true-not}
 use Rattle.rules.proofs.Operands.{count-map}
-use Rattle.nav.specs.PlaceTables.{Table, Placed, TagPost, ChildrenPost}
+use Rattle.nav.specs.PlaceTables.{Table, Placed, TagPost, ArityPost}
 use Rattle.nav.proofs.Hops.{framed-few, Sorted, place-sorted}
 use Rattle.nav.proofs.SamePlaces.{only-child, two-children}
 use Rattle.rules.specs.Change.{Change, to, same, _orElse_, onTag, with2}
@@ -166,7 +166,7 @@ module _ (rule : Ctx → Tree → Change) (s st nx : List ℕ) (k tag g place : 
   OfEach = tag ≡ g → Decided (D.Each place k k)
 
   abbrev pub OfPair : Type 0
-  OfPair = tag ≡ g → (j : ℕ) → (k + 1 < 2048 → j ≡ getD nx (k + 1) 0) → (m : ℕ) → ChildrenPost s st k m
+  OfPair = tag ≡ g → (j : ℕ) → (k + 1 < 2048 → j ≡ getD nx (k + 1) 0) → (m : ℕ) → ArityPost s st k m
       → Decided (pick (eqb m 2) (D.Fixed place place (k + 1) j k) D.Rests)
 
 -- what a function decides by the tag at place k alone

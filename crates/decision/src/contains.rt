@@ -1,5 +1,4 @@
 // Whether a tree is another or its negation, and whether one is among trees in a row.
-use crate::Decision;
 use nav::same_at;
 use nav::tag_at;
 ghost use mathlib.Core.Path.{_≡_};
@@ -7,7 +6,7 @@ ghost use Rattle.frame.specs.Trees.{one};
 ghost use Rattle.frame.specs.Operators.{#Not};
 ghost use Rattle.nav.specs.PlaceTables.{BothPlaced};
 ghost use Rattle.rules.specs.Simplify.{makeNeg};
-ghost use Rattle.decision.specs.Decides.{Compared, orOpposite, InRow, ContainsPost, isRests};
+ghost use Rattle.decision.specs.Decides.{Compared, orOpposite, InRow, ContainsPost};
 
 // Whether the predicate at place a is ¬ of the one at place b.
 pub fn negates(s: &[u8], starts: &[u16; 2048], a: usize, b: usize) -> bool
@@ -63,28 +62,4 @@ pub fn contains_in(
     }
     let d = nav::next_at(nexts, c);
     contains_in(s, starts, nexts, d, m - 1, w, opposed)
-}
-
-// Whether no rule applies.
-pub fn rests(d: Decision) -> bool
-    ensures { λ r. ⌜ r ≡ isRests d ⌝ }
-{
-    match d {
-        Decision::Rests => true,
-        Decision::Fixed {
-            place: _,
-            pattern: _,
-            first: _,
-            second: _,
-            binder: _,
-        } => false,
-        Decision::Each {
-            place: _,
-            node: _,
-            binder: _,
-        } => false,
-        Decision::Kept(_m) => false,
-        Decision::Apart { node: _, single: _ } => false,
-        Decision::Within(_k) => false,
-    }
 }

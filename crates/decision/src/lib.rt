@@ -2,6 +2,9 @@
 pub mod operands; // operands.rt: decisions on the children of a node
 pub mod contains; // contains.rt: a tree beside another, or among others
 
+ghost use mathlib.Core.Path.{_≡_};
+ghost use Rattle.decision.specs.Decides.{isRests};
+
 // What a rule decides at a node. `place` is a place of the source (docs/RULES.md); the other numbers are places of the frame's
 // tables. `specs/Decision.antt` says what answer of the definitions each decision stands for.
 pub enum Decision {
@@ -31,4 +34,28 @@ pub enum Decision {
     },
     // ∩ at a node, of sets some of which are differences
     Within(usize),
+}
+
+// Whether no rule applies.
+pub fn rests(d: Decision) -> bool
+    ensures { λ r. ⌜ r ≡ isRests d ⌝ }
+{
+    match d {
+        Decision::Rests => true,
+        Decision::Fixed {
+            place: _,
+            pattern: _,
+            first: _,
+            second: _,
+            binder: _,
+        } => false,
+        Decision::Each {
+            place: _,
+            node: _,
+            binder: _,
+        } => false,
+        Decision::Kept(_m) => false,
+        Decision::Apart { node: _, single: _ } => false,
+        Decision::Within(_k) => false,
+    }
 }

@@ -23,7 +23,7 @@ use Rattle.synthesis.specs.TypingPosts.{TypePre, TypePost, Typing}
 use Rattle.patterns.specs.declared.Typed.{Typed}
 use Rattle.patterns.specs.declared.Typed.the-variants as T
 use Rattle.copies.proofs.CopyLaws.{copied-span, span-kept}
-use Rattle.nav.specs.PlaceTables.{arity, Framed, PlacedIn, ChildrenPost, EndAtPost}
+use Rattle.nav.specs.PlaceTables.{arity, Framed, PlacedIn, ArityPost, EndAtPost}
 use Rattle.nav.proofs.Hops.{framed-few, place-end, place-sorted, place-stands}
 use Rattle.templates.specs.Programs.{template}
 use Rattle.put.specs.Written.{TypeAt}
@@ -58,7 +58,7 @@ module _ (s st leaves : List ℕ) (k : ℕ) where
   pub work-all : (work : List ℕ) → 32 * length s + 64 ≤ length work → WorkFor s st leaves k work
   work-all work l = record { room = λ n t h Δ v f. omega (arith, few n t h Δ v f .1) }
 
-  pub work-own : (work : List ℕ) → length work ≡ 128 → (r : ℕ) → ChildrenPost s st k r → r ≡ 0 → WorkFor s st leaves k work
+  pub work-own : (work : List ℕ) → length work ≡ 128 → (r : ℕ) → ArityPost s st k r → r ≡ 0 → WorkFor s st leaves k work
   unfolding nodes
   work-own work l r post z = record { room = λ n t h Δ v f. alone v (post .many t n Δ v (h .framed) f) }
     where

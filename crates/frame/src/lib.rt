@@ -1,4 +1,4 @@
-// The frame record: the bytes of one predicate, and the tree that they stand for: definitions and laws. `tags`, `heads`, `reading`, `lines`
-// and `sameness` have the code.
+// The frame record: the bytes of one predicate, and the tree that they stand for: definitions and laws. `types`, `tags`, `heads`, `reading`,
+// `lines` and `sameness` have the code.
 pub mod refusals; // refusals.rt: the numbers of what is turned down
 pub mod limits; // limits.rt: the limits

@@ -21,7 +21,7 @@ use Rattle.frame.proofs.Booleans.{both-true}
 use Rattle.frame.proofs.Splices.{find-some}
 use Rattle.frame.proofs.Tables.{allBelow, below, sameBool, flag}
 use Rattle.tags.proofs.TagTables.{form-code, code-small, beyond}
-use Rattle.nav.specs.PlaceTables.{Framed, Placed, TagPost, ChildrenPost}
+use Rattle.nav.specs.PlaceTables.{Framed, Placed, TagPost, ArityPost}
 use Rattle.nav.proofs.Hops.{place-sorted, place-stands}
 use Rattle.nav.proofs.PlaceTurns.{Numbers, numbers}
 use Rattle.functional.specs.Functional.{bit, isBinder, BindersPost, OwnPost, KidsPost}
@@ -226,10 +226,10 @@ module _ (s st : List ℕ) (k : ℕ) where
 
   -- ---- children
   module _ (all : Bool) (r : ℕ) where
-    pub kids-all : all ≡ true → ChildrenPost s st k r → KidsPost s st k all r
+    pub kids-all : all ≡ true → ArityPost s st k r → KidsPost s st k all r
     kids-all h p = record { many = λ t N Γ g x us ks fr f. rw h (p .many t N Γ (node (head g x us) ks) fr f) }
 
-    pub kids-maplet : all ≡ false → (tag : ℕ) → TagPost s st k tag → tag ≡ 201 → ChildrenPost s st k r → KidsPost s st k all r
+    pub kids-maplet : all ≡ false → (tag : ℕ) → TagPost s st k tag → tag ≡ 201 → ArityPost s st k r → KidsPost s st k all r
     kids-maplet h tag pt key p = record {
       many = λ t N Γ g x us ks fr f.
           let z : g ≡ 201 = sym (pt .tag t N Γ (node (head g x us) ks) fr f) ∙ key in

@@ -13,7 +13,7 @@ use Rattle.frame.specs.Trees.{head, Tree, node, Forest, nil, cons, count, leaf,
 use Rattle.frame.specs.Tags.{pick, predicate, counted, formOf, lookup, classOf, formAt}
 use Rattle.frame.specs.Encoding.{enc}
 use Rattle.frame.specs.Places.{Ctx, under, found, find}
-use Rattle.nav.specs.PlaceTables.{Table, TagPost, ChildrenPost}
+use Rattle.nav.specs.PlaceTables.{Table, TagPost, ArityPost}
 use Rattle.rules.specs.Change.{Change, to, same, when}
 use Rattle.rules.specs.Simplify.{Kept, kept, scan, finish, simplifyAssocPred}
 use Rattle.templates.specs.Template.{filled}
@@ -125,7 +125,7 @@ unfolding side
 false-literal = (refl, λ us Δ a b. right-side 2 refl Δ a b us)
 
 -- the decision, by the node's operator
-module _ (s st nx : List ℕ) (k r : ℕ) (many : ChildrenPost s st k r) (tag : ℕ) (post : TagPost s st k tag) (lent : List ℕ) (x : Outcome) (p : ℕ)
+module _ (s st nx : List ℕ) (k r : ℕ) (many : ArityPost s st k r) (tag : ℕ) (post : TagPost s st k tag) (lent : List ℕ) (x : Outcome) (p : ℕ)
     (ep : p ≡ getD lent 0 0) (d : Decision) where
   abbrev StandsFor : ℕ → ℕ → ℕ → Type 0
   StandsFor g neutral determinant = (t : Tree) (n : ℕ) (Γ : Ctx) (y : ℕ) (us : List Ty) (ks : Forest) → Table s t st nx n

@@ -22,7 +22,7 @@ use Rattle.frame.proofs.Splices.{find-lt}
 use Rattle.frame.proofs.Booleans.{both-true}
 use Rattle.frame.proofs.Within.{KidsAtPlace}
 use Rattle.frame.proofs.Forests.{count-append, no-kids}
-use Rattle.nav.specs.PlaceTables.{Table, Placed, BothPlaced, TagPost, ChildrenPost, SameAtPost}
+use Rattle.nav.specs.PlaceTables.{Table, Placed, BothPlaced, TagPost, ArityPost, SameAtPost}
 use Rattle.nav.proofs.Hops.{framed-few, place-sorted, child-first}
 use Rattle.rules.specs.Change.{contains}
 use Rattle.rules.specs.Simplify.{makeNeg, Verdict, drops, keeps, decides, verdict, afterVerdict, scan}
@@ -242,7 +242,7 @@ module _ (s st nx : List ℕ) (k neutral determinant : ℕ) where
         goes = refl;
       }
 
-  module _ (r : ℕ) (many : ChildrenPost s st k r) (lent : List ℕ) (c i m : ℕ) (sts : States lent c i m) where
+  module _ (r : ℕ) (many : ArityPost s st k r) (lent : List ℕ) (c i m : ℕ) (sts : States lent c i m) where
     module _ (h : i < r) where
       child : (t : Tree) (n : ℕ) (Γ : Ctx) (g x : ℕ) (us : List Ty) (ks : Forest) (tb : Table s t st nx n)
           (f : find t [] k ≡ found Γ (node (head g x us) ks)) → Child nx t (under g us Γ) (sts t n Γ g x us ks tb f .rest) c
@@ -334,7 +334,7 @@ abbrev pub AllInv : List ℕ → List ℕ → List ℕ → ℕ → ℕ → ℕ �
 AllInv s st nx k neutral determinant r lent c i m =
     (i ≤ r) × (length lent ≡ 256) × (m ≤ i) × States s st nx k neutral determinant lent c i m
 
-module _ (s st nx : List ℕ) (k neutral determinant r : ℕ) (many : ChildrenPost s st k r) (small : r ≤ 255) (lent : List ℕ) (c i m : ℕ)
+module _ (s st nx : List ℕ) (k neutral determinant r : ℕ) (many : ArityPost s st k r) (small : r ≤ 255) (lent : List ℕ) (c i m : ℕ)
     (inv : AllInv s st nx k neutral determinant r lent c i m) (h : i < r) (next : ℕ) (en : next ≡ getD nx c 0) where
   pub again-drop : Says s st nx neutral determinant lent c m drops → (tbl : List ℕ) (l : ℕ) → tbl ≡ lent → l ≡ m
       → AllInv s st nx k neutral determinant r tbl next (i + 1) l
@@ -353,7 +353,7 @@ module _ (s st nx : List ℕ) (k neutral determinant r : ℕ) (many : ChildrenPo
             (inv .3) h next en room says,
       )
 
-pub children-few : (s st nx : List ℕ) (k : ℕ) (lent : List ℕ) → JunctionPre s st nx k lent → (r : ℕ) → ChildrenPost s st k r → r ≤ 255
+pub children-few : (s st nx : List ℕ) (k : ℕ) (lent : List ℕ) → JunctionPre s st nx k lent → (r : ℕ) → ArityPost s st k r → r ≤ 255
 children-few s st nx k lent pre r many =
     let z : r ≡ count (pre .ks) = many .many (pre .t) (pre .n) (pre .Γ) (node (head (pre .g) (pre .x) (pre .us)) (pre .ks))
     (pre .table .framed) (pre .there) in

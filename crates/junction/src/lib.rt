@@ -10,7 +10,7 @@ ghost use Rattle.frame.specs.Tags.{pick};
 ghost use Rattle.junction.specs.Junction.{JunctionPre, AbsorbPost, settled, JunctionPost};
 
 // What a look at all children comes to: one of them decides, or the first entries of the lent list stay.
-pub enum Outcome {
+enum Outcome {
     Decided,
     Stay(usize),
 }

@@ -1,4 +1,4 @@
--- The ways out of implication_and_at of src/lib.rt.
+-- The ways out of implication_and_at of src/implication.rt.
 use mathlib.Core.Path.{_≡_, refl, sym, ap, _∙_}
 use mathlib.Core.Bool.{Bool, true, false}
 use mathlib.Core.List.{List, []}
@@ -9,7 +9,7 @@ use Rattle.frame.specs.Trees.{head, Tree, node, Forest, tagOf, leaf, one}
 use Rattle.frame.specs.Tags.{lookup, classOf, formAt}
 use Rattle.frame.specs.Operators.{#BTrue, #Not}
 use Rattle.frame.specs.Places.{Ctx, found, find}
-use Rattle.nav.specs.PlaceTables.{Table, TagPost, ChildrenPost}
+use Rattle.nav.specs.PlaceTables.{Table, TagPost, ArityPost}
 use Rattle.nav.proofs.Hops.{child-first}
 use Rattle.rules.specs.Change.{to, same, _orElse_, when, onTag, contains}
 use Rattle.rules.specs.Simplify.{makeNeg}
@@ -42,7 +42,7 @@ module _ (s st nx : List ℕ) (a b left : ℕ) (pl : TagPost s st a left) where
       go : (v w : Tree) → (tagOf v ≡ 351 → ⊥) → impAnd v w ≡ same
       go (node (head g n us) ks) w d = rw (ne-eqb g 351 d)
 
-  module _ (key : left ≡ 351) (m : ℕ) (pm : ChildrenPost s st a m) where
+  module _ (key : left ≡ 351) (m : ℕ) (pm : ArityPost s st a m) where
     pub and-row : HereTwo s st nx a b → InRow s st nx (a + 1) m b
     unfolding lookup classOf formAt
     and-row h =

@@ -1,4 +1,4 @@
--- The ways out of implication_first_at and implication_last_at of src/lib.rt, and how they make up simplifyImp.
+-- The ways out of implication_first_at and implication_last_at of src/implication.rt, and how they make up simplifyImp.
 use mathlib.Core.Path.{_≡_, refl, sym, ap, _∙_}
 use mathlib.Core.Bool.{Bool, true, false}
 use mathlib.Core.List.{List, [], _∷_}

@@ -2,7 +2,7 @@
 use decision::Decision;
 use decision::contains::contains_in;
 use decision::contains::negates;
-use decision::contains::rests;
+use decision::rests;
 use decision::operands::fixed;
 ghost use Rattle.rules.specs.Simplify.{simplifyImp};
 ghost use Rattle.decision.specs.RulesAt.{impFirst, impAnd, impLast};

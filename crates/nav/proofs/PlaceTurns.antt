@@ -32,7 +32,7 @@ use Rattle.nav.specs.PlaceTables.{
   NextsFrom,
   Table,
   Rooted,
-  ArityPost,
+  ChildrenPost,
   hops,
   HopsIn,
   NextsPre,
@@ -40,7 +40,7 @@ use Rattle.nav.specs.PlaceTables.{
   Placed,
   PlacedIn,
   TagPost,
-  ChildrenPost,
+  ArityPost,
   EndAtPost,
 }
 use Rattle.sameness.proofs.View.{all-count}
@@ -78,7 +78,7 @@ module _ (s : List ℕ) (at tag form w : ℕ) (et : tag ≡ numberAt 2 s at) (ef
   pub arity-room : (e : Sort) (t : Tree) → Stands s at e t → at + 2 + w ≤ length s
   arity-room e (node (head g n us) ks) st = let v = numbers s at e g n us ks st in omega (arith, v .within, wide g (v .tag))
 
-  pub arity-read : (x : ℕ) → x ≡ numberAt w s (at + 2) → (r : ℕ) → r ≡ length (sortsOf (formAtCode form .layout) x) → ArityPost s at r
+  pub arity-read : (x : ℕ) → x ≡ numberAt w s (at + 2) → (r : ℕ) → r ≡ length (sortsOf (formAtCode form .layout) x) → ChildrenPost s at r
   arity-read x ex r er = record { many = many }
     where
       many : (e : Sort) (t : Tree) → Stands s at e t → r ≡ arity t
@@ -140,7 +140,7 @@ module _ (s : List ℕ) (n : ℕ) (st : List ℕ) where
           record { e = o .0; t = v .1; there = place-stands s t st n fr (k - 1) (v .0) (v .1) (v .2) (o .0) (o .1) },
         )
 
-    module _ (m : ℕ) (post : ArityPost s (getD st (k - 1) 0) m) where
+    module _ (m : ℕ) (post : ChildrenPost s (getD st (k - 1) 0) m) where
       -- the hops from the first child on, as many as there are children
       past : (t : Tree) → Framed s t st n → (Γ : Ctx) (v : Tree) → find t [] (k - 1) ≡ found Γ v
           → HopsIn l m (k - 1 + 1) × (hops l m (k - 1 + 1) ≡ k - 1 + nodes v)
@@ -196,7 +196,7 @@ module _ (s st : List ℕ) (k : ℕ) where
         er ∙ tag-there s (getD st k 0) (o .0) v (place-stands s t st n fr k Γ v e (o .0) (o .1));
   }
 
-  pub children-done : (r : ℕ) → ArityPost s (getD st k 0) r → ChildrenPost s st k r
+  pub children-done : (r : ℕ) → ChildrenPost s (getD st k 0) r → ArityPost s st k r
   children-done r post = record {
     many = λ t n Γ v fr e.
         let o = place-sorted s t st n fr k Γ v e in

@@ -47,7 +47,7 @@ pub record Rooted (s : List ℕ) (at : ℕ) : Type 0 where
   pub t : Tree
   pub there : Stands s at e t
 
-pub record ArityPost (s : List ℕ) (at r : ℕ) : Type 0 where
+pub record ChildrenPost (s : List ℕ) (at r : ℕ) : Type 0 where
   pub many : (e : Sort) (t : Tree) → Stands s at e t → r ≡ arity t
 
 -- m hops from place c by the table l, and that each is within the table
@@ -85,7 +85,7 @@ pub record PlacedIn (s : List ℕ) (n : ℕ) (st nx : List ℕ) (k : ℕ) : Type
 pub record TagPost (s st : List ℕ) (k r : ℕ) : Type 0 where
   pub tag : (t : Tree) (n : ℕ) (Γ : Ctx) (v : Tree) → Framed s t st n → find t [] k ≡ found Γ v → r ≡ tagOf v
 
-pub record ChildrenPost (s st : List ℕ) (k r : ℕ) : Type 0 where
+pub record ArityPost (s st : List ℕ) (k r : ℕ) : Type 0 where
   pub many : (t : Tree) (n : ℕ) (Γ : Ctx) (v : Tree) → Framed s t st n → find t [] k ≡ found Γ v → r ≡ arity v
 
 pub record EndAtPost (s : List ℕ) (n : ℕ) (st nx : List ℕ) (k r : ℕ) : Type 0 where

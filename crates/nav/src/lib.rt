@@ -6,7 +6,7 @@ use sameness::Same;
 ghost use mathlib.Core.Path.{_≡_};
 ghost use Prim.Native.Nat.{_<_};
 ghost use lib.ListN.{getD};
-ghost use Rattle.nav.specs.PlaceTables.{Rooted, ArityPost, hops, HopsIn, NextsPre, NextsPost, Placed, PlacedIn, TagPost, ChildrenPost, EndAtPost, SortPost, BothPlaced, EarlyPre, EarlyPost, SameAtPost, isYes};
+ghost use Rattle.nav.specs.PlaceTables.{Rooted, ChildrenPost, hops, HopsIn, NextsPre, NextsPost, Placed, PlacedIn, TagPost, ArityPost, EndAtPost, SortPost, BothPlaced, EarlyPre, EarlyPost, SameAtPost, isYes};
 
 // The tags from the first to the last of these are those of nodes with two operands.
 const FIRST_BINARY: usize = 101;
@@ -16,7 +16,7 @@ const LAST_BINARY: usize = 252;
 // How many children the node that starts at `at` has: its tag says it, or the count byte behind the tag.
 fn children_at(s: &[u8], at: usize) -> usize
     requires { ⌜ Rooted (now s) at ⌝ }
-    ensures { λ r. ⌜ ArityPost (now (s .entry)) at r ⌝ }
+    ensures { λ r. ⌜ ChildrenPost (now (s .entry)) at r ⌝ }
 {
     let form = tags::form_of(heads::number(s, at, 2));
     let w = tags::width_of(form);
@@ -92,7 +92,7 @@ pub fn tag_at(s: &[u8], starts: &[u16; 2048], k: usize) -> usize
 // How many children the node at place k has: their places are k + 1, and from each the next.
 pub fn arity_at(s: &[u8], starts: &[u16; 2048], k: usize) -> usize
     requires { ⌜ Placed (now s) (now starts) k ⌝ }
-    ensures { λ r. ⌜ ChildrenPost (now (s .entry)) (now (starts .entry)) k r ⌝ }
+    ensures { λ r. ⌜ ArityPost (now (s .entry)) (now (starts .entry)) k r ⌝ }
 {
     children_at(s, wide16(starts[k]))
 }

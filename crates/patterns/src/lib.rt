@@ -34,13 +34,13 @@ enum Part {
 }
 
 // How many variables are bound, or that a type is not what the pattern asks for.
-pub enum Fit {
+enum Fit {
     Fits(usize),
     Differs,
 }
 
 // Where the last operand's type starts, or that two in a row are not what the pattern asks for.
-pub enum Pairs {
+enum Pairs {
     Last(usize),
     Differ,
 }

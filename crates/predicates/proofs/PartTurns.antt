@@ -10,7 +10,7 @@ use Rattle.frame.specs.Trees.{head, Tree, node, Forest, nil, cons, count, two, 
 use Rattle.frame.specs.Tags.{lookup, classOf, formAt}
 use Rattle.frame.specs.Operators.{#Equal}
 use Rattle.frame.specs.Places.{Ctx, found, find}
-use Rattle.nav.specs.PlaceTables.{Table, TagPost, ChildrenPost}
+use Rattle.nav.specs.PlaceTables.{Table, TagPost, ArityPost}
 use Rattle.nav.proofs.SamePlaces.{only-child, two-children}
 use Rattle.rules.specs.Change.{to, same, onTag}
 use Rattle.rules.specs.Negation.{isEmpty, rewritePartition}
@@ -27,7 +27,7 @@ module _ (s st nx : List ℕ) (k tag : ℕ) (pt : TagPost s st k tag) where
   pub part-other : (tag ≡ 901 → ⊥) → Decides partitionOf s st nx k D.Rests
   part-other = by-other partitionOf s st nx k tag pt 901 (λ Γ us ks. rewritePartition Γ ks) (λ Γ v. refl)
 
-  module _ (key : tag ≡ 901) (m : ℕ) (pm : ChildrenPost s st k m) where
+  module _ (key : tag ≡ 901) (m : ℕ) (pm : ArityPost s st k m) where
     -- by the node's children
     part : (r : Decision)
         → ((t : Tree) (n : ℕ) (Γ : Ctx) (i : ℕ) (us : List Ty) (ks : Forest) → Table s t st nx n

@@ -1,4 +1,4 @@
-// Bytes go behind what the scratch buffer holds. The cursor is how many bytes were written; once they don't fit, it is 4,097
+// Bytes go behind what the scratch buffer holds. The cursor is how many bytes were written; once they don't fit, it is `FULL`
 // for good. So no caller has to look whether there is room before the whole frame is written.
 pub mod type_expression; // type_expression.rt: `to_expression`
 
@@ -10,6 +10,9 @@ ghost use Rattle.frame.specs.Encoding.{encNumber};
 ghost use Rattle.put.specs.Out.{Puts};
 ghost use Rattle.put.specs.Copied.{between};
 
+// What the cursor is once the bytes don't fit: one more than the longest frame has.
+const FULL: usize = 4097;
+
 pub fn put_byte(out: &mut [u8; 4096], n: usize, b: u8) -> usize
     ensures { λ r. ⌜ Puts (now (out .entry)) n (now (out .exit)) r (b ∷ []) ⌝ }
 {
@@ -17,7 +20,7 @@ pub fn put_byte(out: &mut [u8; 4096], n: usize, b: u8) -> usize
         out[n] = b;
         return n + 1;
     }
-    4097
+    FULL
 }
 
 // A number of two bytes, high byte first, as a tag is.

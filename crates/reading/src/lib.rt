@@ -15,7 +15,7 @@ use heads::head_end;
 use heads::read_head;
 
 // What reading trees finds: where they end, and the place of the next node.
-pub enum NodeAnswer {
+enum NodeAnswer {
     Ends(usize, usize),
     Refused(u8),
 }

@@ -81,23 +81,23 @@ fn space(line: Line) -> Line {
 
 enum Number {
     Is(usize),
-    TooLarge,
+    No,
 }
 
-// The number n with one decimal digit more, if it is at most `most`.
+// The number n with the digit c behind it, if c is one and the number is at most `most`.
 fn with_digit(n: usize, c: u8, most: usize) -> Number {
     if c < 48 {
-        return Number::TooLarge;
+        return Number::No;
     }
     if 57 < c {
-        return Number::TooLarge;
+        return Number::No;
     }
     let d = (c - 48) as usize;
     if most < d {
-        return Number::TooLarge;
+        return Number::No;
     }
     if (most - d) / 10 < n {
-        return Number::TooLarge;
+        return Number::No;
     }
     Number::Is(10 * n + d)
 }

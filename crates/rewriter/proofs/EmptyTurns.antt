@@ -1,4 +1,4 @@
--- The ways out of rewrite_equals_empty_set and empty_by_tag of src/lib.rt: a law over the tags for each shape of a right side.
+-- The ways out of rewrite_equals_empty_set and empty_by_tag of src/equals.rt: a law over the tags for each shape of a right side.
 use mathlib.Core.Path.{_≡_, refl, sym, ap, _∙_}
 use mathlib.Core.Bool.{true}
 use mathlib.Core.List.{List, [], _∷_}

@@ -1,4 +1,4 @@
--- The ways out of the functions of src/lib.rt.
+-- The ways out of the functions of src/inter.rt.
 -- Main results: minus-tag; inter-placed, inter-child; any-first, any-found, any-next, any-none (the loop of any_minus); inter-apart, inter-within,
 -- inter-rests (decide_inter).
 use mathlib.Core.Path.{_≡_, refl, sym, ap, _∙_}
@@ -17,7 +17,7 @@ use Rattle.frame.specs.Operators.{#SetExt, #BInter, #BUnion, #SubsetEq}
 use Rattle.frame.specs.WellFormed.{Wf}
 use Rattle.frame.specs.Places.{Ctx, found, find}
 use Rattle.frame.proofs.Splices.{find-lt}
-use Rattle.nav.specs.PlaceTables.{Table, Placed, TagPost, ChildrenPost}
+use Rattle.nav.specs.PlaceTables.{Table, Placed, TagPost, ArityPost}
 use Rattle.nav.proofs.Hops.{Sorted, framed-few, place-sorted}
 use Rattle.rules.specs.Change.{to, same, when, joined}
 use Rattle.rules.specs.EqualsEmptySet.{
@@ -79,7 +79,7 @@ module _ (s st nx : List ℕ) (k : ℕ) where
       )
 
   -- a child that a loop has come to
-  pub inter-child : (P : Forest → ℕ → Forest → Type 0) (r : ℕ) → ChildrenPost s st k r → (c i : ℕ) → Lefts s st nx k P c i → i < r
+  pub inter-child : (P : Forest → ℕ → Forest → Type 0) (r : ℕ) → ArityPost s st k r → (c i : ℕ) → Lefts s st nx k P c i → i < r
       → InterPre s st nx k → Placed s st c × (c < 2048)
   inter-child P r many c i ls h pre =
       walk-placed s st nx k P r many c i ls h (pre .t) (pre .n) (pre .Γ) 302 (pre .x) (pre .us) (pre .ks) (pre .table) (pre .there)
@@ -88,7 +88,7 @@ module _ (s st nx : List ℕ) (k : ℕ) where
   pub any-first : Lefts s st nx k NoMinus (k + 1) 0
   any-first = walk-first s st nx k NoMinus (λ ks. refl)
 
-  module _ (r : ℕ) (many : ChildrenPost s st k r) (c i : ℕ) (ls : Lefts s st nx k NoMinus c i) where
+  module _ (r : ℕ) (many : ArityPost s st k r) (c i : ℕ) (ls : Lefts s st nx k NoMinus c i) where
     module _ (h : i < r) (o : Bool) (post : MinusPost s st c o) where
       goes-on : (ks : Forest) (w : Tree) (others : Forest) → o ≡ isMinus (minusOf w) → anyMinus ks ≡ anyMinus (cons w others)
           → anyMinus ks ≡ (o || anyMinus others)
@@ -166,7 +166,7 @@ first-at a (cons k left) right h = go (singleOf k) h (first-at a left right)
     go none e ih = ap (besides k) (ih e)
 
 -- ---- the ways out of decide_inter
-module _ (s st nx : List ℕ) (k r m : ℕ) (many : ChildrenPost s st k r) (singles : CountPost s st nx k m) where
+module _ (s st nx : List ℕ) (k r m : ℕ) (many : ArityPost s st k r) (singles : CountPost s st nx k m) where
   apart-is : (t : Tree) (n : ℕ) (Γ : Ctx) (x : ℕ) (us : List Ty) (ks : Forest) → Table s t st nx n → find t [] k ≡ found Γ (node (head 302 x us) ks)
       → apartWhen (count ks) (countSingles ks) ≡ apartWhen r m
   apart-is t n Γ x us ks tb f =

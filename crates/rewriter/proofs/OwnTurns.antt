@@ -1,4 +1,4 @@
--- The ways out of src/own_type.rt.
+-- The ways out of src/equals/own_type.rt.
 -- Main results: name-read, name-done (is_given_at); name-here and out-bool to out-both (own_type_at).
 use mathlib.Core.Path.{_≡_, refl, sym, ap, _∙_}
 use mathlib.Core.Bool.{Bool, true, false, _&&_}

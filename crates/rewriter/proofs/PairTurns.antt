@@ -1,4 +1,4 @@
--- The ways out of src/equality.rt.
+-- The ways out of src/equals/equality.rt.
 use mathlib.Core.Path.{_≡_, sym, _∙_}
 use mathlib.Core.Bool.{Bool, true, false}
 use mathlib.Core.List.{List}

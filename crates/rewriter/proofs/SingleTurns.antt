@@ -1,4 +1,4 @@
--- The ways out of the functions of src/singles.rt.
+-- The ways out of the functions of src/inter/singles.rt.
 -- Main results: single-no, single-arity; one-small; count-first, count-next, count-end (count_singles); first-first, first-found, first-next,
 -- first-none (first_single).
 use mathlib.Core.Path.{_≡_, refl, sym, ap, _∙_}
@@ -14,7 +14,7 @@ use Rattle.frame.specs.Types.{Ty}
 use Rattle.frame.specs.Trees.{head, Tree, node, Forest, nil, cons, count, tagOf, nodes, many, sole}
 use Rattle.frame.specs.Tags.{pick, Sort, lookup, classOf, formAt}
 use Rattle.frame.specs.WellFormed.{Wf}
-use Rattle.nav.specs.PlaceTables.{arity, TagPost, ChildrenPost}
+use Rattle.nav.specs.PlaceTables.{arity, TagPost, ArityPost}
 use Rattle.nav.proofs.Hops.{Sorted, place-sorted}
 use Rattle.rules.specs.EqualsEmptySet.{none, isSingle, singleOf, soleOf, anySingle}
 use Rattle.decision.proofs.Children.{Lefts, walk-first, walk-next, walk-stop, walk-end}
@@ -36,7 +36,7 @@ module _ (s st : List ℕ) (k tag : ℕ) (post : TagPost s st k tag) where
   pub single-no : (tag ≡ 5 → ⊥) → SinglePost s st k false
   single-no d = record { single = λ t n Γ v fr f. not-single v (λ z. d (post .tag t n Γ v fr f ∙ z)) }
 
-  pub single-arity : tag ≡ 5 → (r : ℕ) → ChildrenPost s st k r → SinglePost s st k (eqb r 1)
+  pub single-arity : tag ≡ 5 → (r : ℕ) → ArityPost s st k r → SinglePost s st k (eqb r 1)
   single-arity e r many = record {
     single = λ t n Γ v fr f.
         ap (λ (i : ℕ). eqb i 1) (many .many t n Γ v fr f) ∙ is-single v (sym (post .tag t n Γ v fr f) ∙ e);
@@ -81,7 +81,7 @@ module _ (s st nx : List ℕ) (k : ℕ) where
   pub count-first : Lefts s st nx k (Counts 0) (k + 1) 0
   count-first = walk-first s st nx k (Counts 0) (λ ks. omega arith)
 
-  module _ (r : ℕ) (many : ChildrenPost s st k r) (m c i : ℕ) (ls : Lefts s st nx k (Counts m) c i) where
+  module _ (r : ℕ) (many : ArityPost s st k r) (m c i : ℕ) (ls : Lefts s st nx k (Counts m) c i) where
     pub count-next : i < r → (o : Bool) → SinglePost s st c o → (a : ℕ) → a ≡ pick o 1 0 → (next : ℕ) → next ≡ getD nx c 0
         → Lefts s st nx k (Counts (m + a)) next (i + 1)
     unfolding countSingles
@@ -97,7 +97,7 @@ module _ (s st nx : List ℕ) (k : ℕ) where
   pub first-first : Lefts s st nx k (Beyond k) (k + 1) 0
   first-first = walk-first s st nx k (Beyond k) (λ ks. record { some = refl; at = λ p q. q })
 
-  module _ (r : ℕ) (many : ChildrenPost s st k r) (c i : ℕ) (ls : Lefts s st nx k (Beyond k) c i) where
+  module _ (r : ℕ) (many : ArityPost s st k r) (c i : ℕ) (ls : Lefts s st nx k (Beyond k) c i) where
     module _ (h : i < r) (o : Bool) (post : SinglePost s st c o) where
       pub first-found : o ≡ true → FirstPost s st nx k c
       unfolding anySingle nodes

@@ -1,4 +1,4 @@
--- The ways out of rewrite_equals_type of src/lib.rt: a law over the tags for each shape of a right side.
+-- The ways out of rewrite_equals_type of src/equals.rt: a law over the tags for each shape of a right side.
 use mathlib.Core.Path.{_≡_, refl, ap}
 use mathlib.Core.Bool.{true}
 use mathlib.Core.List.{List, [], _∷_}

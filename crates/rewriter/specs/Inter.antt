@@ -1,4 +1,4 @@
--- ∩ = ∅ in code: what the functions of src/lib.rt and src/singles.rt ask and answer.
+-- ∩ = ∅ in code: what the functions of src/inter.rt and src/inter/singles.rt ask and answer.
 use mathlib.Core.Path.{_≡_}
 use mathlib.Core.Bool.{Bool, true, false}
 use mathlib.Core.List.{List, []}

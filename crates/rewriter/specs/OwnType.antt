@@ -1,4 +1,4 @@
--- An expression that is the type expression of its own elements: what the functions of src/own_type.rt ask and answer.
+-- An expression that is the type expression of its own elements: what the functions of src/equals/own_type.rt ask and answer.
 use mathlib.Core.Path.{_≡_}
 use mathlib.Core.Bool.{Bool}
 use mathlib.Core.List.{List, []}

@@ -14,7 +14,7 @@ pub fn decide(
     ensures { λ r. ⌜ DispatchPost (now (s .entry)) (now (starts .entry)) (now (nexts .entry)) k (now (kept .exit)) r ⌝ }
 {
     let logic = crate::node::simplify_predicate_node(s, starts, nexts, k, kept);
-    if !decision::contains::rests(logic) {
+    if !decision::rests(logic) {
         return logic;
     }
     let tag = nav::tag_at(s, starts, k);

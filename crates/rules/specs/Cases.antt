@@ -1,5 +1,5 @@
--- Where two places of the source would answer, the first one in its text does; and what a place asks for besides its shape. By one
--- evaluation of `dispatch`: each predicate with the place that answers and the tree that it builds.
+-- Where two rules of the source would answer, the first one in its text does; what a rule asks for besides its shape; and where = and ⊆
+-- go, which document 01 adds. By one evaluation of `dispatch`: each predicate with the rule that answers and the tree that it builds.
 use mathlib.Core.Path.{_≡_, refl}
 use mathlib.Core.List.{List, [], _∷_, map}
 use Rattle.frame.specs.Types.{bool, pow}
@@ -16,6 +16,7 @@ use Rattle.frame.specs.Operators.{
   #SetMinus,
   #BUnion,
   #BInter,
+  #Bool,
   #True,
   #False,
   #EmptySet,
@@ -55,6 +56,19 @@ S = node (head #FreeIdent 1 (pow bool ∷ [])) nil
 abbrev T : Tree
 T = node (head #FreeIdent 2 (pow bool ∷ [])) nil
 
+-- ∅ of that type, and BOOL: the type expression of the elements of S
+abbrev ∅ : Tree
+∅ = typed #EmptySet (pow bool)
+
+abbrev BOOL : Tree
+BOOL = leaf #Bool
+
+abbrev S∖T : Tree
+S∖T = two #SetMinus S T
+
+abbrev S∩T : Tree
+S∩T = many #BInter (pair S T)
+
 -- x, the nearest binder
 abbrev x : Tree
 x = node (head #BoundIdent 0 []) nil
@@ -76,11 +90,10 @@ cases =
     -- ¬(TRUE = FALSE): the right side first
     ∷ case (one #Not (two #Equal (leaf #True) (leaf #False))) (to 20 (two #Equal (leaf #True) (leaf #True)))
     -- {TRUE} ∩ (S ∖ T) = ∅: the singleton before ∖
-    ∷ case (two #Equal (many #BInter (pair (many #SetExt (sole (leaf #True))) (two #SetMinus S T))) (typed #EmptySet (pow bool)))
-    (to 37 (one #Not (two #In (leaf #True) (two #SetMinus S T))))
+    ∷ case (two #Equal (many #BInter (pair (many #SetExt (sole (leaf #True))) S∖T)) ∅)
+    (to 37 (one #Not (two #In (leaf #True) S∖T)))
     -- (S ∖ T) ∩ (T ∖ S) = ∅: both ∖ are moved
-    ∷ case (two #Equal (many #BInter (pair (two #SetMinus S T) (two #SetMinus T S))) (typed #EmptySet (pow bool)))
-    (to 38 (two #SubsetEq (many #BInter (pair S T)) (many #BUnion (pair T S))))
+    ∷ case (two #Equal (many #BInter (pair S∖T (two #SetMinus T S))) ∅) (to 38 (two #SubsetEq S∩T (many #BUnion (pair T S))))
     -- S = T ∧ S = T: the repeat goes
     ∷ case (many #LAnd (pair (two #Equal S T) (two #Equal S T))) (to 64 (two #Equal S T))
     -- ⊤ ∧ ⊥: the absorbing child decides
@@ -95,8 +108,20 @@ cases =
     ∷ case (finiteOf (two #Mapsto x (many #SetExt (sole x)))) (to 11 (finiteOf x))
     -- finite({x · ⊤ ∣ {x} ↦ x}): there it is none
     ∷ case (finiteOf (two #Mapsto (many #SetExt (sole x)) x)) same
-    -- ∅ = ∅: no rule
-    ∷ case (two #Equal (typed #EmptySet (pow bool)) (typed #EmptySet (pow bool))) same
+    -- "101 or 111 with ∅ (407) on the right, else 101 with ∅ on the left, goes to the empty rules on the other side": S ∖ T = ∅, S ∖ T ⊆ ∅,
+    -- ∅ = S ∖ T; not ∅ ⊆ S ∖ T
+    ∷ case (two #Equal S∖T ∅) (to 40 (two #SubsetEq S T))
+    ∷ case (two #SubsetEq S∖T ∅) (to 40 (two #SubsetEq S T))
+    ∷ case (two #Equal ∅ S∖T) (to 40 (two #SubsetEq S T))
+    ∷ case (two #SubsetEq ∅ S∖T) same
+    -- ∅ = ∅, BOOL = ∅: no rule
+    ∷ case (two #Equal ∅ ∅) same
+    ∷ case (two #Equal BOOL ∅) same
+    -- "101 with the right side the type expression of its own elements goes to the type rules on the left, then the mirror of it": S ∩ T = BOOL,
+    -- BOOL = S ∩ T; not S ∩ T ⊆ BOOL
+    ∷ case (two #Equal S∩T BOOL) (to 24 (many #LAnd (pair (two #Equal S BOOL) (two #Equal T BOOL))))
+    ∷ case (two #Equal BOOL S∩T) (to 24 (many #LAnd (pair (two #Equal S BOOL) (two #Equal T BOOL))))
+    ∷ case (two #SubsetEq S∩T BOOL) same
     ∷ []
 
 abbrev predicateIn : Case → Tree

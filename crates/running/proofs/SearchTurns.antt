@@ -1,4 +1,4 @@
--- The ways out of decide_at, search and first_step of src/lib.rt, on plain values.
+-- The ways out of decide_at, search and first_step of src/searching.rt, on plain values.
 -- Main results: at-expression, at-decided; Searching, search-starts .. search-rests; read-as, as-framed, as-held, first-refused, first-searched.
 use mathlib.Core.Path.{_≡_, refl, sym, ap, _∙_, subst}
 use mathlib.Core.Bool.{Bool, true, false}

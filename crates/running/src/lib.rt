@@ -14,9 +14,9 @@ use turn::Turned;
 use turn::turn;
 
 // How a run ended: what it answers, and the length of the last frame.
-pub struct Ended {
-    pub answer: RunAnswer,
-    pub length: usize,
+struct Ended {
+    answer: RunAnswer,
+    length: usize,
 }
 
 // From the accepted frame in the first `start` bytes of `held` on. The last frame is left there.

@@ -2,7 +2,7 @@
 use binding::binding_ok;
 use build::splicing::splice;
 use decision::Decision;
-use decision::contains::rests;
+use decision::rests;
 use nav::is_expression_at;
 use nav::nexts;
 use reading::FrameAnswer;
@@ -72,7 +72,7 @@ pub fn first_step(
         FrameAnswer::Nodes(n) => {
             let starts = read.starts;
             // an accepted frame is closed: only the table is wanted
-            let closed = binding_ok(s, leaves);
+            binding_ok(s, leaves);
             nexts(s, n, &starts, table);
             search(s, n, &starts, table, leaves, scratch)
         }

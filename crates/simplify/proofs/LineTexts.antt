@@ -1,4 +1,4 @@
--- Answers of frames and of lines, on plain values: the ways out of src/answers.rt.
+-- Answers of frames and of lines, on plain values: the ways out of src/streaming/answers.rt.
 -- Main results: run-answers, run-post; held-none, held-frame; line-refused, line-frame (a line by what reading it answers).
 use mathlib.Core.Path.{_≡_, refl, sym, ap, _∙_, subst}
 use mathlib.Core.Bool.{Bool, true, false}

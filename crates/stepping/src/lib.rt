@@ -1,5 +1,5 @@
 // One step at a place of a frame: the frame is checked, the rules decide at the place, the new frame is written.
-use decision::contains::rests;
+use decision::rests;
 use frame::refusals::NO_PLACE;
 use nav::is_expression_at;
 use nav::nexts;

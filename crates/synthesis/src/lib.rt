@@ -26,23 +26,23 @@ ghost use Rattle.synthesis.specs.TypingPosts.{PutPre, PutPost, ownPlace,
 const BOUND_RULE: usize = 6;
 
 // Where the next node stands and its place, the end of the types, and how many nodes are open below the one at hand.
-pub struct State {
-    pub at: usize,
-    pub place: usize,
-    pub end: usize,
-    pub top: usize,
+struct State {
+    at: usize,
+    place: usize,
+    end: usize,
+    top: usize,
 }
 
 // What a turn does: the node at hand goes on the stack and its operand is at hand; or it is closed, and the one below it is at hand
 // again; or it was the root.
-pub enum Turned {
+enum Turned {
     Down(OpenNode, OpenNode, State),
     Up(State),
     Done(Typed),
 }
 
 // A node has been opened: where its first operand stands, where the types end, and its record. Or its type passes the limit.
-pub enum Opened {
+enum Opened {
     To(usize, usize, OpenNode),
     Bad,
 }

@@ -10,7 +10,7 @@ ghost use Rattle.words.specs.Posts.{ShortStep, ShortRun};
 // The words of an answer.
 const CHANGED: u64 = 0x10000;
 
-const TURNED_DOWN: u64 = 0x20000;
+const STEP_REFUSED: u64 = 0x20000;
 
 const REST: u64 = 0x1000000000000;
 
@@ -18,7 +18,7 @@ const SPENT: u64 = 0x2000000000000;
 
 const FULL: u64 = 0x3000000000000;
 
-const REFUSED: u64 = 0x4000000000000;
+const RUN_REFUSED: u64 = 0x4000000000000;
 
 pub fn check_word(a: CheckAnswer) -> u64
     ensures { λ r. ⌜ r ≡ checkWord a ⌝ }
@@ -36,7 +36,7 @@ pub fn step_word(a: StepAnswer) -> u64
     match a {
         StepAnswer::Unchanged => 0,
         StepAnswer::Changed(n) => CHANGED + n as u64,
-        StepAnswer::Refused(c) => TURNED_DOWN + c as u64,
+        StepAnswer::Refused(c) => STEP_REFUSED + c as u64,
     }
 }
 
@@ -56,6 +56,6 @@ pub fn run_word(a: RunAnswer) -> u64
         RunAnswer::Rest(count, n) => ended_word(REST, count, n),
         RunAnswer::Spent(count, n) => ended_word(SPENT, count, n),
         RunAnswer::Full(count, n) => ended_word(FULL, count, n),
-        RunAnswer::Refused(c) => REFUSED + c as u64,
+        RunAnswer::Refused(c) => RUN_REFUSED + c as u64,
     }
 }

@@ -60,11 +60,11 @@ pub fn equal_at(s: &[u8], starts: &[u16; 2048], nexts: &[u16; 2048], a: usize, b
     ensures { λ r. ⌜ DecidesPair equalRules (now (s .entry)) (now (starts .entry)) (now (nexts .entry)) a b r ⌝ }
 {
     let empty = empty_rules_at(s, starts, nexts, a, b);
-    if !decision::contains::rests(empty) {
+    if !decision::rests(empty) {
         return empty;
     }
     let left = type_rule_at(s, starts, nexts, a, b);
-    if !decision::contains::rests(left) {
+    if !decision::rests(left) {
         return left;
     }
     type_rule_at(s, starts, nexts, b, a)
