@@ -9,6 +9,13 @@ use crate::rows::put_kept;
 use crate::rows::put_row;
 use decision::Decision;
 use filling::fill;
+use frame::operators::BINTER;
+use frame::operators::BUNION;
+use frame::operators::IN;
+use frame::operators::LAND;
+use frame::operators::LOR;
+use frame::operators::NOT;
+use frame::operators::SUBSETEQ;
 use nav::arity_at;
 use nav::next_at;
 use nav::tag_at;
@@ -62,9 +69,9 @@ fn joint(place: usize) -> usize
     ensures { λ r. ⌜ r ≡ jointOf place ⌝ }
 {
     if place == 86 {
-        return 352;
+        return LOR;
     }
-    351
+    LAND
 }
 
 // The head of an operator over m operands.
@@ -144,10 +151,10 @@ fn build_apart(
     ensures { λ r. ⌜ BuildPost (OfApart node single) (now (s .entry)) n (now (starts .entry)) (now (nexts .entry)) (now (leaves .entry)) (now (out .entry)) at (now (out .exit)) r ⌝ }
 {
     let m = arity_at(s, starts, node);
-    let q = put_word(out, at, 701);
-    let q = put_word(out, q, 107);
+    let q = put_word(out, at, NOT);
+    let q = put_word(out, q, IN);
     let q = copy_at(s, n, starts, nexts, single + 1, out, q);
-    let q = put_joined(302, m - 1, out, q);
+    let q = put_joined(BINTER, m - 1, out, q);
     let c = node + 1;
     put_row(s, n, starts, nexts, c, m, Share::Besides(single), out, q)
 }
@@ -168,11 +175,11 @@ fn build_within(
 {
     let m = arity_at(s, starts, node);
     let c = node + 1;
-    let q = put_word(out, at, 111);
-    let q = put_joined(302, m, out, q);
+    let q = put_word(out, at, SUBSETEQ);
+    let q = put_joined(BINTER, m, out, q);
     let q = put_row(s, n, starts, nexts, c, m, Share::Minuend, out, q);
     let d = count_minus(s, n, starts, nexts, c, m);
-    let q = put_joined(301, d, out, q);
+    let q = put_joined(BUNION, d, out, q);
     put_row(s, n, starts, nexts, c, m, Share::Subtrahend, out, q)
 }
 

@@ -1,4 +1,5 @@
 // Subtrees of the frame, one after the other.
+use frame::operators::SETMINUS;
 use nav::end_at;
 use nav::next_at;
 use nav::start_at;
@@ -58,13 +59,13 @@ fn put_share(
             copy_at(s, n, starts, nexts, c, out, at)
         }
         Share::Minuend => {
-            if tag_at(s, starts, c) == 213 {
+            if tag_at(s, starts, c) == SETMINUS {
                 return copy_at(s, n, starts, nexts, c + 1, out, at);
             }
             copy_at(s, n, starts, nexts, c, out, at)
         }
         Share::Subtrahend => {
-            if tag_at(s, starts, c) == 213 {
+            if tag_at(s, starts, c) == SETMINUS {
                 let b = decision::operands::second_of(nexts, c);
                 return copy_at(s, n, starts, nexts, b, out, at);
             }
@@ -113,7 +114,7 @@ pub fn count_minus(
     }
     let d = next_at(nexts, c);
     let rest = count_minus(s, n, starts, nexts, d, m - 1);
-    if tag_at(s, starts, c) == 213 {
+    if tag_at(s, starts, c) == SETMINUS {
         return rest + 1;
     }
     rest

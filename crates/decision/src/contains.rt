@@ -1,4 +1,5 @@
 // Whether a tree is another or its negation, and whether one is among trees in a row.
+use frame::operators::NOT;
 use nav::same_at;
 use nav::tag_at;
 ghost use mathlib.Core.Path.{_≡_};
@@ -13,7 +14,7 @@ pub fn negates(s: &[u8], starts: &[u16; 2048], a: usize, b: usize) -> bool
     requires { ⌜ BothPlaced (now s) (now starts) a b ⌝ }
     ensures { λ r. ⌜ Compared (one #Not) (now (s .entry)) (now (starts .entry)) a b r ⌝ }
 {
-    if tag_at(s, starts, a) != 701 {
+    if tag_at(s, starts, a) != NOT {
         return false;
     }
     same_at(s, starts, a + 1, b)
@@ -24,7 +25,7 @@ pub fn opposite(s: &[u8], starts: &[u16; 2048], a: usize, b: usize) -> bool
     requires { ⌜ BothPlaced (now s) (now starts) a b ⌝ }
     ensures { λ r. ⌜ Compared makeNeg (now (s .entry)) (now (starts .entry)) a b r ⌝ }
 {
-    if tag_at(s, starts, b) == 701 {
+    if tag_at(s, starts, b) == NOT {
         return same_at(s, starts, a, b + 1);
     }
     negates(s, starts, a, b)

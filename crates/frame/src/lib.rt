@@ -2,3 +2,4 @@
 // `lines` and `sameness` have the code.
 pub mod refusals; // refusals.rt: the numbers of what is turned down
 pub mod limits; // limits.rt: the limits
+pub mod operators; // operators.rt: the tags by name

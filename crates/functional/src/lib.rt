@@ -1,6 +1,13 @@
 // Whether a comprehension set of maplets is a function, as its form shows it (`functional_check`, document 000): each of its
 // binders that the right side of the maplet uses stands on the left side at a pattern position. A set of binders is a mask of
 // 32 bits ("`HashSet` of binder indices becomes a 32-bit mask"): bit i stands for the binder with index i.
+use frame::operators::BOUND_IDENT;
+use frame::operators::CSET;
+use frame::operators::EXISTS;
+use frame::operators::FORALL;
+use frame::operators::MAPSTO;
+use frame::operators::QINTER;
+use frame::operators::QUNION;
 ghost use mathlib.Core.Path.{_≡_};
 ghost use Prim.Native.Nat.{_*_, _≤_};
 ghost use Rattle.nav.specs.PlaceTables.{Placed};
@@ -10,11 +17,11 @@ fn is_binder(tag: usize) -> bool
     ensures { λ r. ⌜ r ≡ isBinder tag ⌝ }
 {
     match tag {
-        801 => true,
-        802 => true,
-        803 => true,
-        851 => true,
-        852 => true,
+        QUNION => true,
+        QINTER => true,
+        CSET => true,
+        FORALL => true,
+        EXISTS => true,
         _ => false,
     }
 }
@@ -35,7 +42,7 @@ fn own_at(s: &[u8], starts: &[u16; 2048], k: usize, d: usize, n: usize) -> u32
     requires { ⌜ Placed (now s) (now starts) k × (n ≤ 32) ⌝ }
     ensures { λ r. ⌜ OwnPost (now (s .entry)) (now (starts .entry)) k d n r ⌝ }
 {
-    if nav::tag_at(s, starts, k) != 3 {
+    if nav::tag_at(s, starts, k) != BOUND_IDENT {
         return 0;
     }
     let x = heads::number(s, nav::start_at(starts, k) + 2, 1);
@@ -56,7 +63,7 @@ fn kids_at(s: &[u8], starts: &[u16; 2048], k: usize, all: bool) -> usize
     if all {
         return nav::arity_at(s, starts, k);
     }
-    if nav::tag_at(s, starts, k) == 201 {
+    if nav::tag_at(s, starts, k) == MAPSTO {
         return nav::arity_at(s, starts, k);
     }
     0

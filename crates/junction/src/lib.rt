@@ -2,6 +2,9 @@
 // makes the whole that literal.
 use decision::Decision;
 use decision::operands::patterned;
+use frame::operators::BFALSE;
+use frame::operators::BTRUE;
+use frame::operators::LAND;
 use octets::wide16;
 ghost use mathlib.Core.Path.{_≡_};
 ghost use Prim.Native.Nat.{_<_};
@@ -109,10 +112,10 @@ pub fn simplify_assoc_pred(
     ensures { λ r. ⌜ JunctionPost (now (s .entry)) (now (starts .entry)) (now (nexts .entry)) k (now (kept .exit)) r ⌝ }
 {
     let n = nav::arity_at(s, starts, k);
-    if nav::tag_at(s, starts, k) == 351 {
-        let x = absorb(s, starts, nexts, k, 610, 611, kept);
+    if nav::tag_at(s, starts, k) == LAND {
+        let x = absorb(s, starts, nexts, k, BTRUE, BFALSE, kept);
         return settle(x, k, n, wide16(kept[0]), 1, 2);
     }
-    let y = absorb(s, starts, nexts, k, 611, 610, kept);
+    let y = absorb(s, starts, nexts, k, BFALSE, BTRUE, kept);
     settle(y, k, n, wide16(kept[0]), 2, 1)
 }

@@ -2,8 +2,11 @@
 use decision::Decision;
 use decision::contains::contains_in;
 use decision::contains::negates;
-use decision::rests;
 use decision::operands::fixed;
+use decision::rests;
+use frame::operators::BFALSE;
+use frame::operators::BTRUE;
+use frame::operators::LAND;
 ghost use Rattle.rules.specs.Simplify.{simplifyImp};
 ghost use Rattle.decision.specs.RulesAt.{impFirst, impAnd, impLast};
 ghost use Rattle.decision.specs.Decides.{HereTwo, DecidesTwo};
@@ -21,16 +24,16 @@ fn implication_first_at(
 {
     let left = nav::tag_at(s, starts, a);
     let right = nav::tag_at(s, starts, b);
-    if left == 610 {
+    if left == BTRUE {
         return fixed(66, b, b, b);
     }
-    if left == 611 {
+    if left == BFALSE {
         return fixed(67, a, a, a);
     }
-    if right == 610 {
+    if right == BTRUE {
         return fixed(68, a, a, a);
     }
-    if right == 611 {
+    if right == BFALSE {
         return crate::make_neg(69, left, a);
     }
     if nav::same_at(s, starts, a, b) {
@@ -51,7 +54,7 @@ fn implication_and_at(
     ensures { λ r. ⌜ DecidesTwo impAnd (now (s .entry)) (now (starts .entry)) (now (nexts .entry)) a b r ⌝ }
 {
     let left = nav::tag_at(s, starts, a);
-    if left != 351 {
+    if left != LAND {
         return Decision::Rests;
     }
     let m = nav::arity_at(s, starts, a);

@@ -6,6 +6,9 @@ use decision::Decision;
 use decision::contains::negates;
 use decision::operands::fixed;
 use decision::operands::patterned;
+use frame::operators::BFALSE;
+use frame::operators::BTRUE;
+use frame::operators::NOT;
 use nav::same_at;
 use nav::tag_at;
 ghost use mathlib.Core.Path.{_≡_};
@@ -18,7 +21,7 @@ pub fn make_neg(place: usize, tag: usize, p: usize) -> Decision
     requires { ⌜ p < 2048 ⌝ }
     ensures { λ r. ⌜ r ≡ negatedAt place tag p ⌝ }
 {
-    if tag == 701 {
+    if tag == NOT {
         return patterned(place, 64, p + 1, p);
     }
     fixed(place, p, p, p)
@@ -37,19 +40,19 @@ pub fn equivalence_at(
 {
     let left = tag_at(s, starts, a);
     let right = tag_at(s, starts, b);
-    if right == 610 {
+    if right == BTRUE {
         return fixed(75, a, a, a);
     }
-    if left == 610 {
+    if left == BTRUE {
         return fixed(76, b, b, b);
     }
     if same_at(s, starts, a, b) {
         return fixed(77, a, a, a);
     }
-    if right == 611 {
+    if right == BFALSE {
         return make_neg(78, left, a);
     }
-    if left == 611 {
+    if left == BFALSE {
         return make_neg(79, right, b);
     }
     if negates(s, starts, b, a) {
@@ -69,9 +72,9 @@ pub fn negation_at(s: &[u8], starts: &[u16; 2048], nexts: &[u16; 2048], k: usize
     let tag = tag_at(s, starts, k);
     let nested = k + 1;
     match tag {
-        610 => fixed(82, k, k, k),
-        611 => fixed(83, k, k, k),
-        701 => fixed(84, nested, nested, k),
+        BTRUE => fixed(82, k, k, k),
+        BFALSE => fixed(83, k, k, k),
+        NOT => fixed(84, nested, nested, k),
         _ => Decision::Rests,
     }
 }

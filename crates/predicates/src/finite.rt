@@ -1,6 +1,23 @@
 // finite(S) by the tag of S (1 to 13).
 use decision::Decision;
 use decision::operands::fixed;
+use frame::operators::BOOL;
+use frame::operators::BUNION;
+use frame::operators::CONVERSE;
+use frame::operators::CPROD;
+use frame::operators::CSET;
+use frame::operators::DOMRES;
+use frame::operators::EMPTYSET;
+use frame::operators::INTEGER;
+use frame::operators::KID_GEN;
+use frame::operators::KPRJ1_GEN;
+use frame::operators::KPRJ2_GEN;
+use frame::operators::MAPSTO;
+use frame::operators::NATURAL;
+use frame::operators::NATURAL1;
+use frame::operators::POW;
+use frame::operators::SETEXT;
+use frame::operators::UPTO;
 ghost use Rattle.decision.specs.Decides.{Here, HereTwo, Decides, DecidesTwo};
 ghost use Rattle.decision.specs.RulesAt.{finiteRestricted};
 ghost use Rattle.predicates.specs.FiniteSet.{SetPre, SetPost};
@@ -19,9 +36,9 @@ fn finite_restricted_at(
 {
     let tag = nav::tag_at(s, starts, b);
     match tag {
-        412 => fixed(12, a, a, a),
-        410 => fixed(12, a, a, a),
-        411 => fixed(12, a, a, a),
+        KID_GEN => fixed(12, a, a, a),
+        KPRJ1_GEN => fixed(12, a, a, a),
+        KPRJ2_GEN => fixed(12, a, a, a),
         _ => Decision::Rests,
     }
 }
@@ -32,7 +49,7 @@ fn finite_set_at(s: &[u8], starts: &[u16; 2048], nexts: &[u16; 2048], k: usize) 
     ensures { λ r. ⌜ SetPost (now (s .entry)) (now (starts .entry)) (now (nexts .entry)) k r ⌝ }
 {
     let value = decision::operands::second_of(nexts, k);
-    if nav::tag_at(s, starts, value) != 201 {
+    if nav::tag_at(s, starts, value) != MAPSTO {
         return Decision::Rests;
     }
     let left = value + 1;
@@ -53,22 +70,22 @@ pub fn rewrite_finite(s: &[u8], starts: &[u16; 2048], nexts: &[u16; 2048], k: us
     let a = k + 1;
     let b = decision::operands::second_of(nexts, k);
     match tag {
-        407 => fixed(1, k, k, k),
-        402 => fixed(2, k, k, k),
-        403 => fixed(2, k, k, k),
-        401 => fixed(2, k, k, k),
-        404 => fixed(3, k, k, k),
-        412 => fixed(4, k, k, k),
-        5 => fixed(5, k, k, k),
-        301 => decision::operands::each(6, k),
-        752 => fixed(7, a, a, k),
-        214 => fixed(8, a, b, k),
-        763 => fixed(9, a, a, k),
-        221 => fixed(10, k, k, k),
-        803 => finite_set_at(s, starts, nexts, k),
-        217 => finite_restricted_at(s, starts, nexts, a, b),
-        410 => fixed(13, k, k, k),
-        411 => fixed(13, k, k, k),
+        EMPTYSET => fixed(1, k, k, k),
+        NATURAL => fixed(2, k, k, k),
+        NATURAL1 => fixed(2, k, k, k),
+        INTEGER => fixed(2, k, k, k),
+        BOOL => fixed(3, k, k, k),
+        KID_GEN => fixed(4, k, k, k),
+        SETEXT => fixed(5, k, k, k),
+        BUNION => decision::operands::each(6, k),
+        POW => fixed(7, a, a, k),
+        CPROD => fixed(8, a, b, k),
+        CONVERSE => fixed(9, a, a, k),
+        UPTO => fixed(10, k, k, k),
+        CSET => finite_set_at(s, starts, nexts, k),
+        DOMRES => finite_restricted_at(s, starts, nexts, a, b),
+        KPRJ1_GEN => fixed(13, k, k, k),
+        KPRJ2_GEN => fixed(13, k, k, k),
         _ => Decision::Rests,
     }
 }

@@ -1,6 +1,7 @@
 // Partitions of one or two sets (14, 15).
 use decision::Decision;
 use decision::operands::fixed;
+use frame::operators::PARTITION;
 use nav::tag_at;
 ghost use Rattle.decision.specs.Decides.{Here, Decides};
 ghost use Rattle.decision.specs.RulesAt.{partitionOf};
@@ -11,7 +12,7 @@ pub fn rewrite_partition(s: &[u8], starts: &[u16; 2048], nexts: &[u16; 2048], k:
     ensures { λ r. ⌜ Decides partitionOf (now (s .entry)) (now (starts .entry)) (now (nexts .entry)) k r ⌝ }
 {
     let tag = tag_at(s, starts, k);
-    if tag != 901 {
+    if tag != PARTITION {
         return Decision::Rests;
     }
     let a = k + 1;

@@ -1,5 +1,10 @@
 // Which rules a node goes to: logic first, then those of its tag.
 use decision::Decision;
+use frame::operators::EQUAL;
+use frame::operators::FINITE;
+use frame::operators::NOT;
+use frame::operators::PARTITION;
+use frame::operators::SUBSETEQ;
 ghost use Rattle.decision.specs.Dispatching.{DispatchPre, DispatchPost};
 
 // What the rules decide at place k. The places of the children that an ∧ or an ∨ keeps go into the lent list.
@@ -21,11 +26,11 @@ pub fn decide(
     let a = k + 1;
     let b = decision::operands::second_of(nexts, k);
     match tag {
-        701 => predicates::negation::rewrite_not(s, starts, nexts, k),
-        620 => predicates::finite::rewrite_finite(s, starts, nexts, a),
-        901 => predicates::partition::rewrite_partition(s, starts, nexts, k),
-        101 => crate::equals::equality::equal_at(s, starts, nexts, a, b),
-        111 => crate::equals::equality::subset_at(s, starts, nexts, a, b),
+        NOT => predicates::negation::rewrite_not(s, starts, nexts, k),
+        FINITE => predicates::finite::rewrite_finite(s, starts, nexts, a),
+        PARTITION => predicates::partition::rewrite_partition(s, starts, nexts, k),
+        EQUAL => crate::equals::equality::equal_at(s, starts, nexts, a, b),
+        SUBSETEQ => crate::equals::equality::subset_at(s, starts, nexts, a, b),
         _ => Decision::Rests,
     }
 }

@@ -2,6 +2,7 @@
 pub mod singles; // singles.rt: sets of one member among operands
 
 use decision::Decision;
+use frame::operators::SETMINUS;
 ghost use mathlib.Core.Path.{_≡_};
 ghost use Rattle.nav.specs.PlaceTables.{Placed};
 ghost use Rattle.rewriter.specs.Inter.{MinusPost, InterPre, AnyMinusPost, apartWhen, InterPost};
@@ -11,7 +12,7 @@ fn is_minus(s: &[u8], starts: &[u16; 2048], k: usize) -> bool
     requires { ⌜ Placed (now s) (now starts) k ⌝ }
     ensures { λ r. ⌜ MinusPost (now (s .entry)) (now (starts .entry)) k r ⌝ }
 {
-    nav::tag_at(s, starts, k) == 213
+    nav::tag_at(s, starts, k) == SETMINUS
 }
 
 // Whether some child of the node at place k is a difference.

@@ -1,5 +1,12 @@
 // Logic, by a predicate node's tag (62 to 87): the arms of the source's `simplify_predicate_node`, in its order.
 use decision::Decision;
+use frame::operators::EXISTS;
+use frame::operators::FORALL;
+use frame::operators::LAND;
+use frame::operators::LEQV;
+use frame::operators::LIMP;
+use frame::operators::LOR;
+use frame::operators::NOT;
 ghost use Rattle.decision.specs.Dispatching.{DispatchPre, NodePost};
 
 // What logic decides at place k. The places of the children that an ∧ or an ∨ keeps go into the lent list.
@@ -17,13 +24,13 @@ pub fn simplify_predicate_node(
     let a = k + 1;
     let b = decision::operands::second_of(nexts, k);
     match tag {
-        351 => junction::simplify_assoc_pred(s, starts, nexts, k, kept),
-        352 => junction::simplify_assoc_pred(s, starts, nexts, k, kept),
-        251 => logic::implication::implication_at(s, starts, nexts, a, b),
-        252 => logic::equivalence_at(s, starts, nexts, a, b),
-        701 => logic::negation_at(s, starts, nexts, a),
-        851 => logic::quantified::forall_at(s, starts, nexts, k),
-        852 => logic::quantified::exists_at(s, starts, nexts, k),
+        LAND => junction::simplify_assoc_pred(s, starts, nexts, k, kept),
+        LOR => junction::simplify_assoc_pred(s, starts, nexts, k, kept),
+        LIMP => logic::implication::implication_at(s, starts, nexts, a, b),
+        LEQV => logic::equivalence_at(s, starts, nexts, a, b),
+        NOT => logic::negation_at(s, starts, nexts, a),
+        FORALL => logic::quantified::forall_at(s, starts, nexts, k),
+        EXISTS => logic::quantified::exists_at(s, starts, nexts, k),
         _ => Decision::Rests,
     }
 }

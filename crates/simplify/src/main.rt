@@ -10,6 +10,7 @@ ghost use Rattle.printing.specs.AnswerPosts.{longest};
 ghost use Rattle.simplify.specs.Posts.{PiecePost, ReadPost};
 use crate::streaming::feed;
 use crate::streaming::finish;
+use libc::STDERR_FILENO;
 use libc::STDIN_FILENO;
 use libc::STDOUT_FILENO;
 use lines::LineState;
@@ -19,6 +20,15 @@ use lines::line_start;
 struct Turn {
     line: LineState,
     more: bool,
+}
+
+// Whether the answers could be written; where they could not, standard error says so.
+fn written(answers: &[u8]) -> bool {
+    if io::write_all(STDOUT_FILENO, answers) {
+        return true;
+    }
+    io::write_all(STDERR_FILENO, b"simplify: cannot write\n");
+    false
 }
 
 // The answers of the lines that end in the piece. Where the output takes no more, nothing more is read or written.
@@ -31,7 +41,7 @@ fn write_answers(state: LineState, piece: &[u8], buf: &mut [u8; 4096], out: &mut
     while at < piece.len() {
         let fed = feed(line, &piece[at..], buf, out);
         let n = fed.wrote;
-        if !io::write_all(STDOUT_FILENO, &out[..n]) {
+        if !written(&out[..n]) {
             return Turn {
                 line: line_start(),
                 more: false,
@@ -46,13 +56,20 @@ fn write_answers(state: LineState, piece: &[u8], buf: &mut [u8; 4096], out: &mut
     }
 }
 
-// One piece of the input, as large as one read gives.
+// One piece of the input, as large as one read gives. Where reading fails, the line that was begun may not be whole, and gets no answer.
 fn read_piece(state: LineState, input: &mut [u8], buf: &mut [u8; 4096], out: &mut [u8]) -> Turn
     requires { ⌜ longest ≤ length (now out) ⌝ }
     ensures { λ r. ⌜ ReadPost (now (input .exit)) state (now (buf .entry)) (r .line) (r .more) (now (buf .exit)) ⌝ }
 {
     let got = libc::read(STDIN_FILENO, input);
-    if got <= 0 {
+    if got < 0 {
+        io::write_all(STDERR_FILENO, b"simplify: cannot read\n");
+        return Turn {
+            line: line_start(),
+            more: false,
+        };
+    }
+    if got == 0 {
         return Turn {
             line: state,
             more: false,
@@ -85,5 +102,5 @@ fn main() {
     let mut buf = io::buffer();
     let line = read_all(&mut input, &mut buf, &mut out);
     let n = finish(line, &buf, &mut out);
-    io::write_all(STDOUT_FILENO, &out[..n]);
+    written(&out[..n]);
 }

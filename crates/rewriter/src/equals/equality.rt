@@ -1,5 +1,6 @@
 // = and ⊆ between two sets, where one side is ∅, or the type expression of its own elements.
 use decision::Decision;
+use frame::operators::EMPTYSET;
 ghost use Rattle.rules.specs.Dispatch.{emptyRules, equalRules, subsetRules};
 ghost use Rattle.decision.specs.Decides.{HereTwo, DecidesPair};
 ghost use Rattle.decision.specs.RulesAt.{typeRight};
@@ -15,7 +16,7 @@ pub fn subset_at(
     requires { ⌜ HereTwo (now s) (now starts) (now nexts) a b ⌝ }
     ensures { λ r. ⌜ DecidesPair subsetRules (now (s .entry)) (now (starts .entry)) (now (nexts .entry)) a b r ⌝ }
 {
-    if nav::tag_at(s, starts, b) != 407 {
+    if nav::tag_at(s, starts, b) != EMPTYSET {
         return Decision::Rests;
     }
     crate::equals::rewrite_equals_empty_set(s, starts, nexts, a)
@@ -33,11 +34,11 @@ fn empty_rules_at(
     ensures { λ r. ⌜ DecidesPair emptyRules (now (s .entry)) (now (starts .entry)) (now (nexts .entry)) a b r ⌝ }
 {
     let right = nav::tag_at(s, starts, b);
-    if right == 407 {
+    if right == EMPTYSET {
         return crate::equals::rewrite_equals_empty_set(s, starts, nexts, a);
     }
     let left = nav::tag_at(s, starts, a);
-    if left == 407 {
+    if left == EMPTYSET {
         return crate::equals::rewrite_equals_empty_set(s, starts, nexts, b);
     }
     Decision::Rests

@@ -1,5 +1,10 @@
 // Whether an expression is the type expression of its own elements. The nodes alone say so: BOOL, integers, a given set, and
 // powers and products of these.
+use frame::operators::BOOL;
+use frame::operators::CPROD;
+use frame::operators::FREE_IDENT;
+use frame::operators::INTEGER;
+use frame::operators::POW;
 ghost use Rattle.decision.specs.Decides.{Here};
 ghost use Rattle.rewriter.specs.OwnType.{NamePre, NamedPost, OwnTypePost};
 
@@ -19,19 +24,19 @@ pub fn own_type_at(s: &[u8], starts: &[u16; 2048], nexts: &[u16; 2048], k: usize
     ensures { λ r. ⌜ OwnTypePost (now (s .entry)) (now (starts .entry)) (now (nexts .entry)) k r ⌝ }
 {
     let tag = nav::tag_at(s, starts, k);
-    if tag == 404 {
+    if tag == BOOL {
         return true;
     }
-    if tag == 401 {
+    if tag == INTEGER {
         return true;
     }
-    if tag == 1 {
+    if tag == FREE_IDENT {
         return is_given_at(s, starts, k);
     }
-    if tag == 752 {
+    if tag == POW {
         return own_type_at(s, starts, nexts, k + 1);
     }
-    if tag != 214 {
+    if tag != CPROD {
         return false;
     }
     if !own_type_at(s, starts, nexts, k + 1) {

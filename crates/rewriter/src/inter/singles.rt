@@ -1,4 +1,5 @@
 // Sets of one member among the operands of ∩: how many there are, and where the first is.
+use frame::operators::SETEXT;
 ghost use mathlib.Core.Path.{_≡_};
 ghost use Rattle.frame.specs.Tags.{pick};
 ghost use Rattle.nav.specs.PlaceTables.{Placed};
@@ -9,7 +10,7 @@ fn is_single(s: &[u8], starts: &[u16; 2048], k: usize) -> bool
     requires { ⌜ Placed (now s) (now starts) k ⌝ }
     ensures { λ r. ⌜ SinglePost (now (s .entry)) (now (starts .entry)) k r ⌝ }
 {
-    if nav::tag_at(s, starts, k) != 5 {
+    if nav::tag_at(s, starts, k) != SETEXT {
         return false;
     }
     nav::arity_at(s, starts, k) == 1

@@ -31,11 +31,11 @@ finish-requires c κs = search needs
 array-share-prefix-out : tie.Need-array-share-prefix-out
 array-share-prefix-out c = search needs
 
-slice-aggregate-write-all : tie.Need-slice-aggregate-write-all
-slice-aggregate-write-all c = sym (length-take-le _ _ (c .before .before .finish .ensures .room))
+slice-aggregate-written : tie.Need-slice-aggregate-written
+slice-aggregate-written c = sym (length-take-le _ _ (c .before .before .finish .ensures .room))
 
-write-all-requires : tie.Need-write-all-requires
-write-all-requires c κs = search needs
+written-requires : tie.Need-written-requires
+written-requires c κs = search needs
 
 returns : tie.Need-returns
 returns c = search needs
@@ -53,6 +53,6 @@ main-spec =
     slice-aggregate-finish
     finish-requires
     array-share-prefix-out
-    slice-aggregate-write-all
-    write-all-requires
+    slice-aggregate-written
+    written-requires
     returns)

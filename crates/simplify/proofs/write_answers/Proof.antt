@@ -32,14 +32,14 @@ part-feed-end c = omega arith
 feed-requires : tie.Need-feed-requires Inv-loop μ-loop
 feed-requires c κs = search needs
 
-slice-reshare-prefix-write-all : tie.Need-slice-reshare-prefix-write-all Inv-loop μ-loop
-slice-reshare-prefix-write-all c = c .before .before .feed .ensures .room
+slice-reshare-prefix-written : tie.Need-slice-reshare-prefix-written Inv-loop μ-loop
+slice-reshare-prefix-written c = c .before .before .feed .ensures .room
 
-slice-aggregate-write-all : tie.Need-slice-aggregate-write-all Inv-loop μ-loop
-slice-aggregate-write-all c = sym (length-take-le _ _ (c .before .before .before .feed .ensures .room))
+slice-aggregate-written : tie.Need-slice-aggregate-written Inv-loop μ-loop
+slice-aggregate-written c = sym (length-take-le _ _ (c .before .before .before .feed .ensures .room))
 
-write-all-requires : tie.Need-write-all-requires Inv-loop μ-loop
-write-all-requires c κs = tt
+written-requires : tie.Need-written-requires Inv-loop μ-loop
+written-requires c κs = tt
 
 line-start-requires : tie.Need-line-start-requires Inv-loop μ-loop
 line-start-requires c κs = tt
@@ -99,9 +99,9 @@ write-answers-spec =
     part-feed-start
     part-feed-end
     feed-requires
-    slice-reshare-prefix-write-all
-    slice-aggregate-write-all
-    write-all-requires
+    slice-reshare-prefix-written
+    slice-aggregate-written
+    written-requires
     line-start-requires
     same-length
     returns
