@@ -1,6 +1,7 @@
 // Number 8 (document 01: "A bound index has no binder, anywhere in the tree."). The nodes are gone over in the order
 // of the frame, with a list of where the types of the open binders stand; so the types of bound identifiers are found on the way,
 // and go into a table by place for typing to read.
+use frame::operators::BOUND_IDENT;
 use heads::known_head;
 use heads::skip_types;
 ghost use mathlib.Core.Path.{_≡_};
@@ -16,8 +17,6 @@ ghost use Rattle.frame.specs.WellFormed.{TysWf};
 ghost use Rattle.frame.specs.Spans.{Spans};
 ghost use Rattle.frame.specs.At.{IsAt};
 ghost use Rattle.binding.specs.Bound.{Ready, RowHere, OpenPost, BoundRow, BindingPost};
-
-const BOUND: usize = 3;
 
 // The tags from here on that carry types are those of binders.
 const FIRST_BINDING: usize = 801;
@@ -64,7 +63,7 @@ fn bind_trees(
     let mut j = k;
     while 0 < left {
         let h = known_head(s, p);
-        if h.tag == BOUND {
+        if h.tag == BOUND_IDENT {
             let index = h.number;
             if depth <= index {
                 return Bound::Refused;

@@ -4,6 +4,7 @@
 // beyond the table is gone through again with a longer one, and at last with a table of all numbers.
 use claims::note_given;
 use claims::note_identifier;
+use frame::operators::FREE_IDENT;
 use heads::number;
 use heads::type_bytes;
 use heads::type_parts;
@@ -23,8 +24,6 @@ ghost use Rattle.typing.specs.Identifiers.{namesAgree};
 ghost use Rattle.reading.specs.Post.{Rest};
 ghost use Rattle.claims.specs.Table.{Held};
 ghost use Rattle.identifiers.specs.Claims.{TypesAt, TypesPost, NodePost, Clear, Decides};
-
-const IDENTIFIER: usize = 1;
 
 const GIVEN_SET: u8 = 2;
 
@@ -84,7 +83,7 @@ fn note_node(s: &[u8], at: usize, table: &mut [u16]) -> Noting
         Noting::Clashed => Noting::Clashed,
         Noting::Beyond => Noting::Beyond,
         Noting::Ends(p) => {
-            if tag != IDENTIFIER {
+            if tag != FREE_IDENT {
                 return Noting::Ends(p);
             }
             if table.len() <= x {
