@@ -57,7 +57,7 @@ pub fn check(frame: &[u8]) -> Result<(), Refused> {
     }
 }
 
-/// The step at a place of the frame. Bytes of the output behind the new frame are kept, and all of them where there is none.
+/// The step at a place of the frame. Bytes of the output behind the new frame are kept; where no frame is written, all of them.
 pub fn step(frame: &[u8], place: u64, out: &mut [u8]) -> Result<Step, Refused> {
     // The pointers are to as many bytes as the lengths say, and the two slices are apart.
     let answer = unsafe { library::lustrejasper_step(frame.as_ptr(), frame.len(), place, out.as_mut_ptr(), out.len()) };

@@ -21,7 +21,7 @@ fn hex(frame: &[u8]) -> String {
     frame.iter().map(|b| format!("{b:02X}")).collect()
 }
 
-/// An output with bytes that no frame of the tests has in every place.
+/// An output whose bytes go by their place, so that one that was written or moved is seen.
 fn lent(n: usize) -> Vec<u8> {
     (0..n).map(|i| (i * 7 + 0xA5) as u8).collect()
 }

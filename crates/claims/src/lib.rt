@@ -10,7 +10,7 @@ ghost use Rattle.frame.specs.Reading.{frameLimit};
 ghost use Rattle.claims.specs.Table.{PowerPost, SameType, Held, TypeAt, NamePost, GivenPost};
 
 // The entry of a number that a given set has claimed. Other entries are one more than the position of an identifier's type,
-// and 0 where nothing has been claimed.
+// at most 4,096, and 0 where nothing has been claimed: so any number above tells it from these.
 const GIVEN: u16 = 5000;
 
 // Whether the type from p up to q stands at e as well.

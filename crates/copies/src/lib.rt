@@ -18,7 +18,7 @@ pub fn copy_in(s: &[u8], a: usize, e: usize, buf: &mut [u8], to: usize)
     }
 }
 
-// The buffer's own bytes from a up to e, from `to` on: further up, or from the left on further down.
+// The buffer's own bytes from a up to e, copied to `to` and on, the leftmost first: so `to` is not above a, or not before e.
 pub fn copy_within(buf: &mut [u8], a: usize, e: usize, to: usize)
     requires { ⌜ (a ≤ e) × (e ≤ length (now buf)) × (to + (e - a) ≤ length (now buf)) × Apart a e to ⌝ }
     ensures { λ r. ⌜ Copied (now (buf .entry)) a (e - a) (now (buf .entry)) (now (buf .exit)) to ⌝ }

@@ -7,7 +7,7 @@ ghost use lib.Dec.{eqb};
 ghost use Rattle.frame.specs.Tags.{pick};
 ghost use Rattle.decision.specs.declared.Decision.the-variants.{Rests, Fixed, Each};
 
-// The place's own pattern.
+// The place's own pattern. Where it has no second operand, none at all, or no binder, any place may stand there: it is not looked at.
 pub fn fixed(place: usize, first: usize, second: usize, binder: usize) -> Decision
     ensures { λ r. ⌜ r ≡ Fixed place place first second binder ⌝ }
 {

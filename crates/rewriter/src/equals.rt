@@ -1,5 +1,5 @@
 // A set equated to the type expression of its elements (24 to 35), or to ∅ (36 to 61): the set's tag says the place.
-// Tags whose operands come in the node's own form need no further look.
+// Where the tag alone says the operands (the node, its children, or none), nothing else of the set is read.
 pub mod own_type; // own_type.rt: an expression that is a type
 pub mod equality; // equality.rt: which of the rules = and ⊆ go to
 
