@@ -44,6 +44,7 @@ so_int (negsuc m) (negsuc n) = (λ h. ap negsuc (eqb-true m n h), λ e. eq-eqb m
 -- ---- pairs
 all_pairs : {A B : Type 0} (a : A) (b : B) (l : List A) (m : List B) → In a l → In b m → In (a, b) (pairs l m)
 unfolding pairs
+all_pairs {A} {B} a b [] m i j = elim i [ ]
 all_pairs {A} {B} a b (x ∷ l) m (inl e) j = rw e (in_left (x, b) (map (λ y. (x, y)) m) (pairs l m) (In_map (λ y. (x, y)) b m j))
 all_pairs a b (x ∷ l) m (inr i) j = in_right (a, b) (map (λ y. (x, y)) m) (pairs l m) (all_pairs a b l m i j)
 

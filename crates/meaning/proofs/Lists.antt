@@ -171,6 +171,7 @@ module _ {A : Type 0} where
 
 module _ {A B : Type 0} where
   pub In_map : (f : A → B) (x : A) (l : List A) → In x l → In (f x) (map f l)
+  In_map f x [] i = elim i [ ]
   In_map f x (y ∷ l) (inl e) = inl (ap f e)
   In_map f x (y ∷ l) (inr i) = inr (In_map f x l i)
 

@@ -94,6 +94,7 @@ every_x t = bodied #CSet (t ∷ []) ⊤ bound
 
 in_choices : {A : Type 0} (x : A) (l : List A) → In x l → In {A = A × Unit {0}} (x, tt) (flat_map (λ v. (v, tt) ∷ []) l)
 unfolding flat_map
+in_choices x [] i = elim i [ ]
 in_choices x (y ∷ l) (inl e) = inl (ap (λ v. (v, tt)) e)
 in_choices x (y ∷ l) (inr i) = inr (in_choices x l i)
 
