@@ -8,7 +8,7 @@ use octets::wide16;
 use put::put_copy;
 
 // What of each child goes into a row.
-#[derive(Drop)]
+#[derive(Clone, Copy)]
 pub enum Share {
     // the child itself, unless it is at this place
     Besides(usize),

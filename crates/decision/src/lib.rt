@@ -8,7 +8,7 @@ ghost use Rattle.decision.specs.Decides.{is_rests};
 
 // What a rule decides at a node. `place` is a place of the source (docs/RULES.md); the other numbers are places of the frame's
 // tables. `specs/Decision.antt` says what answer of the definitions each decision stands for.
-#[derive(Drop)]
+#[derive(Clone, Copy)]
 pub enum Decision {
     // no rule applies
     Rests,

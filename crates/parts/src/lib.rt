@@ -12,7 +12,7 @@ use put::type_expression::to_expression;
 use put::{put_byte, put_copy, put_word};
 
 // Where the operands stand in the frame, where the bytes of their types stand, and where the binders' count and types stand.
-#[derive(Drop)]
+#[derive(Clone, Copy)]
 pub struct Ranges {
     pub first: usize,
     pub first_end: usize,

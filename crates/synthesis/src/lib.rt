@@ -20,7 +20,7 @@ use type_rules::rule_of;
 const BOUND_RULE: usize = 6;
 
 // Where the next node stands and its place, the end of the types, and how many nodes are open below the one at hand.
-#[derive(Drop)]
+#[derive(Clone, Copy)]
 struct State {
     at: usize,
     place: usize,

@@ -5,7 +5,7 @@ ghost use Rattle.synthesis.specs.OpenNodes.{no_node};
 
 // An open node: its tag, how many operands are to come, where the types of those that have come start. The slice is cleared for each tree
 // that is typed, so a record is no wider than these numbers need.
-#[derive(Drop)]
+#[derive(Clone, Copy)]
 pub struct OpenNode {
     pub tag: u16,
     pub left: u16,
