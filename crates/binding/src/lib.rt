@@ -1,6 +1,8 @@
 // Number 8 (document 01: "A bound index has no binder, anywhere in the tree."). The nodes are gone over in the order
 // of the frame, with a list of where the types of the open binders stand; so the types of bound identifiers are found on the way,
 // and go into a table by place for typing to read.
+#![tactic(auto)]
+
 ghost use Rattle.std.specs.Prelude.{◌≡◌, List, ◌≤◌, length};
 ghost use Rattle.frame.specs.Types.{Ty};
 ghost use Rattle.frame.specs.Trees.{Tree};

@@ -1,4 +1,6 @@
 // The new subtree by the kind of the decision.
+#![tactic(auto)]
+
 mod rows; // rows.rt: subtrees of the frame, one after the other
 pub mod splicing; // splicing.rt: the new frame in the scratch buffer
 

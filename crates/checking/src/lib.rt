@@ -1,4 +1,6 @@
 // A frame checked: numbers 2 to 10 in their order (document 01, "Numbers of what is turned down, in checking order").
+#![tactic(auto)]
+
 ghost use Rattle.std.specs.Prelude.{◌≡◌, ◌+◌, ◌*◌, ◌≤◌, length};
 ghost use Rattle.typing.specs.Check.{check as checked, check_answer};
 ghost use Rattle.checking.specs.Posts.{TypedPre, TypedPost, ReadPre, TreePost};

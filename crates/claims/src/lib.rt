@@ -1,5 +1,7 @@
 // What is claimed of each identifier number: an identifier claims its type, a given set in some type the power of that set. A
 // table holds the claims, and one of another type clashes (number 9).
+#![tactic(auto)]
+
 ghost use Rattle.std.specs.Prelude.{◌≤◌, ◌<◌, length};
 ghost use Rattle.frame.specs.Types.{Ty};
 ghost use Rattle.frame.specs.Reading.{frame_limit};

@@ -1,4 +1,6 @@
 // Copies of bytes, from one buffer to another and within one.
+#![tactic(auto)]
+
 ghost use Rattle.std.specs.Prelude.{◌≡◌, ◌++◌, ◌+◌, ◌-◌, ◌≤◌, length, take, drop};
 ghost use Rattle.copies.specs.Copies.{Copied, Apart};
 

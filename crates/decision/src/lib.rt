@@ -1,5 +1,7 @@
 // Decisions: what a rule answers before anything is built. A rule looks at places of a frame and writes nothing. Rules take the tables
 // alike, `starts` and `nexts`, even where one is not read: their contracts are one law over the rule.
+#![tactic(auto)]
+
 pub mod operands; // operands.rt: decisions on the children of a node
 pub mod contains; // contains.rt: a tree beside another, or among others
 

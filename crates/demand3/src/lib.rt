@@ -1,1 +1,2 @@
 // Demand 3 as one claim about a whole series of calls.
+#![tactic(auto)]

@@ -1,4 +1,6 @@
 // What a pattern is filled with: the operands and binders as they stand in the frame, and the operands' types.
+#![tactic(auto)]
+
 ghost use Rattle.std.specs.Prelude.{◌≡◌, ◌+◌, ◌<◌, get_or};
 ghost use Rattle.templates.specs.Programs.{template};
 ghost use Rattle.filling.specs.Operands.{asks_types, TypeOfPre, WorkFor, TypeOfPost, TypesPre, TypesPost, RangesPre, RangesPost, FillPre, FillPost};

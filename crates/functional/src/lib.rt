@@ -1,6 +1,8 @@
 // Whether a comprehension set of maplets is a function, as its form shows it (`functional_check`, document 000): each of its
 // binders that the right side of the maplet uses stands on the left side at a pattern position. A set of binders is a mask of
 // 32 bits ("`HashSet` of binder indices becomes a 32-bit mask"): bit i stands for the binder with index i.
+#![tactic(auto)]
+
 ghost use Rattle.std.specs.Prelude.{◌≡◌, ◌*◌, ◌≤◌};
 ghost use Rattle.nav.specs.PlaceTables.{Placed};
 ghost use Rattle.functional.specs.Functional.{is_binder, BindersPost, OwnPost, KidsPost, Row, NamedPost, Both, FunctionalPost};

@@ -1,5 +1,7 @@
 // Heads of a frame, read from left to right (document 01, "Numbers of what is turned down", 3 to 6), and types and heads passed over
 // again once they were read. Positions count bytes from the frame's start. A sort is a bool: true for an expression.
+#![tactic(auto)]
+
 ghost use Rattle.std.specs.Prelude.{◌≡◌, ◌+◌, ◌≤◌, ◌<◌, length, true, List};
 ghost use Rattle.frame.specs.Types.{Ty};
 ghost use Rattle.frame.specs.Tags.{in_range};

@@ -2,6 +2,8 @@
 // its type isn't the power of that set."). Nodes stand in prefix order, and so do the parts of a type: the frame is gone
 // through once from left to right, and a table holds what has been claimed of each identifier number. A frame with a number
 // beyond the table is gone through again with a longer one, and at last with a table of all numbers.
+#![tactic(auto)]
+
 ghost use Rattle.std.specs.Prelude.{◌≡◌, ℕ, ◌≤◌, ◌<◌, List, length};
 ghost use Rattle.frame.specs.Types.{Ty};
 ghost use Rattle.frame.specs.Trees.{Tree, Forest};

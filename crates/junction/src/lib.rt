@@ -1,5 +1,7 @@
 // ∧ and ∨: which children stay. A neutral literal and a repeat go; a literal that decides, or a child beside its opposite,
 // makes the whole that literal.
+#![tactic(auto)]
+
 mod keys; // keys.rt: keys that tell most children apart
 
 ghost use Rattle.std.specs.Prelude.{◌≡◌, ◌<◌, false};

@@ -1,4 +1,6 @@
 // Text: one frame a line in capital hexadecimal (document 01, "The frame record"). A line comes in pieces of any size.
+#![tactic(auto)]
+
 ghost use Rattle.std.specs.Prelude.{◌≡◌, ℕ, ◌+◌, ◌≤◌, ◌<◌, List, [], ◌∷◌};
 ghost use Rattle.frame.specs.Lines.{digit_of, digit_for, read_line};
 ghost use Rattle.lines.specs.LineState.{shortened, line_state, LineGoes, line_answer, WritePost};

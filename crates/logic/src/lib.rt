@@ -1,4 +1,6 @@
 // ⇔ (75 to 81) and ¬ (82 to 84), and the negation of an operand.
+#![tactic(auto)]
+
 pub mod implication; // implication.rt: ⇒
 pub mod quantified; // quantified.rt: ∀ and ∃
 

@@ -1,4 +1,6 @@
 // The static library: check, step and run for programs in C, Rust and other languages. include/lustrejasper.h declares them.
+#![tactic(auto)]
+
 ghost use Rattle.std.specs.Prelude.{◌≡◌, length};
 ghost use Rattle.typing.specs.Check.{check as checked, check_answer};
 ghost use Rattle.step.specs.Step.{step as stepped, step_answer, step_output};

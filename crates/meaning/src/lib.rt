@@ -1,1 +1,2 @@
 // What a predicate means: its truth in an interpretation.
+#![tactic(auto)]

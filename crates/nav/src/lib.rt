@@ -1,5 +1,7 @@
 // From place to place. `starts` is the reader's table of node starts; `nexts` says for each place which place follows its
 // subtree. With both, children and ends are found without reading the bytes between.
+#![tactic(auto)]
+
 ghost use Rattle.std.specs.Prelude.{◌≡◌, ◌<◌, get_or};
 ghost use Rattle.nav.specs.PlaceTables.{Rooted, ChildrenPost, hops, HopsIn, NextsPre, NextsPost, Placed, PlacedIn, TagPost, ArityPost, EndAtPost, SortPost, BothPlaced, EarlyPre, EarlyPost, SameAtPost, is_yes};
 

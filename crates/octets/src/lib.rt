@@ -1,4 +1,6 @@
 // Bytes and entries of the tables as numbers, and whether two runs of bytes are the same.
+#![tactic(auto)]
+
 ghost use Rattle.std.specs.Prelude.{◌≡◌, ◌+◌, ◌≤◌, ◌<◌, length};
 ghost use Rattle.octets.specs.Bytes.{SameBytes};
 

@@ -1,4 +1,6 @@
 // The lent output: what it is too short for (number 12), and the frame that goes there.
+#![tactic(auto)]
+
 ghost use Rattle.output.specs.OutPosts.{OutPre, OutPost, AdmitPost};
 
 use copies::put_front;

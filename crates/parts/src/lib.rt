@@ -1,4 +1,6 @@
 // A right side's byte program is run over the operands, their types and the binders as they stand in the buffers: part by part.
+#![tactic(auto)]
+
 ghost use Rattle.std.specs.Prelude.{◌≡◌, ◌≤◌, ◌<◌, length};
 ghost use Rattle.typing.specs.Typing.{element, first, second};
 ghost use Rattle.put.specs.Out.{Puts};

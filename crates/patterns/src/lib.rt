@@ -1,5 +1,7 @@
 // Typing rules at work: the patterns of a rule (type_rules/specs/Patterns.antt) are matched with types that stand in a row, and `results`
 // makes the type of the node.
+#![tactic(auto)]
+
 ghost use Rattle.std.specs.Prelude.{List, ℕ, ◌<◌};
 ghost use Rattle.frame.specs.Tags.{class_of};
 ghost use Rattle.type_rules.specs.Patterns.{Rule, rule_at};

@@ -1,4 +1,6 @@
 // Rules in code at ¬, finite and partition (document 01: relational negation, finiteness, partition).
+#![tactic(auto)]
+
 pub mod negation; // negation.rt: ¬ of an order or an equation
 pub mod finite; // finite.rt: finite(S)
 pub mod partition; // partition.rt: partitions of one or two sets

@@ -1,4 +1,6 @@
 // Text in a lent output, from the place `at` on. Each function answers the place after what it wrote.
+#![tactic(auto)]
+
 ghost use Rattle.std.specs.Prelude.{◌+◌, ◌≤◌, ◌<◌, [], ◌∷◌, length};
 ghost use Rattle.frame.specs.Lines.{write_line};
 ghost use Rattle.program.specs.Text.{decimal, ended_text, refused_text};

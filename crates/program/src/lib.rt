@@ -1,1 +1,2 @@
 // What the program `simplify` prints, line by line.
+#![tactic(auto)]

@@ -1,4 +1,6 @@
 // Right sides that are built by a fixed pattern: the table of their byte programs.
+#![tactic(auto)]
+
 ghost use Rattle.std.specs.Prelude.{◌<◌};
 ghost use Rattle.templates.specs.Programs.{template, ProgramAt};
 

@@ -1,5 +1,7 @@
 // Bytes go behind what the scratch buffer holds. The cursor is how many bytes were written; once they don't fit, it is `FULL`
 // for good. So no caller has to look whether there is room before the whole frame is written.
+#![tactic(auto)]
+
 pub mod type_expression; // type_expression.rt: `to_expression`
 
 ghost use Rattle.std.specs.Prelude.{[], ◌∷◌, ◌≤◌, ◌<◌, length};

@@ -1,5 +1,7 @@
 // Reading a frame from left to right (document 01, "Numbers of what is turned down", 2 to 7): trees, and the table of node starts.
 // Positions count bytes from the frame's start. A sort is a bool: true for an expression.
+#![tactic(auto)]
+
 ghost use Rattle.std.specs.Prelude.{◌≡◌, ◌+◌, ◌<◌, replicate};
 ghost use Rattle.frame.specs.Trees.{Tree};
 ghost use Rattle.tags.specs.TagCodes.{kinds_for};

@@ -3,6 +3,8 @@
 // - `S PLACE LENT FRAME`, a step at that place that is lent so many bytes: CHANGED and the new frame, UNCHANGED, or REFUSED and the number.
 // - `R BUDGET LENT FRAME`, a run: REST, SPENT or FULL, the count of steps and the last frame, or REFUSED and the number.
 // Where a byte was written that must stay as it was, TOUCHED follows. A line of another form is REFUSED 1.
+#![tactic(auto)]
+
 mod shown; // shown.rt: what is printed
 mod trials; // trials.rt: lines and input
 

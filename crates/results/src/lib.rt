@@ -1,4 +1,6 @@
 // The result of a typing rule: its pattern (type_rules/specs/Patterns.antt) filled with the types of the variables, 64 bytes at most.
+#![tactic(auto)]
+
 ghost use Rattle.std.specs.Prelude.{List, ℕ, ◌+◌};
 ghost use Rattle.frame.specs.Reading.{type_limit};
 ghost use Rattle.type_rules.specs.RuleNumbers.{Packed};

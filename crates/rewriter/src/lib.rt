@@ -1,4 +1,6 @@
 // The rules in code: which place of the source answers at a node, and on which operands.
+#![tactic(auto)]
+
 mod equals; // equals.rt: a set equated to ∅ or to its type
 mod inter; // inter.rt: ∩ = ∅
 pub mod node; // node.rt: logic at a predicate node

@@ -1,4 +1,5 @@
 // A run: steps at the first place where a rule applies.
+#![tactic(auto)]
 
 // What a run answers: the count of changing steps and the length of the frame. `specs/Run.antt` gives document 01's
 // word, number and values for each case (`run_answer`).

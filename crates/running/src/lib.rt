@@ -1,4 +1,6 @@
 // A run: steps at the first place where a rule applies, until none applies, the budget is used, or the next frame is too long.
+#![tactic(auto)]
+
 mod searching; // searching.rt: the first place where a rule applies
 
 ghost use Rattle.std.specs.Prelude.{◌≡◌, length};

@@ -1,5 +1,7 @@
 // Sameness of two trees of one frame (document 01: "the same tag, payload and types"; "comparing them is two functions that
 // call each other over a falling byte count"). Equal trees have equal bytes, so heads are compared as bytes.
+#![tactic(auto)]
+
 ghost use Rattle.std.specs.Prelude.{◌+◌};
 ghost use Rattle.frame.specs.Tags.{predicate, expression};
 ghost use Rattle.tags.specs.TagCodes.{sort_for, kinds_for};

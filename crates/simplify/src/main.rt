@@ -2,6 +2,8 @@
 // prints the answer word, the count of steps and the last frame, or REFUSED and the number.
 // Input and output go in large pieces. What is written for what is read is `streaming`'s: no contract can speak of what a file
 // holds, so those here say which line goes on after a piece, and that the loops are safe and end.
+#![tactic(auto)]
+
 mod streaming; // streaming.rt: a line and its answer; the input in pieces
 
 ghost use Rattle.std.specs.Prelude.{◌≤◌, length};

@@ -1,4 +1,5 @@
 // One step at a place of a frame.
+#![tactic(auto)]
 
 // What a step answers. `specs/Step.antt` gives document 01's number and values for each case (`step_answer`).
 #[derive(Drop)]

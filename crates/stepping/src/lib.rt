@@ -1,4 +1,6 @@
 // One step at a place of a frame: the frame is checked, the rules decide at the place, the new frame is written.
+#![tactic(auto)]
+
 ghost use Rattle.std.specs.Prelude.{◌≡◌, length};
 ghost use Rattle.step.specs.Step.{step as stepped, step_answer, step_output};
 ghost use Rattle.stepping.specs.Posts.{HeldPre, ReadPre, StepPost};

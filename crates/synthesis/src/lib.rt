@@ -1,6 +1,8 @@
 // Number 10 and the type of an expression. The nodes are met in prefix order, and those whose operands are still to come are kept on a
 // stack. The types of the operands that have come stand in a buffer, one after the other; a node's own operands' types start where
 // its record says. (The source's `synthesize_*` go from the children up instead.)
+#![tactic(auto)]
+
 mod stack; // stack.rt: the open nodes, a lent slice of records
 
 ghost use Rattle.std.specs.Prelude.{◌≡◌, ◌+◌, ◌-◌, ◌<◌, length};

@@ -2,6 +2,8 @@
 // Tags that ask for the same have one form; a form is a number below 20, and 0 is the form of every tag that is not listed.
 // A constant array is laid out anew where it is read, so a table is a word, or a few words chosen by a match: its entries stand in
 // the word one after the other, the first in the lowest bits.
+#![tactic(auto)]
+
 ghost use Rattle.std.specs.Prelude.{◌≡◌, ◌≤◌, ◌<◌, length};
 ghost use Rattle.frame.specs.Tags.{same_sort, width, in_range, payload_of, types_of, sorts_of, class_of};
 ghost use Rattle.tags.specs.TagCodes.{form_code, form_at_code, sort_for, first_sort, later_sort, layout_kind, low_of, high_of, fixed_of, word_at, form_words};

@@ -1,1 +1,2 @@
 // Each equation keeps the truth of a predicate.
+#![tactic(auto)]

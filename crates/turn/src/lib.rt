@@ -1,5 +1,7 @@
 // One turn of a run: what it does with the first step that was found. It stands apart from the search for that step, so that it is
 // proved without the rules' code.
+#![tactic(auto)]
+
 ghost use Rattle.turn.specs.TurnPosts.{TurnPre, TurnPost};
 
 use copies::put_front;

@@ -1,6 +1,8 @@
 // Typing rules as tables (specs/Patterns.antt): the rule of a tag, the patterns of a rule, the symbols of a pattern.
 // A constant array is laid out anew where it is read, so a table is a few words chosen by a match: its entries stand in a word one
 // after the other, the first in the lowest bits. A pattern is a word too, four bits a symbol.
+#![tactic(auto)]
+
 ghost use Rattle.std.specs.Prelude.{◌≡◌, ◌<◌, get_or};
 ghost use Rattle.frame.specs.Tags.{class_of};
 ghost use Rattle.tags.specs.TagCodes.{word_at};

@@ -1,5 +1,7 @@
 // Types of a frame, read from left to right (document 01, "Numbers of what is turned down", 3 and 6). Positions count bytes from
 // the frame's start.
+#![tactic(auto)]
+
 ghost use Rattle.std.specs.Prelude.{◌≡◌, ℕ, ◌+◌, ◌≤◌, ◌<◌, length};
 ghost use Rattle.frame.specs.Reading.{read_ty, read_tys};
 ghost use Rattle.types.specs.TypePost.{type_answer, given_at, types_answer};

@@ -1,1 +1,2 @@
 // The step figure: a weight that falls with each changing step.
+#![tactic(auto)]

@@ -1,4 +1,6 @@
 // The answers of the static library: one number of 64 bits for each answer.
+#![tactic(auto)]
+
 ghost use Rattle.std.specs.Prelude.{◌≡◌, ◌+◌, ◌*◌, ◌^◌, ◌≤◌};
 ghost use Rattle.words.specs.Words.{check_word, step_word, run_word};
 ghost use Rattle.words.specs.Posts.{ShortStep, ShortRun};
