@@ -17,22 +17,22 @@ overflow_add-at c = omega (arith, known_two _ _ c.requires)
 
 pub number-x-requires : goal.number-x-requires
 number-x-requires c = (
-  known_room _ _ _ c.number-tag.ensures _ c.form_of-form.ensures.0 _ c.width_of_lem.ensures.0
+  known_room _ _ _ c.number-tag.ensures _ c.form_of-form.ensures.0 _ c.width_of-w.ensures.0
       c.requires,
-  c.width_of_lem.ensures.1,
+  c.width_of-w.ensures.1,
 )
 
 pub overflow_add-types : goal.overflow_add-types
 overflow_add-types c = omega (arith, known_two _ _ c.requires)
 
 pub overflow_add-types-2 : goal.overflow_add-types-2
-overflow_add-types-2 c = omega (arith, known_room _ _ _ c.number-tag.ensures _ c.form_of-form.ensures.0 _ c.width_of_lem.ensures.0 c.requires)
+overflow_add-types-2 c = omega (arith, known_room _ _ _ c.number-tag.ensures _ c.form_of-form.ensures.0 _ c.width_of-w.ensures.0 c.requires)
 
 pub skip_types-requires : goal.skip_types-requires
-skip_types-requires c = known_types _ _ _ c.number-tag.ensures _ c.form_of-form.ensures.0 _ c.width_of_lem.ensures.0 _
+skip_types-requires c = known_types _ _ _ c.number-tag.ensures _ c.form_of-form.ensures.0 _ c.width_of-w.ensures.0 _
     c.number-x.ensures _ c.types_of.ensures (λ i. (c.shared_slice_known-1.given i).fits) c.requires
 
 pub returns : goal.returns
-returns c = known_found _ _ _ c.number-tag.ensures _ c.form_of-form.ensures.0 _ c.width_of_lem.ensures.0 _ c.number-x.ensures _
+returns c = known_found _ _ _ c.number-tag.ensures _ c.form_of-form.ensures.0 _ c.width_of-w.ensures.0 _ c.number-x.ensures _
     c.types_of.ensures (λ i. (c.shared_slice_known-1.given i).fits) c.requires c.form_of-form.ensures.1 _
     c.skip_types.ensures _ c.children_of.ensures
