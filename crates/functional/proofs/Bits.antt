@@ -1,5 +1,5 @@
 -- Masks by their bits.
--- Main results: bit_none, bit_one, bit_or (the bits of 0, of 2 ^ j, and of an or); below_more; covered (an and with a complement is 0 where
+-- Main results: bit_none, bit_one, bit_or_lem (the bits of 0, of 2 ^ j, and of an or); below_more; covered (an and with a complement is 0 where
 -- each bit of the one mask is a bit of the other).
 use mathlib.Core.Path.{◌≡◌, refl, sym, ap, ap₂, ◌∙◌}
 use mathlib.Core.Bool.{Bool, true, false, not, ◌&&◌, ◌||◌}
@@ -46,16 +46,16 @@ or_digits _ _ is_0 is_1 = (omega arith, refl)
 or_digits _ _ is_1 is_0 = (omega arith, refl)
 or_digits _ _ is_1 is_1 = (omega arith, refl)
 
-pub bit_or : (a b i : ℕ) → bit (bit_or a b) i ≡ (bit a i || bit b i)
+pub bit_or_lem : (a b i : ℕ) → bit (bit_or a b) i ≡ (bit a i || bit b i)
 unfolding bit
-bit_or a b zero =
+bit_or_lem a b zero =
     let d = or_digits (a % 2) (b % 2) (last_digit a) (last_digit b) in
     let z : bit_or a b % 2 ≡ max (a % 2) (b % 2) = omega (arith, or_step a b, d.0) in
     rw z d.1
-bit_or a b (suc i) =
+bit_or_lem a b (suc i) =
     let d = or_digits (a % 2) (b % 2) (last_digit a) (last_digit b) in
     let z : bit_or a b / 2 ≡ bit_or (a / 2) (b / 2) = omega (arith, or_step a b, d.0) in
-    rw z (bit_or (a / 2) (b / 2) i)
+    rw z (bit_or_lem (a / 2) (b / 2) i)
 
 -- ---- each bit of a is a bit of b
 -- a test at all numbers below suc k, from the first on

@@ -20,7 +20,7 @@ use Rattle.nav.specs.PlaceTables.{Table, Placed}
 use Rattle.nav.proofs.Hops.{framed_few, place_end, child_first, child_next}
 use Rattle.rules.specs.Finite.{uses, recovers, recovers_in, functional_check}
 use Rattle.functional.specs.Functional.{bit, BindersPost, OwnPost, looked, KidsPost, named, InRow, Row, NamedPost, Both, FunctionalPost}
-use Rattle.functional.proofs.Bits.{bit_none, bit_or, below_more, covered}
+use Rattle.functional.proofs.Bits.{bit_none, bit_or_lem, below_more, covered}
 
 -- ---- what trees in a row name
 -- a maplet has no binders
@@ -150,8 +150,8 @@ module _ (s st nx : List ℕ) (c m : ℕ) (some : m ≡ 0 → ⊥) where
               let v = pd.bits t N (under o.g o.us Γ) (looked all o.g o.below) tb (below_first all r pk t Γ ks o) ek i
               ∙ ap (λ (q : ℕ). ltb i n && named all (looked all o.g o.below) q) ei in
               let w = pr.bits t N Γ o.others tb (rw en o.next) (others_count t Γ ks o em) i in
-              bit_or (bit_or own below) others i
-              ∙ ap₂ ◌||◌ (bit_or own below i ∙ ap₂ ◌||◌ u v) w
+              bit_or_lem (bit_or own below) others i
+              ∙ ap₂ ◌||◌ (bit_or_lem own below i ∙ ap₂ ◌||◌ u v) w
               ∙ three (ltb i n) _ _ _
               ∙ ap (λ (q : Bool). ltb i n && q) (sym (ap (λ (f : Forest). named all f (i + d)) o.is ∙ named_step all o.g o.x
               o.us o.below o.others (i + d)))

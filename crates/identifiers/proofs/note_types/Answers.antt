@@ -1,9 +1,9 @@
 use mathlib.Core.Path.{refl, ◌∙◌}
-use mathlib.Core.Logic.{⊎_elim}
 use native.Mathlib.Omega.{arith}
 use borrow.Author.Tests.{not-false}
 use Rattle.identifiers.proofs.NotingTypes.{going_begins, going_done, going_beyond, going_room, going_number, going_clash, going_forward, going_further, going_other, going_given}
 use Rattle.identifiers.proofs.note_types.Goals as goal
+use Rattle.identifiers.proofs.note_types.Goals.{then-b-eq-GIVEN_SET+else-table-n+else-not-fits, else-b-eq-GIVEN_SET}
 
 pub loop-left-init : goal.loop-left-init
 loop-left-init c = going_begins _ _ _ _ c.requires.0 c.requires.1
@@ -56,13 +56,15 @@ loop-left-smaller c = omega (
 )
 
 pub loop-left-preserved : goal.loop-left-preserved
-loop-left-preserved c = ⊎_elim
-    (λ w. going_given _ _ _ _ _ _ _ c.loop-left.invariant (omega arith) _ _
-    c.type_bytes-p.ensures c.type_parts.ensures w.0.taken _ w.1.ensures _ _ w.4.ensures
-    (not-false _ w.7.left) _ w.8)
-    (λ w. going_other _ _ _ _ _ _ _ c.loop-left.invariant (omega arith) _ _
-    c.type_bytes-p.ensures c.type_parts.ensures w.0.left _ w.1)
-    c.if-b-eq-GIVEN_SET.branch
+loop-left-preserved c =
+    elim c.if-b-eq-GIVEN_SET.branch [
+      | then-b-eq-GIVEN_SET+else-table-n+else-not-fits w ↦
+          going_given _ _ _ _ _ _ _ c.loop-left.invariant (omega arith) _ _ c.type_bytes-p.ensures c.type_parts.ensures
+          w.if-b-eq-GIVEN_SET.true _ w.number-n.ensures _ _ w.note_given-fits.ensures w.if-not-fits.false _ w.table-is
+      | else-b-eq-GIVEN_SET w ↦
+          going_other _ _ _ _ _ _ _ c.loop-left.invariant (omega arith) _ _ c.type_bytes-p.ensures c.type_parts.ensures
+          w.if-b-eq-GIVEN_SET.false _ w.table-is
+    ]
 
 pub shape_of-table : goal.shape_of-table
 shape_of-table c = c.loop-left.invariant.size
