@@ -5,7 +5,4 @@ mod OpenTurns
 mod StackBelow
 mod StackTurns
 mod StepTurns
-mod Again
 mod TreeTurns
-mod MirPieces
-mod LentStack

@@ -1,0 +1,112 @@
+use Rattle.junction.proofs.JunctionTurns.{pre_placed, children_few, states_first, turn_placed, turn_keyed, turn_both, turn_decides, turn_end, again_drop, again_keep, scanned_first, scanned_meets, scanned_next, scanned_skip, says_decides, says_keeps, says_drops}
+use mathlib.Core.Path.{refl, ◌∙◌}
+use mathlib.Core.Logic.{⊎_elim}
+use native.Mathlib.Omega.{arith}
+use borrow.Author.Count.{below_none}
+use Rattle.junction.proofs.absorb.Goals as goal
+
+pub arity_at-n-requires : goal.arity_at-n-requires
+arity_at-n-requires c = (pre_placed _ _ _ _ _ c.requires).0
+
+pub overflow_add-c : goal.overflow_add-c
+overflow_add-c c = let z = (pre_placed _ _ _ _ _ c.requires).1 in omega arith
+
+pub all-init : goal.all-init
+all-init c = (
+  omega arith,
+  c.requires.long,
+  omega arith,
+  states_first _ _ _ _ _ _ c.args.kept.now,
+  refl,
+  below_none _,
+)
+
+pub tag_at-tag-requires : goal.tag_at-tag-requires
+tag_at-tag-requires c = (turn_placed _ _ _ _ _ _ _ c.arity_at-n.ensures _ _ _ _ c.all.invariant.3 c.all-test.true _ c.requires).0
+
+pub key_at-key-requires : goal.key_at-key-requires
+key_at-key-requires c = turn_keyed _ _ _ _ _ _ _ c.arity_at-n.ensures _ _ _ _ c.all.invariant.3 c.all-test.true _ c.requires
+
+pub loop-j-init : goal.loop-j-init
+loop-j-init c = let z = children_few _ _ _ _ _ c.requires _ c.arity_at-n.ensures in
+    rw c.compared_from-j.ensures (scanned_first _ _ _ _ _ _ _ _ _ c.tag_at-tag.ensures c.if-tag-determinant.false (omega arith) _ refl)
+
+pub bounds-keys-j : goal.bounds-keys-j
+bounds-keys-j c = let z = children_few _ _ _ _ _ c.requires _ c.arity_at-n.ensures in omega arith
+
+pub offset_bounds-kept-j : goal.offset_bounds-kept-j
+offset_bounds-kept-j c = let z = children_few _ _ _ _ _ c.requires _ c.arity_at-n.ensures in omega arith
+
+pub bounds-kept-j : goal.bounds-kept-j
+bounds-kept-j c = let z = children_few _ _ _ _ _ c.requires _ c.arity_at-n.ensures in omega arith
+
+pub opposite-requires : goal.opposite-requires
+opposite-requires c = let z = children_few _ _ _ _ _ c.requires _ c.arity_at-n.ensures in
+    turn_both _ _ _ _ _ _ _ c.arity_at-n.ensures _ _ _ _ c.all.invariant.3 c.all-test.true _ c.requires
+    c.loop-j.fresh c.loop-j.j c.loop-j.invariant c.loop-j-test.true (omega arith) _ c.wide16-p.ensures.0
+
+pub same_at-requires : goal.same_at-requires
+same_at-requires c = let z = children_few _ _ _ _ _ c.requires _ c.arity_at-n.ensures in
+    turn_both _ _ _ _ _ _ _ c.arity_at-n.ensures _ _ _ _ c.all.invariant.3 c.all-test.true _ c.requires
+    c.loop-j.fresh c.loop-j.j c.loop-j.invariant c.loop-j-test.true (omega arith) _ c.wide16-p.ensures.0
+
+pub loop-j-preserved : goal.loop-j-preserved
+loop-j-preserved c = let z = children_few _ _ _ _ _ c.requires _ c.arity_at-n.ensures in
+    let l = c.loop-j in
+    let h = c.loop-j-test.true in
+    let a = c.all in
+    ⊎_elim
+    (λ w. scanned_next _ _ _ _ _ _ _ _ _ _ l.invariant h (omega arith) _ w.2.ensures.0 _ w.3.ensures w.4.left _
+    w.5.ensures _ (w.7 ∙ w.6.ensures))
+    (λ w. rw w.1 (scanned_skip _ _ _ _ _ _ _ _ _ _ l.invariant h (omega arith) _ refl a.keys _ (a.invariant.5 l.j h) c.key_at-key.ensures
+    w.0.left))
+    c.if-keys-j.branch
+
+pub overflow_cast-kept : goal.overflow_cast-kept
+overflow_cast-kept c = let z = (turn_placed _ _ _ _ _ _ _ c.arity_at-n.ensures _ _ _ _ c.all.invariant.3 c.all-test.true _ c.requires).1 in
+    omega arith
+
+pub offset_bounds-kept-m : goal.offset_bounds-kept-m
+offset_bounds-kept-m c = let z = children_few _ _ _ _ _ c.requires _ c.arity_at-n.ensures in omega arith
+
+pub bounds-kept-m : goal.bounds-kept-m
+bounds-kept-m c = let z = children_few _ _ _ _ _ c.requires _ c.arity_at-n.ensures in omega arith
+
+pub bounds-keys-m : goal.bounds-keys-m
+bounds-keys-m c = let z = children_few _ _ _ _ _ c.requires _ c.arity_at-n.ensures in omega arith
+
+pub overflow_add-m : goal.overflow_add-m
+overflow_add-m c = let z = children_few _ _ _ _ _ c.requires _ c.arity_at-n.ensures in omega arith
+
+pub next_at-c-requires : goal.next_at-c-requires
+next_at-c-requires c = (turn_placed _ _ _ _ _ _ _ c.arity_at-n.ensures _ _ _ _ c.all.invariant.3 c.all-test.true _ c.requires).1
+
+pub all-preserved : goal.all-preserved
+all-preserved c = let z = children_few _ _ _ _ _ c.requires _ c.arity_at-n.ensures in
+    let m = c.arity_at-n.ensures in
+    let a = c.all in
+    let h = c.all-test.true in
+    ⊎_elim
+    (λ w. again_keep _ _ _ _ _ _ _ m z _ a.keys _ _ _ a.invariant h _ c.next_at-c.ensures.0
+    (says_keeps _ _ _ _ _ _ _ _ _ _ c.loop-j.invariant c.loop-j-test.false w.0.taken) _ c.key_at-key.ensures _ _ _
+    w.1 w.2 w.3)
+    (λ w. again_drop _ _ _ _ _ _ _ m z _ a.keys _ _ _ a.invariant h _ c.next_at-c.ensures.0
+    (says_drops _ _ _ _ _ _ _ _ _ _ c.loop-j.invariant c.loop-j-test.false w.0.left) _ _ _ w.1 w.2 w.3)
+    c.if-fresh.branch
+
+pub returns-then-i-n : goal.returns-then-i-n
+returns-then-i-n c = let z = children_few _ _ _ _ _ c.requires _ c.arity_at-n.ensures in
+    let m = c.arity_at-n.ensures in
+    let a = c.all in
+    ⊎_elim
+    (λ w. absurd (omega arith))
+    (λ v. ⊎_elim
+    (λ w. turn_decides _ _ _ _ _ _ _ m _ _ _ _ a.invariant.3 w.0.taken _ a.invariant.1
+    (λ d. says_decides _ _ _ _ _ a.auto _ a.m _ w.1.ensures w.2.taken d))
+    (λ w. turn_decides _ _ _ _ _ _ _ m _ _ _ _ a.invariant.3 w.0.taken _ a.invariant.1
+    (λ d. scanned_meets _ _ _ _ _ _ _ _ _ _ w.5.inv w.6.taken (omega arith) _ w.9.ensures.0 _ w.10.ensures w.11.taken))
+    v)
+    c.all-test.branch
+
+pub returns-else-i-n : goal.returns-else-i-n
+returns-else-i-n c = turn_end _ _ _ _ _ _ _ c.arity_at-n.ensures _ _ _ _ c.all.invariant.3 c.if-i-n.false c.all.invariant.1

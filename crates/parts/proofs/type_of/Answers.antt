@@ -1,0 +1,5 @@
+use Rattle.parts.proofs.Parts.{second_type}
+use Rattle.parts.proofs.type_of.Goals as goal
+
+pub returns : goal.returns
+returns c = second_type _ _ c.if-i-eq0.false
