@@ -15,15 +15,15 @@ pub bounds-g-at-in-loop-at : goal.bounds-g-at-in-loop-at
 bounds-g-at-in-loop-at c = run_within _ _ _ _ _ _ _ c.loop-at.invariant.0 _ _ _ c.loop-at.invariant.1
 
 pub overflow_add-at : goal.overflow_add-at
-overflow_add-at c = let z = run_room _ _ _ _ _ _ _ c.loop-at.invariant.0 _ _ _ c.loop-at.invariant.1 c.loop-at-test.true _ c.type_size.ensures in omega arith
+overflow_add-at c = let z = run_room _ _ _ _ _ _ _ c.loop-at.invariant.0 _ _ _ c.loop-at.invariant.1 c.loop-at-test.true _ c.size_of-at.ensures in omega arith
 
 pub loop-at-smaller : goal.loop-at-smaller
-loop-at-smaller c = let z = run_room _ _ _ _ _ _ _ c.loop-at.invariant.0 _ _ _ c.loop-at.invariant.1 c.loop-at-test.true _ c.type_size.ensures in omega arith
+loop-at-smaller c = let z = run_room _ _ _ _ _ _ _ c.loop-at.invariant.0 _ _ _ c.loop-at.invariant.1 c.loop-at-test.true _ c.size_of-at.ensures in omega arith
 
 pub loop-at-preserved : goal.loop-at-preserved
 loop-at-preserved c = (
   c.loop-at.invariant.0,
-  run_again _ _ _ _ _ _ _ c.loop-at.invariant.0 _ _ _ c.loop-at.invariant.1 c.loop-at-test.true _ c.type_size.ensures _ _
+  run_again _ _ _ _ _ _ _ c.loop-at.invariant.0 _ _ _ c.loop-at.invariant.1 c.loop-at-test.true _ c.size_of-at.ensures _ _
       c.put_part-m.ensures,
 )
 
