@@ -1,9 +1,17 @@
 use Rattle.junction.proofs.JunctionTurns.{pre_placed, children_few, states_first, turn_placed, turn_keyed, turn_both, turn_decides, turn_end, again_drop, again_keep, scanned_first, scanned_meets, scanned_next, scanned_skip, says_decides, says_keeps, says_drops}
 use mathlib.Core.Path.{refl, ◌∙◌}
-use mathlib.Core.Logic.{⊎_elim}
 use native.Mathlib.Omega.{arith}
 use borrow.Author.Count.{below_none}
 use Rattle.junction.proofs.absorb.Goals as goal
+use Rattle.junction.proofs.absorb.Goals.{
+  then-keys-j+else-opposite,
+  else-keys-j,
+  then-fresh,
+  else-fresh,
+  else-all-test,
+  then-all-test+then-tag-determinant,
+  then-all-test+else-tag-determinant+then-loop-j-test+then-keys-j+then-opposite,
+}
 
 pub arity_at-n-requires : goal.arity_at-n-requires
 arity_at-n-requires c = (pre_placed _ _ _ _ _ c.requires).0
@@ -55,12 +63,14 @@ loop-j-preserved c = let z = children_few _ _ _ _ _ c.requires _ c.arity_at-n.en
     let l = c.loop-j in
     let h = c.loop-j-test.true in
     let a = c.all in
-    ⊎_elim
-    (λ w. scanned_next _ _ _ _ _ _ _ _ _ _ l.invariant h (omega arith) _ w.2.ensures.0 _ w.3.ensures w.4.left _
-    w.5.ensures _ (w.7 ∙ w.6.ensures))
-    (λ w. rw w.1 (scanned_skip _ _ _ _ _ _ _ _ _ _ l.invariant h (omega arith) _ refl a.keys _ (a.invariant.5 l.j h) c.key_at-key.ensures
-    w.0.left))
-    c.if-keys-j.branch
+    elim c.if-keys-j.branch [
+      | then-keys-j+else-opposite w ↦
+          scanned_next _ _ _ _ _ _ _ _ _ _ l.invariant h (omega arith) _ w.wide16-p.ensures.0 _ w.opposite.ensures w.if-opposite.false _
+          w.same_at.ensures _ (w.fresh-is ∙ w.still-fresh.ensures)
+      | else-keys-j w ↦
+          rw w.fresh-is (scanned_skip _ _ _ _ _ _ _ _ _ _ l.invariant h (omega arith) _ refl a.keys _ (a.invariant.5 l.j h) c.key_at-key.ensures
+          w.if-keys-j.false)
+    ]
 
 pub overflow_cast-kept : goal.overflow_cast-kept
 overflow_cast-kept c = let z = (turn_placed _ _ _ _ _ _ _ c.arity_at-n.ensures _ _ _ _ c.all.invariant.3 c.all-test.true _ c.requires).1 in
@@ -86,27 +96,30 @@ all-preserved c = let z = children_few _ _ _ _ _ c.requires _ c.arity_at-n.ensur
     let m = c.arity_at-n.ensures in
     let a = c.all in
     let h = c.all-test.true in
-    ⊎_elim
-    (λ w. again_keep _ _ _ _ _ _ _ m z _ a.keys _ _ _ a.invariant h _ c.next_at-c.ensures.0
-    (says_keeps _ _ _ _ _ _ _ _ _ _ c.loop-j.invariant c.loop-j-test.false w.0.taken) _ c.key_at-key.ensures _ _ _
-    w.1 w.2 w.3)
-    (λ w. again_drop _ _ _ _ _ _ _ m z _ a.keys _ _ _ a.invariant h _ c.next_at-c.ensures.0
-    (says_drops _ _ _ _ _ _ _ _ _ _ c.loop-j.invariant c.loop-j-test.false w.0.left) _ _ _ w.1 w.2 w.3)
-    c.if-fresh.branch
+    elim c.if-fresh.branch [
+      | then-fresh w ↦
+          again_keep _ _ _ _ _ _ _ m z _ a.keys _ _ _ a.invariant h _ c.next_at-c.ensures.0
+          (says_keeps _ _ _ _ _ _ _ _ _ _ c.loop-j.invariant c.loop-j-test.false w.if-fresh.true) _ c.key_at-key.ensures _ _ _
+          w.kept-is w.keys-is w.m-is
+      | else-fresh w ↦
+          again_drop _ _ _ _ _ _ _ m z _ a.keys _ _ _ a.invariant h _ c.next_at-c.ensures.0
+          (says_drops _ _ _ _ _ _ _ _ _ _ c.loop-j.invariant c.loop-j-test.false w.if-fresh.false) _ _ _ w.kept-is w.keys-is w.m-is
+    ]
 
 pub returns-then-i-n : goal.returns-then-i-n
 returns-then-i-n c = let z = children_few _ _ _ _ _ c.requires _ c.arity_at-n.ensures in
     let m = c.arity_at-n.ensures in
     let a = c.all in
-    ⊎_elim
-    (λ w. absurd (omega arith))
-    (λ v. ⊎_elim
-    (λ w. turn_decides _ _ _ _ _ _ _ m _ _ _ _ a.invariant.3 w.0.taken _ a.invariant.1
-    (λ d. says_decides _ _ _ _ _ a.auto _ a.m _ w.1.ensures w.2.taken d))
-    (λ w. turn_decides _ _ _ _ _ _ _ m _ _ _ _ a.invariant.3 w.0.taken _ a.invariant.1
-    (λ d. scanned_meets _ _ _ _ _ _ _ _ _ _ w.5.inv w.6.taken (omega arith) _ w.9.ensures.0 _ w.10.ensures w.11.taken))
-    v)
-    c.all-test.branch
+    elim c.all-test.branch [
+      | else-all-test w ↦ absurd (omega arith)
+      | then-all-test+then-tag-determinant w ↦
+          turn_decides _ _ _ _ _ _ _ m _ _ _ _ a.invariant.3 w.all-test.true _ a.invariant.1
+          (λ d. says_decides _ _ _ _ _ a.kept _ a.m _ w.tag_at-tag.ensures w.if-tag-determinant.true d)
+      | then-all-test+else-tag-determinant+then-loop-j-test+then-keys-j+then-opposite w ↦
+          turn_decides _ _ _ _ _ _ _ m _ _ _ _ a.invariant.3 w.all-test.true _ a.invariant.1
+          (λ d. scanned_meets _ _ _ _ _ _ _ _ _ _ w.loop-j.invariant w.loop-j-test.true (omega arith) _ w.wide16-p.ensures.0 _ w.opposite.ensures
+          w.if-opposite.true)
+    ]
 
 pub returns-else-i-n : goal.returns-else-i-n
 returns-else-i-n c = turn_end _ _ _ _ _ _ _ c.arity_at-n.ensures _ _ _ _ c.all.invariant.3 c.if-i-n.false c.all.invariant.1
