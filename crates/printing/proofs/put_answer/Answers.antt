@@ -3,8 +3,14 @@ use Rattle.run.specs.Run.{REST, SPENT, FULL}
 use native.Mathlib.Omega.{arith}
 use Rattle.printing.proofs.put_answer.Goals as goal
 
+pub slice_bounds-put_ended-end-in-Rest : goal.slice_bounds-put_ended-end-in-Rest
+slice_bounds-put_ended-end-in-Rest c = ended_fits _ _ REST _ _ c.in-Rest.is c.requires.0
+
 pub slice_bounds-put_ended-end-in-Spent-2 : goal.slice_bounds-put_ended-end-in-Spent-2
-slice_bounds-put_ended-end-in-Spent-2 c = ended_fits _ _ REST _ _ c.a.given.1 c.requires.0
+slice_bounds-put_ended-end-in-Spent-2 c = ended_fits _ _ SPENT _ _ c.in-Spent.is c.requires.0
+
+pub slice_bounds-put_ended-end-in-Full-2 : goal.slice_bounds-put_ended-end-in-Full-2
+slice_bounds-put_ended-end-in-Full-2 c = ended_fits _ _ FULL _ _ c.in-Full.is c.requires.0
 
 pub put_ended-requires : goal.put_ended-requires
 put_ended-requires c = ended_room _ _ REST _ _ c.in-Rest.is c.requires.0 _ _ c.requires.1
