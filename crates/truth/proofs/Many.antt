@@ -101,5 +101,6 @@ module _ (I : Interpretation) (Γ : Ctx) where
 
   pub among_means : (k : Tree) (ks : Forest) → Among k ks → In (means I k Γ) (means_all I ks Γ)
   unfolding means
+  among_means k nil i = elim i [ ]
   among_means k (cons j ks) (inl e) = inl (ap (λ t. means I t Γ) e)
   among_means k (cons j ks) (inr i) = inr (among_means k ks i)
