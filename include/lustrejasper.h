@@ -1,7 +1,7 @@
 /* Lustrejasper: Event-B predicates as frames, checked, stepped and run. docs/PROMISES.md says what is proved of each function.
  *
- * Build the archive with `rt staticlib lustrejasper` and link target/staticlib/liblustrejasper.a. It needs nothing but a C library,
- * and is for x86-64 Linux.
+ * Build the archive with `tools/build lustrejasper_c` and link target/staticlib/liblustrejasper.a. It needs nothing but a C library,
+ * and is for x86-64 Linux. The crate lustrejasper_c exports the functions: a slice is passed as a pointer and then a length.
  *
  * What the caller sees to, since nothing checks it:
  *   - `frame` points to `frame_len` bytes that nobody writes during the call, `out` to `out_len` bytes that nobody else reads or

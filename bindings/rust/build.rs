@@ -1,4 +1,4 @@
-//! Links the archive that `rt staticlib lustrejasper` wrote. LUSTREJASPER_LIB names another folder that has it.
+//! Links the archive that `tools/build lustrejasper_c` wrote. LUSTREJASPER_LIB names another folder that has it.
 
 use std::env;
 use std::path::PathBuf;

@@ -1,4 +1,4 @@
-//! Reading frames, with the numbers 2 to 10 of document 01. It goes twice over the bytes: `scan` finds the numbers 3 to 9, `Builder`
+//! Reading frames, with the numbers 2 to 10 of docs/FRAMES.md. It goes twice over the bytes: `scan` finds the numbers 3 to 9, `Builder`
 //! makes the source's trees and finds number 10.
 use std::collections::{HashMap, HashSet};
 
@@ -339,7 +339,7 @@ impl Builder<'_> {
     }
 }
 
-/// The places of a frame in prefix order, or its number of document 01.
+/// The places of a frame in prefix order, or its number in docs/FRAMES.md.
 pub fn read(bytes: &[u8]) -> Result<Vec<Place>, u8> {
     if bytes.is_empty() || bytes.len() > FRAME_LIMIT {
         return Err(2);

@@ -182,7 +182,7 @@ fn limit_lines(out: &mut Vec<String>) {
     }
 }
 
-/// "Frames to try" and "Where students and ports slip" of document 01.
+/// "Frames to try" and "Where students and ports slip" of docs/FRAMES.md.
 fn document_lines(out: &mut Vec<String>) {
     let (bool, set) = (Type::Bool, Type::pow(Type::Bool));
     let relation = Type::relation(Type::Bool, Type::Bool);

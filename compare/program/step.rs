@@ -1,4 +1,4 @@
-//! Document 01's dispatch over the source's functions, the step at a place and the run.
+//! The dispatch of docs/FRAMES.md over the source's functions, the step at a place and the run.
 use rossi::formula::tag::{AtomicOp, RelationalOp};
 use rossi::formula::{Expression, ExpressionKind, Predicate, PredicateKind};
 
@@ -30,7 +30,7 @@ fn is_own_type(e: &Expression) -> bool {
     e.ty().and_then(|t| t.base_type()).is_some_and(|t| t.to_expression(e.factory()) == *e)
 }
 
-/// "Added by us" in document 01.
+/// "Added by us" in docs/FRAMES.md.
 fn relational(p: &Predicate, op: RelationalOp, left: &Expression, right: &Expression) -> Option<(u8, Predicate)> {
     let empty = |e: &Expression| rewrite_equals_empty_set(p, e).map(|q| (rules::equals_empty_set(e, &q), q));
     let ty = |e: &Expression| rewrite_equals_type(p, e).map(|q| (rules::by_tag(rules::EQUALS_TYPE, e.tag()), q));

@@ -6,7 +6,7 @@
 /// The bytes of the longest frame; a run asks for an output of so many.
 pub const FRAME_LIMIT: usize = 4096;
 
-/// A number of document 01, 2 to 12.
+/// What something is refused with: a number of README.md's table, 2 to 12.
 #[derive(Clone, Copy, Debug, PartialEq, Eq)]
 pub struct Refused(pub u8);
 

@@ -1,5 +1,5 @@
 //! Stand-in: predicates, with the variants and fields that the source's files name; their hashes and sameness, after those of
-//! expressions in expression.rs; and their typing rules (document 01, number 10; the Event-B Mathematical Language).
+//! expressions in expression.rs; and their typing rules (docs/FRAMES.md, number 10; the Event-B Mathematical Language).
 use std::sync::Arc;
 
 use crate::ast::Span;

@@ -1,4 +1,4 @@
-//! Stand-in: the five types of document 01 and their type expressions ("The type record").
+//! Stand-in: the five types of docs/FRAMES.md and their type expressions ("The type record").
 use std::sync::Arc;
 
 use super::expression::Expression;

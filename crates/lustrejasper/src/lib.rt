@@ -1,4 +1,5 @@
-// The static library: check, step and run for programs in C, Rust and other languages. include/lustrejasper.h declares them.
+// The library: check, step and run, each with its answer as one number of 64 bits. The crate lustrejasper_c hands them to programs in
+// C, Rust and other languages.
 #![tactic(auto)]
 
 ghost use Rattle.std.specs.Prelude.{◌≡◌, length};
@@ -10,8 +11,7 @@ ghost use Rattle.words.specs.Words.{check_word, step_word, run_word};
 use words::{check_word, run_word, step_word};
 
 // Whether the frame is accepted: 0, else the number, 2 to 10.
-#[unsafe(no_mangle)]
-pub extern "C" fn lustrejasper_check(frame: &[u8]) -> u64
+pub fn lustrejasper_check(frame: &[u8]) -> u64
     ensures { result ≡ check_word (check_answer (checked frame.now)) }
 {
     let a = checking::check(frame);
@@ -19,8 +19,7 @@ pub extern "C" fn lustrejasper_check(frame: &[u8]) -> u64
 }
 
 // The step at a place of the frame.
-#[unsafe(no_mangle)]
-pub extern "C" fn lustrejasper_step(frame: &[u8], place: u64, out: &mut [u8]) -> u64
+pub fn lustrejasper_step(frame: &[u8], place: u64, out: &mut [u8]) -> u64
     ensures { (result ≡ step_word (step_answer (stepped frame.now place (length out.old)))) × (out.new ≡ step_output (stepped frame.now place (length out.old)) out.old) }
 {
     let a = stepping::step(frame, place as usize, out);
@@ -28,8 +27,7 @@ pub extern "C" fn lustrejasper_step(frame: &[u8], place: u64, out: &mut [u8]) ->
 }
 
 // The run of the frame, of at most `budget` steps.
-#[unsafe(no_mangle)]
-pub extern "C" fn lustrejasper_run(frame: &[u8], budget: u32, out: &mut [u8]) -> u64
+pub fn lustrejasper_run(frame: &[u8], budget: u32, out: &mut [u8]) -> u64
     ensures { (result ≡ run_word (run_answer (ran frame.now budget (length out.old)))) × (out.new ≡ run_output (ran frame.now budget (length out.old)) out.old) }
 {
     let a = running::run(frame, budget, out);
