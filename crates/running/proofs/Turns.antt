@@ -23,7 +23,7 @@ use Rattle.output.specs.declared.Admitted.TheVariants as D
 use Rattle.copies.proofs.Fronts.{front_keeps, front_is}
 use Rattle.typing.specs.declared.CheckAnswer.{CheckAnswer}
 use Rattle.run.specs.Run.{next, first_step, run_tree, RunOutcome, ended, turned_down, ended_by, run_on, run, word_answer, run_answer, run_output}
-use Rattle.run.proofs.Runs.{first_step}
+use Rattle.run.proofs.Runs.{first_step_lem}
 use Rattle.run.specs.declared.RunAnswer.{RunAnswer}
 use Rattle.run.specs.declared.RunAnswer.TheVariants as A
 use Rattle.turn.specs.TurnPosts.{TurnPre, GoesOn, Follows, TurnPost}
@@ -54,7 +54,7 @@ bytes_take n l b i = go (ltb i n) refl
 next_checks : (s : List ℕ) → Bytes s → (u w : Tree) → check s ≡ accepted u → first_step u ≡ next w → length (enc w) ≤ 4096 → check (enc w) ≡ accepted w
 next_checks s b u w e f l =
     let a = check_accepts s b u e in
-    let o = first_step u w f in
+    let o = first_step_lem u w f in
     check_back (signature u) w (step_accepted (signature u) u o.k o.place w a.accepted o.is) l
 
 module _ (held₀ : List ℕ) (start budget : ℕ) where
