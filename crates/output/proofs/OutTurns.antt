@@ -12,7 +12,7 @@ use Rattle.copies.proofs.Fronts.{front_is}
 use Rattle.typing.specs.Check.{check}
 use Rattle.typing.specs.declared.CheckAnswer.{CheckAnswer}
 use Rattle.typing.specs.declared.CheckAnswer.TheVariants as C
-use Rattle.typing.proofs.Answers.{accepted-is, refused-is}
+use Rattle.typing.proofs.Answers.{accepted_is, refused_is}
 use Rattle.put.proofs.Puts.{wrote_held, wrote_full}
 use Rattle.step.specs.Step.{Outcome, wrote, turned_down, fit, step_answer, step_output}
 use Rattle.step.specs.declared.StepAnswer.TheVariants as A
@@ -66,7 +66,7 @@ module _ (scratch : List ℕ) (m : ℕ) (o : List ℕ) where
 module _ (a : CheckAnswer) (lent : ℕ) where
   pub admit_refused : (c : ℕ) → a ≡ C.Refused c → AdmitPost a lent (D.Refused c)
   unfolding R.run
-  admit_refused c e = record { admits = λ s ea budget. ap (R.run_on budget lent) (refused-is (check s) c (sym e ∙ ea)) }
+  admit_refused c e = record { admits = λ s ea budget. ap (R.run_on budget lent) (refused_is (check s) c (sym e ∙ ea)) }
 
   module _ (m : ℕ) (e : a ≡ C.Accepted m) where
     pub admit_short : lent < 4096 → AdmitPost a lent (D.Refused 12)
@@ -74,10 +74,10 @@ module _ (a : CheckAnswer) (lent : ℕ) where
     admit_short h =
         record {
           admits = λ s ea budget.
-              (let t = accepted-is (check s) m (sym e ∙ ea) in
+              (let t = accepted_is (check s) m (sym e ∙ ea) in
               ap (R.run_on budget lent) t.1.0 ∙ ap
               (λ (x : Bool). pick x (R.turned_down 12) (R.ended_by (R.run_tree budget 0 t.0))) (lt-ltb lent 4096 h));
         }
 
     pub admit_goes : 4096 ≤ lent → AdmitPost a lent D.Goes
-    admit_goes h = record { admits = λ s ea. (let t = accepted-is (check s) m (sym e ∙ ea) in (t.0, t.1.0, h)) }
+    admit_goes h = record { admits = λ s ea. (let t = accepted_is (check s) m (sym e ∙ ea) in (t.0, t.1.0, h)) }

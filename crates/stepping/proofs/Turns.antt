@@ -54,7 +54,7 @@ use Rattle.typing.specs.declared.CheckAnswer.TheVariants as C
 use Rattle.build.specs.SplicePosts.{Decided, SplicePre, SplicePost}
 use Rattle.output.specs.OutPosts.{OutPre, OutPost}
 use Rattle.checking.specs.Posts.{ReadPre as WasRead}
-use Rattle.typing.proofs.Answers.{accepted-is, refused-is}
+use Rattle.typing.proofs.Answers.{accepted_is, refused_is}
 use Rattle.stepping.specs.Posts.{HeldPre, ReadPre, StepPost}
 
 -- ---- `step_held`
@@ -151,7 +151,7 @@ module _ (s : List ℕ) (k : ℕ) (o : List ℕ) where
       record { answer = sym (ap step_answer z); output = sym (ap (λ (x : Outcome). step_output x o) z) }
 
   pub read_refused : (leaves : List ℕ) (a : CheckAnswer) → TreePost s leaves a → (c : ℕ) → a ≡ C.Refused c → StepPost s k o o (A.Refused c)
-  read_refused leaves a pa c e = turned_down_lem c (refused-is (check s) c (sym e ∙ pa.answer))
+  read_refused leaves a pa c e = turned_down_lem c (refused_is (check s) c (sym e ∙ pa.answer))
 
 -- a frame that is accepted was read as that tree
 read_tree : (s : List ℕ) → Bytes s → (n : ℕ) → WasRead s n → (t : Tree) → check s ≡ accepted t → (parse s ≡ tree t) × (n ≡ nodes t)
@@ -164,7 +164,7 @@ read_tree s b n w t e =
 module _ (s : List ℕ) (b : Bytes s) (n : ℕ) (st : List ℕ) (p : ReadPre s n st) where
   pub read_held : (leaves : List ℕ) (a : CheckAnswer) → TreePost s leaves a → (m : ℕ) → a ≡ C.Accepted m → HeldPre s n st leaves
   read_held leaves a pa m e =
-      let x = accepted-is (check s) m (sym e ∙ pa.answer) in
+      let x = accepted_is (check s) m (sym e ∙ pa.answer) in
       let t = x.0 in
       let w = check_accepts s b t x.1.0 in
       let r = read_tree s b n p.was t x.1.0 in
@@ -181,4 +181,4 @@ module _ (s : List ℕ) (b : Bytes s) (n : ℕ) (st : List ℕ) (p : ReadPre s n
 -- ---- `step`
 module _ (s : List ℕ) (k : ℕ) (o : List ℕ) where
   pub step_refused : (c : ℕ) → C.Refused c ≡ check_answer (check s) → StepPost s k o o (A.Refused c)
-  step_refused c e = turned_down_lem s k o c (refused-is (check s) c e)
+  step_refused c e = turned_down_lem s k o c (refused_is (check s) c e)

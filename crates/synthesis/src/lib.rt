@@ -165,7 +165,7 @@ fn one_turn(
     }
 }
 
-// All turns, from the root that was opened. Proved by hand, as is whatever has the stack.
+// All turns, from the root that was opened.
 fn turns(
     s: &[u8],
     leaves: &[u16; 2048],

@@ -1,5 +1,5 @@
-// The nodes that are open while a tree is typed: a slice of records that the caller lends, and that only push and pop touch. A
-// reference to records is proved by hand, so these two stay thin, and all that decides anything has records by value.
+// The nodes that are open while a tree is typed: a slice of records that the caller lends, and that only push and pop touch. All that
+// decides anything has records by value.
 ghost use Rattle.std.specs.Prelude.{◌≡◌, ◌<◌, length, get_or, set};
 ghost use Rattle.synthesis.specs.OpenNodes.{no_node};
 

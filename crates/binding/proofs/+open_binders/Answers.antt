@@ -4,7 +4,6 @@ use mathlib.Core.Path.{◌∙◌}
 use Rattle.binding.proofs.OpenBinders.{binders_room, binders_first, binders_after, open_none, open_more}
 use Rattle.binding.proofs.+open_binders.Goals as goal
 
--- what the calls ask and answer
 pub returns-then-end-at : goal.returns-then-end-at
 returns-then-end-at t c = open_none _ _ _ _ _ (omega arith)
 

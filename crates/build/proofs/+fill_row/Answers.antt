@@ -2,7 +2,6 @@ use Rattle.build.proofs.SubtreeTurns.{fill_row_none, fill_row_first, fill_row_fe
 use native.Mathlib.Omega.{arith}
 use Rattle.build.proofs.+fill_row.Goals as goal
 
--- what the calls ask and answer
 pub returns-then-m-eq0 : goal.returns-then-m-eq0
 returns-then-m-eq0 t c = fill_row_none _ _ _ _ _ _ _ _ _ c.if-m-eq0.true _ _
 

@@ -2,7 +2,6 @@ use Rattle.functional.proofs.RowTurns.{row_placed, row_few, row_far, row_kids, r
 use native.Mathlib.Omega.{arith}
 use Rattle.functional.proofs.+named_in.Goals as goal
 
--- what the calls ask and answer
 pub returns-then-m-eq0 : goal.returns-then-m-eq0
 returns-then-m-eq0 t c = named_none _ _ _ _ _ _ _ _ c.if-m-eq0.true
 

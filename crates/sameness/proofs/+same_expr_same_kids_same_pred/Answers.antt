@@ -2,9 +2,6 @@ use native.Mathlib.Omega.{arith}
 use Rattle.sameness.proofs.SameTurns.{node_differ, node_both, node_kids, kids_none, kids_first, kids_no, kids_rest, kids_yes, at_sort, of_sort}
 use Rattle.sameness.proofs.+same_expr_same_kids_same_pred.Goals as goal
 
--- what the calls ask and answer
--- what the calls ask and answer
--- what the calls ask and answer
 pub same_expr-same_heads-h-requires : goal.same_expr-same_heads-h-requires
 same_expr-same_heads-h-requires t c = c.requires
 
@@ -18,9 +15,6 @@ same_expr-returns-in-Differ t c = node_differ _ _ _ _ _ c.same_heads-h.ensures c
 pub same_expr-returns-in-Agree : goal.same_expr-returns-in-Agree
 same_expr-returns-in-Agree t c = node_kids _ _ _ _ _ c.same_heads-h.ensures _ _ _ _ _ c.in-Agree.is _ c.same_kids.ensures
 
--- what the calls ask and answer
--- what the calls ask and answer
--- what the calls ask and answer
 pub same_kids-returns-then-n-eq0 : goal.same_kids-returns-then-n-eq0
 same_kids-returns-then-n-eq0 t c = kids_none _ _ _ _ _ _ c.if-n-eq0.true
 
@@ -56,9 +50,6 @@ pub same_kids-returns-in-Yes-x : goal.same_kids-returns-in-Yes-x
 same_kids-returns-in-Yes-x t c = kids_yes _ _ c.args.first c.args.later _ _ c.if-n-eq0.false _ (of_sort c.if-first.false c.same_pred-x.ensures) _ _
     c.in-Yes-x.is _ c.same_kids-in-Yes-x.ensures
 
--- what the calls ask and answer
--- what the calls ask and answer
--- what the calls ask and answer
 pub same_pred-same_heads-h-requires : goal.same_pred-same_heads-h-requires
 same_pred-same_heads-h-requires t c = c.requires
 

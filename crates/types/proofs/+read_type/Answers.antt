@@ -23,7 +23,6 @@ use Rattle.types.proofs.read_type.Kinds as read-type-kinds
 use Rattle.types.proofs.+read_type.Lts-read_type as read-type-lts
 use Rattle.types.proofs.given_number.Reads as given-number-reads
 
--- what the calls ask and answer
 pub returns-then-lim-at : goal.returns-then-lim-at
 returns-then-lim-at t c = ty_past _ _ _ c.requires.1 c.if-lim-at.true
 

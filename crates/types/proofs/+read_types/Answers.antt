@@ -21,7 +21,6 @@ use Rattle.types.proofs.read_types.Kinds as read-types-kinds
 use Rattle.types.proofs.+read_types.Lts-read_types as read-types-lts
 use Rattle.types.proofs.read_type.Reads as read-type-reads
 
--- what the calls ask and answer
 pub returns-then-n-eq0 : goal.returns-then-n-eq0
 returns-then-n-eq0 t c = tys_none _ _ _ c.if-n-eq0.true
 

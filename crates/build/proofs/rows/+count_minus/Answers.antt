@@ -3,7 +3,6 @@ use Rattle.build.proofs.RowTurns.{in_placed, row_first, row_rest, minus_none, mi
 use native.Mathlib.Omega.{arith}
 use Rattle.build.proofs.rows.+count_minus.Goals as goal
 
--- what the calls ask and answer
 pub returns-then-m-eq0 : goal.returns-then-m-eq0
 returns-then-m-eq0 t c = minus_none _ _ _ _ _ _ c.if-m-eq0.true
 

@@ -2,7 +2,6 @@ use Rattle.build.proofs.RowTurns.{kept_none, kept_place, kept_rest, kept_more}
 use native.Mathlib.Omega.{arith}
 use Rattle.build.proofs.rows.+put_kept.Goals as goal
 
--- what the calls ask and answer
 pub returns-then-m-i : goal.returns-then-m-i
 returns-then-m-i t c = kept_none _ _ _ _ _ c.requires.long _ _ c.if-m-i.true _ _
 

@@ -3,7 +3,6 @@ use Rattle.build.proofs.RowTurns.{row_none, row_first, row_rest, row_more}
 use native.Mathlib.Omega.{arith}
 use Rattle.build.proofs.rows.+put_row.Goals as goal
 
--- what the calls ask and answer
 pub returns-then-m-eq0 : goal.returns-then-m-eq0
 returns-then-m-eq0 t c = row_none _ _ _ _ _ _ c.if-m-eq0.true _ _ _
 

@@ -3,7 +3,6 @@ use Rattle.decision.proofs.TwoPlaces.{both_placed, two_few}
 use native.Mathlib.Omega.{arith}
 use Rattle.decision.proofs.contains.+contains_in.Goals as goal
 
--- what the calls ask and answer
 pub returns-then-m-eq0 : goal.returns-then-m-eq0
 returns-then-m-eq0 t c = contains_none _ _ _ _ _ _ _ c.if-m-eq0.true
 

@@ -2,7 +2,6 @@ use native.Mathlib.Omega.{arith}
 use Rattle.put.proofs.TypeBytes.{type_within, has_four, has_pow, has_left, has_right, right_further, given_within, write_bool, write_int, write_given, write_pow, write_prod}
 use Rattle.put.proofs.type_expression.+to_expression.Goals as goal
 
--- what the calls ask and answer
 pub bounds-types-at : goal.bounds-types-at
 bounds-types-at t c = type_within _ _ c.requires
 

@@ -6,7 +6,6 @@ use native.Mathlib.Omega.{arith}
 use mathlib.Core.Path.{refl}
 use Rattle.rewriter.proofs.equals.own_type.+own_type_at.Goals as goal
 
--- what the calls ask and answer
 pub tag_at-tag-requires : goal.tag_at-tag-requires
 tag_at-tag-requires t c = here_placed c.requires
 
