@@ -12,7 +12,7 @@ const DIGIT_LIMIT: usize = 8192;
 
 // What is kept of a line's characters. `count` is how many there were; past 8,192 only whether that is odd, as 8,193 or 8,194, so
 // that a line may have any length. `high` is the digit that waits for its second, and 16 for good once a character was no digit.
-#[derive(Drop)]
+#[derive(Clone, Copy)]
 pub struct LineState {
     pub count: usize,
     pub high: u8,

@@ -1,6 +1,6 @@
 // What is printed of an answer, and of an output that shows which of its bytes were written.
-use libc::STDOUT_FILENO;
 use run::RunAnswer;
+use std::io;
 use step::StepAnswer;
 
 // What the output holds before the call: bytes that go by their place, so that one that was written or moved is seen.
@@ -29,57 +29,56 @@ fn kept(out: &[u8], from: usize) -> bool {
 }
 
 // The text in the first n bytes.
-fn print_part(s: &[u8], n: usize) {
+fn print_part(rt: &impl Print, s: &[u8], n: usize) -> io::Result<()> {
     if n <= s.len() {
-        io::write_all(STDOUT_FILENO, &s[..n]);
+        rt.write_all(&s[..n])?;
     }
+    Ok(())
 }
 
 // The frame in the first n bytes of the output; behind that no byte may have been written.
-fn print_output(out: &[u8], n: usize) {
+fn print_output(rt: &impl Print, out: &[u8], n: usize) -> io::Result<()> {
     if n <= out.len() {
         let mut text = [0u8; 8192];
         let m = lines::write_line(&out[..n], &mut text);
-        print_part(&text, m)
+        print_part(rt, &text, m)?;
     }
     if !kept(out, n) {
-        io::write_all(STDOUT_FILENO, b" TOUCHED");
+        print!(rt; " TOUCHED")?;
     }
+    Ok(())
 }
 
-pub fn print_refused(number: u8, out: &[u8]) {
-    io::write_all(STDOUT_FILENO, b"REFUSED ");
-    io::print_decimal(STDOUT_FILENO, number as u64);
-    print_output(out, 0)
+pub fn print_refused(rt: &impl Print, number: u8, out: &[u8]) -> io::Result<()> {
+    print!(rt; "REFUSED {number}")?;
+    print_output(rt, out, 0)
 }
 
-pub fn print_step(answer: StepAnswer, out: &[u8]) {
+pub fn print_step(rt: &impl Print, answer: StepAnswer, out: &[u8]) -> io::Result<()> {
     match answer {
         StepAnswer::Unchanged => {
-            io::write_all(STDOUT_FILENO, b"UNCHANGED");
-            print_output(out, 0)
+            print!(rt; "UNCHANGED")?;
+            print_output(rt, out, 0)
         }
         StepAnswer::Changed(n) => {
-            io::write_all(STDOUT_FILENO, b"CHANGED ");
-            print_output(out, n)
+            print!(rt; "CHANGED ")?;
+            print_output(rt, out, n)
         }
-        StepAnswer::Refused(c) => print_refused(c, out),
+        StepAnswer::Refused(c) => print_refused(rt, c, out),
     }
 }
 
-// A run that ended: its word with a space after it, the count of steps, the last frame.
-fn print_ended(word: &[u8], count: u32, out: &[u8], n: usize) {
-    io::write_all(STDOUT_FILENO, word);
-    io::print_decimal(STDOUT_FILENO, count as u64);
-    io::write_all(STDOUT_FILENO, b" ");
-    print_output(out, n)
+// A run that ended: its word, the count of steps, the last frame.
+fn print_ended(rt: &impl Print, word: &str, count: u32, out: &[u8], n: usize) -> io::Result<()> {
+    print!(rt; "{word} {count} ")?;
+    print_output(rt, out, n)
 }
 
-pub fn print_run(answer: RunAnswer, out: &[u8]) {
+pub fn print_run(rt: &impl Print, answer: RunAnswer, out: &[u8]) -> io::Result<()> {
     match answer {
-        RunAnswer::Rest(count, n) => print_ended(b"REST ", count, out, n),
-        RunAnswer::Spent(count, n) => print_ended(b"SPENT ", count, out, n),
-        RunAnswer::Full(count, n) => print_ended(b"FULL ", count, out, n),
-        RunAnswer::Refused(c) => print_refused(c, out),
+        RunAnswer::Rest(count, n) => print_ended(rt, "REST", count, out, n),
+        RunAnswer::Spent(count, n) => print_ended(rt, "SPENT", count, out, n),
+        RunAnswer::Full(count, n) => print_ended(rt, "FULL", count, out, n),
+        RunAnswer::Refused(c) => print_refused(rt, c, out),
     }
 }

@@ -1,7 +1,8 @@
 // The lines that the program reads, of three forms, and its input, a byte at a time.
 use frame::refusals::BAD_LINE;
-use libc::STDIN_FILENO;
 use lines::{LineAnswer, LineState};
+use std::io;
+use std::io::Read;
 
 // The most that a line may lend.
 pub const LENT_LIMIT: usize = 8192;
@@ -31,7 +32,7 @@ const FRAME: u8 = 6;
 
 const MALFORMED: u8 = 7;
 
-#[derive(Drop)]
+#[derive(Clone, Copy)]
 pub struct Line {
     pub part: u8,
     pub form: u8,
@@ -167,22 +168,21 @@ pub enum Next {
     End,
 }
 
-pub fn next_byte(input: Input, space: &mut [u8]) -> Next {
+pub fn next_byte(stdin: &mut impl Read, input: Input, space: &mut [u8]) -> io::Result<Next> {
     let at = input.at;
     let end = input.end;
     if at < end && at < space.len() {
-        return Next::Byte(
+        return Ok(Next::Byte(
             space[at],
             Input {
                 at: at + 1,
                 end: end,
             },
-        );
+        ));
     }
-    let got = libc::read(STDIN_FILENO, space);
-    let n = io::count(got, space);
+    let n = stdin.read(space)?;
     if n == 0 {
-        return Next::End;
+        return Ok(Next::End);
     }
-    Next::Byte(space[0], Input { at: 1, end: n })
+    Ok(Next::Byte(space[0], Input { at: 1, end: n }))
 }

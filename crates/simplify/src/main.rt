@@ -11,8 +11,11 @@ ghost use Rattle.printing.specs.AnswerPosts.{longest};
 ghost use Rattle.simplify.specs.Posts.{PiecePost, ReadPost};
 
 use crate::streaming::{feed, finish};
-use libc::{STDERR_FILENO, STDIN_FILENO, STDOUT_FILENO};
 use lines::{LineState, line_start};
+use std::io::{Read, Write};
+
+// The bytes of a large buffer: a loop that moves much data would spend its time on calls of fewer.
+const LARGE: usize = 65536;
 
 // The line that goes on, and whether there may be more input.
 #[derive(Drop)]
@@ -22,16 +25,23 @@ struct Turn {
 }
 
 // Whether the answers could be written; where they could not, standard error says so.
-fn written(answers: &[u8]) -> bool {
-    if io::write_all(STDOUT_FILENO, answers) {
+fn written(rt: &impl Eprint, stdout: &mut impl Write, answers: &[u8]) -> bool {
+    if stdout.write_all(answers).is_ok() {
         return true;
     }
-    io::write_all(STDERR_FILENO, b"simplify: cannot write\n");
+    let _ = eprintln!(rt; "simplify: cannot write");
     false
 }
 
 // The answers of the lines that end in the piece. Where the output takes no more, nothing more is read or written.
-fn write_answers(state: LineState, piece: &[u8], buf: &mut [u8; 4096], out: &mut [u8]) -> Turn
+fn write_answers(
+    rt: &impl Eprint,
+    stdout: &mut impl Write,
+    state: LineState,
+    piece: &[u8],
+    buf: &mut [u8; 4096],
+    out: &mut [u8],
+) -> Turn
     requires { longest ≤ length out.old }
     ensures { PiecePost piece.now state buf.old result.line result.more buf.new }
 {
@@ -40,7 +50,7 @@ fn write_answers(state: LineState, piece: &[u8], buf: &mut [u8; 4096], out: &mut
     while at < piece.len() {
         let fed = feed(line, &piece[at..], buf, out);
         let n = fed.wrote;
-        if !written(&out[..n]) {
+        if !written(rt, stdout, &out[..n]) {
             return Turn {
                 line: line_start(),
                 more: false,
@@ -56,36 +66,49 @@ fn write_answers(state: LineState, piece: &[u8], buf: &mut [u8; 4096], out: &mut
 }
 
 // One piece of the input, as large as one read gives. Where reading fails, the line that was begun may not be whole, and gets no answer.
-fn read_piece(state: LineState, input: &mut [u8], buf: &mut [u8; 4096], out: &mut [u8]) -> Turn
+fn read_piece(
+    rt: &impl Eprint,
+    stdin: &mut impl Read,
+    stdout: &mut impl Write,
+    state: LineState,
+    input: &mut [u8],
+    buf: &mut [u8; 4096],
+    out: &mut [u8],
+) -> Turn
     requires { longest ≤ length out.old }
     ensures { ReadPost input.new state buf.old result.line result.more buf.new }
 {
-    let got = libc::read(STDIN_FILENO, input);
-    if got < 0 {
-        io::write_all(STDERR_FILENO, b"simplify: cannot read\n");
+    let Ok(n) = stdin.read(input) else {
+        let _ = eprintln!(rt; "simplify: cannot read");
         return Turn {
             line: line_start(),
             more: false,
         };
-    }
-    if got == 0 {
+    };
+    if n == 0 {
         return Turn {
             line: state,
             more: false,
         };
     }
-    let n = io::count(got, input);
-    write_answers(state, &input[..n], buf, out)
+    write_answers(rt, stdout, state, &input[..n], buf, out)
 }
 
 // A proved loop has to end, and nothing says that the input does: no run uses up so many turns.
-fn read_all(input: &mut [u8], buf: &mut [u8; 4096], out: &mut [u8]) -> LineState
+fn read_all(
+    rt: &impl Eprint,
+    stdin: &mut impl Read,
+    stdout: &mut impl Write,
+    input: &mut [u8],
+    buf: &mut [u8; 4096],
+    out: &mut [u8],
+) -> LineState
     requires { longest ≤ length out.old }
 {
     let mut line = line_start();
     let mut turns = u64::MAX;
     while turns > 0 {
-        let turn = read_piece(line, input, buf, out);
+        let turn = read_piece(rt, stdin, stdout, line, input, buf, out);
         line = turn.line;
         if !turn.more {
             return line;
@@ -95,11 +118,13 @@ fn read_all(input: &mut [u8], buf: &mut [u8; 4096], out: &mut [u8]) -> LineState
     line
 }
 
-fn main() {
-    let mut input = io::large_buffer();
-    let mut out = io::large_buffer();
-    let mut buf = io::buffer();
-    let line = read_all(&mut input, &mut buf, &mut out);
+fn main(rt: HostRuntime) {
+    let mut stdin = rt.stdin();
+    let mut stdout = rt.stdout();
+    let mut input = [0u8; LARGE];
+    let mut out = [0u8; LARGE];
+    let mut buf = [0u8; 4096];
+    let line = read_all(&rt, &mut stdin, &mut stdout, &mut input, &mut buf, &mut out);
     let n = finish(line, &buf, &mut out);
-    written(&out[..n]);
+    written(&rt, &mut stdout, &out[..n]);
 }
