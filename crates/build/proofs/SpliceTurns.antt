@@ -10,13 +10,11 @@ use Rattle.frame.specs.Tags.{predicate}
 use Rattle.frame.specs.Encoding.{enc, starts}
 use Rattle.frame.specs.Places.{Ctx, found, find}
 use Rattle.frame.proofs.Splices.{find_lt, splice_bytes}
-use Rattle.typing.specs.Check.{accepted}
 use Rattle.typing.specs.Accepted.{Accepted}
 use Rattle.typing.specs.Signature.{signature}
 use Rattle.typing.proofs.Decides.{accepted_wf}
 use Rattle.nav.specs.PlaceTables.{Table, PlacedIn, EndAtPost}
 use Rattle.nav.proofs.Hops.{framed_few}
-use Rattle.rules.specs.Change.{to}
 use Rattle.rules.specs.Dispatch.{dispatch}
 use Rattle.rules.proofs.Instance.{instance}
 use Rattle.rules.proofs.EquationAccepted.{equation_accepted}
@@ -27,7 +25,6 @@ use Rattle.decision.specs.declared.Decision.{Decision}
 use Rattle.filling.specs.Operands.{Held}
 use Rattle.build.specs.Subtree.{BuildPre, BuildPost, Formed, OfDecision}
 use Rattle.filling.proofs.Subtrees.{span_at}
-use Rattle.step.specs.Step.{wrote}
 use Rattle.step.proofs.Places.{accepted_at}
 use Rattle.step.proofs.Steps.{as_predicate}
 use Rattle.build.specs.SplicePosts.{Decided, SplicePre, SplicePost}

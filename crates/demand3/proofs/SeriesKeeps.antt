@@ -10,7 +10,6 @@ use Rattle.frame.specs.Trees.{Tree}
 use Rattle.frame.specs.Tags.{predicate}
 use Rattle.typing.specs.Accepted.{Accepted}
 use Rattle.typing.specs.Signature.{signature}
-use Rattle.typing.specs.Check.{accepted}
 use Rattle.typing.proofs.Checked.{check_accepts}
 use Rattle.step.specs.Step.{changed, step_tree}
 use Rattle.step.proofs.Steps.{step_inv, old_accepted, old_predicate, step_instance, step_accepted}

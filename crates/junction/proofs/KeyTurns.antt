@@ -3,13 +3,13 @@
 use mathlib.Core.Path.{◌≡◌, refl, sym, ap, ap₂, ◌∙◌}
 use mathlib.Core.Bool.{Bool, true, false}
 use mathlib.Core.List.{List, [], ◌∷◌, ◌++◌, append-nil}
-use Prim.Native.Nat.{ℕ, zero, suc, ◌+◌, ◌-◌, ◌*◌, ◌%◌, ◌≤◌, ◌<◌}
+use Prim.Native.Nat.{ℕ, suc, ◌+◌, ◌-◌, ◌%◌, ◌≤◌, ◌<◌}
 use native.Mathlib.Omega.{arith}
 use lib.Dec.{eqb}
 use lib.ListN.{length, take, drop, get_or}
 use lib.Seq.{drop-cons}
 use borrow.Author.Tests.{eqb-true, eqb-false}
-use Rattle.frame.specs.Trees.{Tree, node, tag_of, nodes, one}
+use Rattle.frame.specs.Trees.{Tree, node, tag_of, one}
 use Rattle.frame.specs.Encoding.{enc_number, enc_tys, enc_head, enc, encs}
 use Rattle.frame.specs.Tags.{lookup, class_of, form_at}
 use Rattle.frame.specs.Sameness.{same_tree}

@@ -11,7 +11,7 @@ use Rattle.frame.proofs.Spans.{span_first, span_left, span_right}
 use Rattle.frame.proofs.Numbers.{number_length}
 use Rattle.put.specs.Out.{Puts}
 use Rattle.put.specs.Copied.{between}
-use Rattle.templates.specs.Template.{Mode, whole, Part, tag, byte, operand, type, expression, binders, Filling, operand_at, type_at, part_bytes, filled}
+use Rattle.templates.specs.Template.{Mode, Part, tag, byte, operand, type, expression, binders, Filling, operand_at, type_at, part_bytes, filled}
 use Rattle.templates.specs.Programs.{mode_code, op_of, code, program, ProgramAt}
 use Rattle.parts.specs.Holds.{
   from_of,

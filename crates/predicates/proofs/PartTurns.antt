@@ -6,7 +6,7 @@ use Prim.Native.Nat.{ℕ, ◌+◌, ◌<◌}
 use native.Mathlib.Omega.{arith}
 use lib.ListN.{get_or}
 use Rattle.frame.specs.Types.{Ty}
-use Rattle.frame.specs.Trees.{head, Tree, node, Forest, nil, cons, count, two, many}
+use Rattle.frame.specs.Trees.{head, Tree, node, Forest, nil, cons, count, two}
 use Rattle.frame.specs.Tags.{lookup, class_of, form_at}
 use Rattle.frame.specs.Operators.{#Equal}
 use Rattle.frame.specs.Places.{Ctx, found, find}

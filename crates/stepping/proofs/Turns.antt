@@ -9,14 +9,13 @@ use lib.ListN.{length}
 use Rattle.frame.specs.Trees.{Tree, nodes}
 use Rattle.tags.specs.TagCodes.{is_expression}
 use Rattle.tags.proofs.FormTables.{expression_not, predicate_is}
-use Rattle.frame.specs.Encoding.{enc, starts}
+use Rattle.frame.specs.Encoding.{enc}
 use Rattle.frame.specs.Reading.{tree, parse}
 use Rattle.frame.specs.Spans.{Bytes}
 use Rattle.frame.specs.Places.{Ctx, found, find, replace}
 use Rattle.frame.proofs.Splices.{find_some, find_none}
 use Rattle.frame.proofs.Frames.{parse_enc}
 use Rattle.typing.specs.Check.{accepted, refused, check_tree, check_parsed, check, check_answer}
-use Rattle.typing.specs.Accepted.{Accepted}
 use Rattle.typing.proofs.Checked.{check_accepts}
 use Rattle.typing.proofs.Decides.{check_accepted}
 use Rattle.nav.specs.PlaceTables.{Framed, Table, NextsPre, NextsPost, Placed, SortPost, sort_of}
@@ -29,22 +28,7 @@ use Rattle.decision.specs.Dispatching.{DispatchPre, DispatchPost}
 use Rattle.decision.specs.Decision.{Means}
 use Rattle.decision.proofs.Series.{none_first, changes}
 use Rattle.decision.specs.declared.Decision.{Decision}
-use Rattle.step.specs.Step.{
-  no_place,
-  is_predicate,
-  step_found,
-  step_tree,
-  Outcome,
-  wrote,
-  kept,
-  turned_down,
-  fit,
-  outcome_of,
-  outcome_on,
-  step,
-  step_answer,
-  step_output,
-}
+use Rattle.step.specs.Step.{no_place, is_predicate, step_found, step_tree, Outcome, kept, turned_down, fit, outcome_of, outcome_on, step, step_answer, step_output}
 use Rattle.step.specs.declared.StepAnswer.{StepAnswer}
 use Rattle.step.specs.declared.StepAnswer.TheVariants as A
 use Rattle.step.proofs.Steps.{step_predicate, step_expression}

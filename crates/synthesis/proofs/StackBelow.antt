@@ -19,7 +19,7 @@ use Rattle.type_rules.specs.Patterns.{own_types}
 use Rattle.results.specs.ResultPosts.{Kept}
 use Rattle.results.proofs.Symbols.{fit_snoc}
 use Rattle.patterns.specs.PatternPosts.{RowAt}
-use Rattle.synthesis.specs.Machine.{is, Open, given}
+use Rattle.synthesis.specs.Machine.{Open, given}
 use Rattle.type_rules.specs.Patterns.{Operands}
 use Rattle.synthesis.specs.TypingPosts.{Held, Stack}
 use Rattle.copies.proofs.CopyLaws.{span_kept}

@@ -11,7 +11,7 @@ use Rattle.frame.specs.Sameness.{same_ty, same_tys}
 use Rattle.frame.proofs.Booleans.{both_true}
 use Rattle.frame.proofs.SameTrees.{same_ty_lem, same_tys_lem, same_ty_refl}
 use Rattle.frame.proofs.Inversion.{true_not}
-use Rattle.typing.specs.Typing.{source, target, relation, first, ty, last_ty, alike, onward, backward}
+use Rattle.typing.specs.Typing.{source, target, relation, ty, last_ty, alike, onward, backward}
 use Rattle.type_rules.specs.Patterns.{
   Matched,
   fits,

@@ -5,9 +5,6 @@ use Rattle.heads.proofs.known_head.Goals as goal
 -- `heads::known_head` meets its contract.
 use native.Mathlib.Omega.{arith}
 use Rattle.heads.proofs.KnownTurns.{known_two, known_room, known_types, known_found}
-use borrow.Author.Rules.{rules}
-use Rattle.heads.proofs.known_head.Statement.{statement}
-use Rattle.heads.proofs.known_head.Tie as tie
 
 pub number-tag-requires : goal.number-tag-requires
 number-tag-requires c = (known_two _ _ c.requires, omega arith)

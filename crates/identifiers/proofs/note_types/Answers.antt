@@ -1,6 +1,5 @@
 use mathlib.Core.Path.{refl, ◌∙◌}
 use native.Mathlib.Omega.{arith}
-use borrow.Author.Tests.{not-false}
 use Rattle.identifiers.proofs.NotingTypes.{going_begins, going_done, going_beyond, going_room, going_number, going_clash, going_forward, going_further, going_other, going_given}
 use Rattle.identifiers.proofs.note_types.Goals as goal
 use Rattle.identifiers.proofs.note_types.Goals.{then-b-eq-GIVEN_SET+else-table-n+else-not-fits, else-b-eq-GIVEN_SET}

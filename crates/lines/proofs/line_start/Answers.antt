@@ -5,8 +5,6 @@ use Rattle.lines.proofs.line_start.Goals as goal
 -- `lines::line_start` meets its contract.
 use mathlib.Core.Path.{refl}
 use Rattle.lines.specs.LineState.{shortened, all_digits, waiting}
-use Rattle.lines.proofs.line_start.Statement.{statement}
-use Rattle.lines.proofs.line_start.Tie as tie
 
 pub returns : goal.returns
 unfolding shortened all_digits waiting

@@ -7,9 +7,6 @@ use Rattle.sameness.proofs.same_heads.Goals as goal
 use Rattle.octets.proofs.SameBytes.{parts}
 use native.Mathlib.Omega.{arith}
 use Rattle.sameness.proofs.SameTurns.{left_stands, tags_first, tags_second, both_inside, heads_room, heads_short, heads_bytes, heads_agree}
-use borrow.Author.Rules.{rules}
-use Rattle.sameness.proofs.same_heads.Statement.{statement}
-use Rattle.sameness.proofs.same_heads.Tie as tie
 
 pub bounds-s-a : goal.bounds-s-a
 bounds-s-a c = let z = both_inside _ _ _ _ c.requires in omega arith

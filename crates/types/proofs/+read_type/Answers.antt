@@ -1,27 +1,12 @@
 -- `types::read_type` meets its contract: each need cites a law of its way out.
-use Prim.Native.Nat.{◌-◌, ℕ, ◌<◌}
 use native.Mathlib.Omega.{arith}
 use mathlib.Core.Path.{refl}
-use borrow.Fn.PlainCycle.{Measures, is, falls, and}
 use Rattle.types.proofs.TypeTurns.{ty_past, ty_end, ty_bool, ty_int, ty_given, ty_pow, ty_prod, ty_prod_no, prod_further, ty_bad}
-use Rattle.types.proofs.+read_type.{statement}
-use Rattle.types.proofs.read_type.Reads as read-type
-use Rattle.types.proofs.given_number.Reads as given-number-reads
 use Rattle.types.proofs.+read_type.Goals as goal
 -- `types::read_type` meets its contract: each need cites a law of its way out.
-use Prim.Native.Nat.{◌-◌, ℕ, ◌<◌}
-use borrow.Author.Rules.{rules}
 use native.Mathlib.Omega.{arith}
 use mathlib.Core.Path.{refl}
-use borrow.Fn.Kinds.{In}
-use borrow.Fn.PlainCycle.{Measures, is, falls, and}
 use Rattle.types.proofs.TypeTurns.{ty_past, ty_end, ty_bool, ty_int, ty_given, ty_pow, ty_prod, ty_prod_no, prod_further, ty_bad}
-use Rattle.types.proofs.+read_type.{statement}
-use Rattle.types.proofs.+read_type.Tie.{close}
-use Rattle.types.proofs.read_type.Reads as read-type
-use Rattle.types.proofs.read_type.Kinds as read-type-kinds
-use Rattle.types.proofs.+read_type.Lts-read_type as read-type-lts
-use Rattle.types.proofs.given_number.Reads as given-number-reads
 
 pub returns-then-lim-at : goal.returns-then-lim-at
 returns-then-lim-at t c = ty_past _ _ _ c.requires.1 c.if-lim-at.true

@@ -1,6 +1,4 @@
 use Prim.Native.Nat.{◌-◌}
-use Rattle.types.proofs.read_type.Reads as read-type
-use Rattle.types.proofs.given_number.Reads as given-number-reads
 use Rattle.types.proofs.+read_type.Given as goal
 
 abbrev pub decreases-read_type : goal.decreases-read_type

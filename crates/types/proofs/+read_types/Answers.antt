@@ -1,25 +1,10 @@
 -- `types::read_types` meets its contract: each need cites a law of its way out.
-use Prim.Native.Nat.{ℕ, ◌<◌}
 use native.Mathlib.Omega.{arith}
-use borrow.Fn.PlainCycle.{Measures, is, falls, and}
 use Rattle.types.proofs.TypeTurns.{tys_none, tys_more, tys_no, tys_further}
-use Rattle.types.proofs.+read_types.{statement}
-use Rattle.types.proofs.read_types.Reads as read-types
-use Rattle.types.proofs.read_type.Reads as read-type-reads
 use Rattle.types.proofs.+read_types.Goals as goal
 -- `types::read_types` meets its contract: each need cites a law of its way out.
-use Prim.Native.Nat.{ℕ, ◌<◌}
-use borrow.Author.Rules.{rules}
 use native.Mathlib.Omega.{arith}
-use borrow.Fn.Kinds.{In}
-use borrow.Fn.PlainCycle.{Measures, is, falls, and}
 use Rattle.types.proofs.TypeTurns.{tys_none, tys_more, tys_no, tys_further}
-use Rattle.types.proofs.+read_types.{statement}
-use Rattle.types.proofs.+read_types.Tie.{close}
-use Rattle.types.proofs.read_types.Reads as read-types
-use Rattle.types.proofs.read_types.Kinds as read-types-kinds
-use Rattle.types.proofs.+read_types.Lts-read_types as read-types-lts
-use Rattle.types.proofs.read_type.Reads as read-type-reads
 
 pub returns-then-n-eq0 : goal.returns-then-n-eq0
 returns-then-n-eq0 t c = tys_none _ _ _ c.if-n-eq0.true
