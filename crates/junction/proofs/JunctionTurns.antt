@@ -1,7 +1,7 @@
 -- The ways out of `absorb`: the state of the outer loop over the children, of the inner one over those kept, and their turns.
 -- Main results: few (no more children than the lent list has room for); states_first, turn_placed, turn_decides, turn_drops,
 -- turn_keeps, turn_end (the outer loop); scanned_first, scanned_both, scanned_meets, scanned_next, scanned_skip (the inner);
--- keyed-none, keyed_more (the keys of those kept); again_drop, again_keep.
+-- keyed_more (the keys of those kept); again_drop, again_keep; keyed_drop, keyed_keep (with the keys beside).
 use mathlib.Core.Path.{◌≡◌, refl, sym, ap, ap₂, ◌∙◌}
 use mathlib.Core.Bool.{Bool, true, false, not, ◌||◌}
 use mathlib.Core.List.{List, [], ◌∷◌, ◌++◌}
@@ -375,37 +375,51 @@ keyed_more s st nx lent keys m ks room long c key post = below_more (λ (j : ℕ
     newest = rw (get_or-set_same lent m c 0 room, get_or-set_same keys m key 0 long) post
 
 -- ---- what the outer loop keeps
-abbrev pub AllInv : List ℕ → List ℕ → List ℕ → ℕ → ℕ → ℕ → ℕ → List ℕ → List ℕ → ℕ → ℕ → ℕ → Type 0
-AllInv s st nx k neutral determinant r lent keys c i m =
+abbrev pub AllInv : List ℕ → List ℕ → List ℕ → ℕ → ℕ → ℕ → ℕ → List ℕ → ℕ → ℕ → ℕ → Type 0
+AllInv s st nx k neutral determinant r lent c i m =
     (i ≤ r) × (length lent ≡ 256) × (m ≤ i) × States s st nx k neutral determinant lent c i m
-    × (length keys ≡ 256) × Keyed s st nx lent keys m
 
-module _ (s st nx : List ℕ) (k neutral determinant r : ℕ) (many : ArityPost s st k r) (small : r ≤ 255) (lent keys : List ℕ) (c i m : ℕ)
-    (inv : AllInv s st nx k neutral determinant r lent keys c i m) (h : i < r) (next : ℕ) (en : next ≡ get_or nx c 0) where
-  pub again_drop : Says s st nx neutral determinant lent c m drops → (tbl ks : List ℕ) (l : ℕ) → tbl ≡ lent → ks ≡ keys → l ≡ m
-      → AllInv s st nx k neutral determinant r tbl ks next (i + 1) l
-  again_drop says tbl ks l et ek el =
-      rw (et, ek, el) (
-        omega arith,
-        inv.1,
-        omega (arith, inv.2),
-        turn_drops s st nx k neutral determinant r many lent c i m inv.3 h next en says,
-        inv.4,
-        inv.5,
-      )
+module _ (s st nx : List ℕ) (k neutral determinant r : ℕ) (many : ArityPost s st k r) (small : r ≤ 255) (lent : List ℕ) (c i m : ℕ)
+    (inv : AllInv s st nx k neutral determinant r lent c i m) (h : i < r) (next : ℕ) (en : next ≡ get_or nx c 0) where
+  pub again_drop : Says s st nx neutral determinant lent c m drops → (tbl : List ℕ) (l : ℕ) → tbl ≡ lent → l ≡ m
+      → AllInv s st nx k neutral determinant r tbl next (i + 1) l
+  again_drop says tbl l et el =
+      rw (et, el) (omega arith, inv.1, omega (arith, inv.2), turn_drops s st nx k neutral determinant r many lent c i m inv.3 h next en says)
 
-  pub again_keep : Says s st nx neutral determinant lent c m keeps → (key : ℕ) → KeyPost s st nx c key → (tbl ks : List ℕ) (l : ℕ)
-      → tbl ≡ set lent m c → ks ≡ set keys m key → l ≡ m + 1 → AllInv s st nx k neutral determinant r tbl ks next (i + 1) l
-  again_keep says key post tbl ks l et ek el =
+  pub again_keep : Says s st nx neutral determinant lent c m keeps → (tbl : List ℕ) (l : ℕ) → tbl ≡ set lent m c → l ≡ m + 1
+      → AllInv s st nx k neutral determinant r tbl next (i + 1) l
+  again_keep says tbl l et el =
       let room : m < length lent = omega (arith, inv.1, inv.2) in
-      rw (et, ek, el) (
+      rw (et, el) (
         omega arith,
         length-set lent m c ∙ inv.1,
         omega (arith, inv.2),
         turn_keeps s st nx k neutral determinant r many lent c i m
             inv.3 h next en room says,
-        length-set keys m key ∙ inv.4,
-        keyed_more s st nx lent keys m inv.5 room (omega (arith, inv.4, inv.2)) c key post,
+      )
+
+-- ---- what it keeps of the keys beside
+abbrev pub KeyedInv : List ℕ → List ℕ → List ℕ → ℕ → ℕ → ℕ → ℕ → List ℕ → List ℕ → ℕ → ℕ → ℕ → Type 0
+KeyedInv s st nx k neutral determinant r lent keys c i m =
+    AllInv s st nx k neutral determinant r lent c i m × (length keys ≡ 256) × Keyed s st nx lent keys m
+
+module _ (s st nx : List ℕ) (k neutral determinant r : ℕ) (many : ArityPost s st k r) (small : r ≤ 255) (lent keys : List ℕ) (c i m : ℕ)
+    (inv : KeyedInv s st nx k neutral determinant r lent keys c i m) (h : i < r) (next : ℕ) (en : next ≡ get_or nx c 0) where
+  pub keyed_drop : Says s st nx neutral determinant lent c m drops → (tbl ks : List ℕ) (l : ℕ) → tbl ≡ lent → ks ≡ keys → l ≡ m
+      → KeyedInv s st nx k neutral determinant r tbl ks next (i + 1) l
+  keyed_drop says tbl ks l et ek el = (
+    again_drop s st nx k neutral determinant r many small lent c i m inv.0 h next en says tbl l et el,
+    rw ek inv.1,
+    rw (et, ek, el) inv.2,
+  )
+
+  pub keyed_keep : Says s st nx neutral determinant lent c m keeps → (key : ℕ) → KeyPost s st nx c key → (tbl ks : List ℕ) (l : ℕ)
+      → tbl ≡ set lent m c → ks ≡ set keys m key → l ≡ m + 1 → KeyedInv s st nx k neutral determinant r tbl ks next (i + 1) l
+  keyed_keep says key post tbl ks l et ek el =
+      let room : m < length lent = omega (arith, inv.0.1, inv.0.2) in (
+        again_keep s st nx k neutral determinant r many small lent c i m inv.0 h next en says tbl l et el,
+        rw ek (length-set keys m key ∙ inv.1),
+        rw (et, ek, el) (keyed_more s st nx lent keys m inv.2 room (omega (arith, inv.1, inv.0.2)) c key post),
       )
 
 pub children_few : (s st nx : List ℕ) (k : ℕ) (lent : List ℕ) → JunctionPre s st nx k lent → (r : ℕ) → ArityPost s st k r → r ≤ 255

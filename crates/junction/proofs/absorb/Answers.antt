@@ -1,4 +1,4 @@
-use Rattle.junction.proofs.JunctionTurns.{pre_placed, children_few, states_first, turn_placed, turn_keyed, turn_both, turn_decides, turn_end, again_drop, again_keep, scanned_first, scanned_meets, scanned_next, scanned_skip, says_decides, says_keeps, says_drops}
+use Rattle.junction.proofs.JunctionTurns.{pre_placed, children_few, states_first, turn_placed, turn_keyed, turn_both, turn_decides, turn_end, keyed_drop, keyed_keep, scanned_first, scanned_meets, scanned_next, scanned_skip, says_decides, says_keeps, says_drops}
 use mathlib.Core.Path.{refl, ◌∙◌}
 use native.Mathlib.Omega.{arith}
 use borrow.Author.Count.{below_none}
@@ -21,19 +21,16 @@ overflow_add-c c = let z = (pre_placed _ _ _ _ _ c.requires).1 in omega arith
 
 pub all-init : goal.all-init
 all-init c = (
-  omega arith,
-  c.requires.long,
-  omega arith,
-  states_first _ _ _ _ _ _ c.args.kept.now,
+  (omega arith, c.requires.long, omega arith, states_first _ _ _ _ _ _ c.args.kept.now),
   refl,
   below_none _,
 )
 
 pub tag_at-tag-requires : goal.tag_at-tag-requires
-tag_at-tag-requires c = (turn_placed _ _ _ _ _ _ _ c.arity_at-n.ensures _ _ _ _ c.all.invariant.3 c.all-test.true _ c.requires).0
+tag_at-tag-requires c = (turn_placed _ _ _ _ _ _ _ c.arity_at-n.ensures _ _ _ _ c.all.invariant.0.3 c.all-test.true _ c.requires).0
 
 pub key_at-key-requires : goal.key_at-key-requires
-key_at-key-requires c = turn_keyed _ _ _ _ _ _ _ c.arity_at-n.ensures _ _ _ _ c.all.invariant.3 c.all-test.true _ c.requires
+key_at-key-requires c = turn_keyed _ _ _ _ _ _ _ c.arity_at-n.ensures _ _ _ _ c.all.invariant.0.3 c.all-test.true _ c.requires
 
 pub loop-j-init : goal.loop-j-init
 loop-j-init c = let z = children_few _ _ _ _ _ c.requires _ c.arity_at-n.ensures in
@@ -50,12 +47,12 @@ bounds-kept-j c = let z = children_few _ _ _ _ _ c.requires _ c.arity_at-n.ensur
 
 pub opposite-requires : goal.opposite-requires
 opposite-requires c = let z = children_few _ _ _ _ _ c.requires _ c.arity_at-n.ensures in
-    turn_both _ _ _ _ _ _ _ c.arity_at-n.ensures _ _ _ _ c.all.invariant.3 c.all-test.true _ c.requires
+    turn_both _ _ _ _ _ _ _ c.arity_at-n.ensures _ _ _ _ c.all.invariant.0.3 c.all-test.true _ c.requires
     c.loop-j.fresh c.loop-j.j c.loop-j.invariant c.loop-j-test.true (omega arith) _ c.wide16-p.ensures.0
 
 pub same_at-requires : goal.same_at-requires
 same_at-requires c = let z = children_few _ _ _ _ _ c.requires _ c.arity_at-n.ensures in
-    turn_both _ _ _ _ _ _ _ c.arity_at-n.ensures _ _ _ _ c.all.invariant.3 c.all-test.true _ c.requires
+    turn_both _ _ _ _ _ _ _ c.arity_at-n.ensures _ _ _ _ c.all.invariant.0.3 c.all-test.true _ c.requires
     c.loop-j.fresh c.loop-j.j c.loop-j.invariant c.loop-j-test.true (omega arith) _ c.wide16-p.ensures.0
 
 pub loop-j-preserved : goal.loop-j-preserved
@@ -68,12 +65,12 @@ loop-j-preserved c = let z = children_few _ _ _ _ _ c.requires _ c.arity_at-n.en
           scanned_next _ _ _ _ _ _ _ _ _ _ l.invariant h (omega arith) _ w.wide16-p.ensures.0 _ w.opposite.ensures w.if-opposite.false _
           w.same_at.ensures _ (w.fresh-is ∙ w.still-fresh.ensures)
       | else-keys-j w ↦
-          rw w.fresh-is (scanned_skip _ _ _ _ _ _ _ _ _ _ l.invariant h (omega arith) _ refl a.keys _ (a.invariant.5 l.j h) c.key_at-key.ensures
+          rw w.fresh-is (scanned_skip _ _ _ _ _ _ _ _ _ _ l.invariant h (omega arith) _ refl a.keys _ (a.invariant.2 l.j h) c.key_at-key.ensures
           w.if-keys-j.false)
     ]
 
 pub overflow_cast-kept : goal.overflow_cast-kept
-overflow_cast-kept c = let z = (turn_placed _ _ _ _ _ _ _ c.arity_at-n.ensures _ _ _ _ c.all.invariant.3 c.all-test.true _ c.requires).1 in
+overflow_cast-kept c = let z = (turn_placed _ _ _ _ _ _ _ c.arity_at-n.ensures _ _ _ _ c.all.invariant.0.3 c.all-test.true _ c.requires).1 in
     omega arith
 
 pub offset_bounds-kept-m : goal.offset_bounds-kept-m
@@ -89,7 +86,7 @@ pub overflow_add-m : goal.overflow_add-m
 overflow_add-m c = let z = children_few _ _ _ _ _ c.requires _ c.arity_at-n.ensures in omega arith
 
 pub next_at-c-requires : goal.next_at-c-requires
-next_at-c-requires c = (turn_placed _ _ _ _ _ _ _ c.arity_at-n.ensures _ _ _ _ c.all.invariant.3 c.all-test.true _ c.requires).1
+next_at-c-requires c = (turn_placed _ _ _ _ _ _ _ c.arity_at-n.ensures _ _ _ _ c.all.invariant.0.3 c.all-test.true _ c.requires).1
 
 pub all-preserved : goal.all-preserved
 all-preserved c = let z = children_few _ _ _ _ _ c.requires _ c.arity_at-n.ensures in
@@ -98,11 +95,11 @@ all-preserved c = let z = children_few _ _ _ _ _ c.requires _ c.arity_at-n.ensur
     let h = c.all-test.true in
     elim c.if-fresh.branch [
       | then-fresh w ↦
-          again_keep _ _ _ _ _ _ _ m z _ a.keys _ _ _ a.invariant h _ c.next_at-c.ensures.0
+          keyed_keep _ _ _ _ _ _ _ m z _ a.keys _ _ _ a.invariant h _ c.next_at-c.ensures.0
           (says_keeps _ _ _ _ _ _ _ _ _ _ c.loop-j.invariant c.loop-j-test.false w.if-fresh.true) _ c.key_at-key.ensures _ _ _
           w.kept-is w.keys-is w.m-is
       | else-fresh w ↦
-          again_drop _ _ _ _ _ _ _ m z _ a.keys _ _ _ a.invariant h _ c.next_at-c.ensures.0
+          keyed_drop _ _ _ _ _ _ _ m z _ a.keys _ _ _ a.invariant h _ c.next_at-c.ensures.0
           (says_drops _ _ _ _ _ _ _ _ _ _ c.loop-j.invariant c.loop-j-test.false w.if-fresh.false) _ _ _ w.kept-is w.keys-is w.m-is
     ]
 
@@ -113,13 +110,13 @@ returns-then-i-n c = let z = children_few _ _ _ _ _ c.requires _ c.arity_at-n.en
     elim c.all-test.branch [
       | else-all-test w ↦ absurd (omega arith)
       | then-all-test+then-tag-determinant w ↦
-          turn_decides _ _ _ _ _ _ _ m _ _ _ _ a.invariant.3 w.all-test.true _ a.invariant.1
+          turn_decides _ _ _ _ _ _ _ m _ _ _ _ a.invariant.0.3 w.all-test.true _ a.invariant.0.1
           (λ d. says_decides _ _ _ _ _ a.kept _ a.m _ w.tag_at-tag.ensures w.if-tag-determinant.true d)
       | then-all-test+else-tag-determinant+then-loop-j-test+then-keys-j+then-opposite w ↦
-          turn_decides _ _ _ _ _ _ _ m _ _ _ _ a.invariant.3 w.all-test.true _ a.invariant.1
+          turn_decides _ _ _ _ _ _ _ m _ _ _ _ a.invariant.0.3 w.all-test.true _ a.invariant.0.1
           (λ d. scanned_meets _ _ _ _ _ _ _ _ _ _ w.loop-j.invariant w.loop-j-test.true (omega arith) _ w.wide16-p.ensures.0 _ w.opposite.ensures
           w.if-opposite.true)
     ]
 
 pub returns-else-i-n : goal.returns-else-i-n
-returns-else-i-n c = turn_end _ _ _ _ _ _ _ c.arity_at-n.ensures _ _ _ _ c.all.invariant.3 c.if-i-n.false c.all.invariant.1
+returns-else-i-n c = turn_end _ _ _ _ _ _ _ c.arity_at-n.ensures _ _ _ _ c.all.invariant.0.3 c.if-i-n.false c.all.invariant.0.1
