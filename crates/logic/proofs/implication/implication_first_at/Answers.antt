@@ -1,3 +1,4 @@
+use native.Mathlib.Omega.{arith}
 use Rattle.decision.proofs.Shapes.{first_placed, second_placed}
 use Rattle.decision.proofs.TwoPlaces.{both_placed, two_few}
 use Rattle.logic.proofs.ImpTurns.{out_66, out_67, out_68, out_69, out_70, first_none}
@@ -16,7 +17,7 @@ pub returns-then-left-eq-BFALSE : goal.returns-then-left-eq-BFALSE
 returns-then-left-eq-BFALSE c = out_67 _ _ _ _ _ _ _ c.tag_at-left.ensures c.tag_at-right.ensures c.if-left-eq-BFALSE.true _ c.fixed-then-left-eq-BFALSE.ensures
 
 pub returns-then-right-eq-BTRUE : goal.returns-then-right-eq-BTRUE
-returns-then-right-eq-BTRUE c = out_68 _ _ _ _ _ _ _ c.tag_at-left.ensures c.tag_at-right.ensures c.if-left-eq-BTRUE.false c.if-left-eq-BFALSE.false
+returns-then-right-eq-BTRUE c = out_68 _ _ _ _ _ _ _ c.tag_at-left.ensures c.tag_at-right.ensures c.if-left-eq-BTRUE.false (λ e. omega (arith, e))
     c.if-right-eq-BTRUE.true _ c.fixed-then-right-eq-BTRUE.ensures
 
 pub make_neg-requires : goal.make_neg-requires
