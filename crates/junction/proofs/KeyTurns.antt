@@ -1,5 +1,5 @@
 -- Keys: the ways out of `key_at`, and that trees with different keys are neither the same nor opposite.
--- Main results: key_placed, key-first, key-more, key_done (the sum); unlike-same, unlike-opposite.
+-- Main results: key_placed, key_inside, rest_next, rest_end, key_done (the sum); unlike_by_keys.
 use mathlib.Core.Path.{◌≡◌, refl, sym, ap, ap₂, ◌∙◌}
 use mathlib.Core.Bool.{Bool, true, false}
 use mathlib.Core.List.{List, [], ◌∷◌, ◌++◌, append-nil}

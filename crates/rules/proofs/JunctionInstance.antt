@@ -34,7 +34,7 @@ use Rattle.rules.specs.Simplify.{
 }
 use Rattle.rules.specs.Equations
 use Rattle.rules.specs.Equations.{Equation, Among, Junction, conjunction, disjunction, Dropped, Opposite, ¬ᵖ}
-use Rattle.rules.proofs.Operands.{append-nil, append_assoc}
+use Rattle.rules.proofs.Operands.{append_nil, append_assoc}
 use Rattle.rules.proofs.Shapes.{Is, gives, by_test, Ok, OkAll, fixed, is_leaf, is_one}
 
 -- ---- the opposite
@@ -129,7 +129,7 @@ module _ (σ : ℕ → Ty) (Γ : Ctx) (n d : ℕ) (hn : fixed 0 0 (form_of n).la
 
   scanned : (cs out : Forest) → OkAll σ Γ cs → Scanned n d (append out cs) (scan n d cs out)
   unfolding scan
-  scanned nil out a = rw append-nil (Dropped.done out)
+  scanned nil out a = rw append_nil (Dropped.done out)
   scanned (cons c cs) out a = go (verdict n d out c) (verdict_says out c a.0) (λ o. scanned cs o a.1)
     where
       go : (v : Verdict) → Says n d out c v → ((o : Forest) → Scanned n d (append o cs) (scan n d cs o))

@@ -1,5 +1,5 @@
 -- Lists of operands: what each of them is, and how many they are.
--- Main results: append-nil, append_assoc; each_map (one by one), every_mid (an operand taken out), dropped_every, dropped_count
+-- Main results: append_nil, append_assoc; each_map (one by one), every_mid (an operand taken out), dropped_every, dropped_count
 -- (the operands that ∧ and ∨ keep), minuends_every, subtrahends_every, minuends, subtrahends (the operands of
 -- (A ∖ B) ∩ C ∩ (D ∖ E)), all_hold, some_hold (∧ and ∨ over a list).
 use mathlib.Core.Path.{◌≡◌, refl, ap}
@@ -16,9 +16,9 @@ use Rattle.rules.proofs.NewNodes.{and_holds, or_holds}
 use Rattle.rules.proofs.OldNodes.{Operands, of_minus_at}
 
 -- ---- lists joined
-pub append-nil : (xs : Forest) → append xs nil ≡ xs
-append-nil nil = refl
-append-nil (cons x xs) = ap (cons x) (append-nil xs)
+pub append_nil : (xs : Forest) → append xs nil ≡ xs
+append_nil nil = refl
+append_nil (cons x xs) = ap (cons x) (append_nil xs)
 
 pub append_assoc : (xs ys zs : Forest) → append (append xs ys) zs ≡ append xs (append ys zs)
 append_assoc nil ys zs = refl

@@ -34,7 +34,7 @@ use Rattle.rules.specs.Negation.{rewrite_not}
 use Rattle.rules.specs.Finite.{finite, rewrite_finite}
 use Rattle.rules.specs.Dispatch.{dispatch}
 use Rattle.rules.specs.Equations.{Among, ⊤}
-use Rattle.rules.proofs.Operands.{append-nil, append_assoc}
+use Rattle.rules.proofs.Operands.{append_nil, append_assoc}
 use Rattle.step.specs.Step.{changed, unchanged, step_tree}
 use Rattle.run.specs.UnionFigure.{Extensions, Different, UnionBound}
 use Rattle.run.specs.Run.{next, nowhere, first_from, first_step, REST, SPENT, FULL, Ran, ran, run_tree, ended, turned_down, ended_by, run}
@@ -79,7 +79,7 @@ verdict_keeps q done h = rw (no_opposite (finite q) done, not_among q done h)
 scan_keeps : (ks done : Forest) → ((q : Tree) → Among q ks → Among q done → ⊥) → Different ks
     → scan #BTrue #BFalse (finites ks) (finites done) ≡ kept (finites (append done ks))
 unfolding scan
-scan_keeps nil done h d = rw append-nil
+scan_keeps nil done h d = rw append_nil
 scan_keeps (cons k ks) done h d =
     let r = scan_keeps ks (append done (cons k nil)) apart d.1 in
     rw (verdict_keeps k done (h k (inl refl)), finites_last, ← append_assoc done (cons k nil) ks) r

@@ -2,9 +2,6 @@
 use native.Mathlib.Omega.{arith}
 use Rattle.heads.proofs.KnownTurns.{known_two, known_room, known_types, known_found}
 use Rattle.heads.proofs.known_head.Goals as goal
--- `heads::known_head` meets its contract.
-use native.Mathlib.Omega.{arith}
-use Rattle.heads.proofs.KnownTurns.{known_two, known_room, known_types, known_found}
 
 pub number-tag-requires : goal.number-tag-requires
 number-tag-requires c = (known_two _ _ c.requires, omega arith)

@@ -2,9 +2,6 @@
 use native.Mathlib.Omega.{arith}
 use Rattle.lines.proofs.LineWrites.{value_below, value_figure, value_between, value_letter, value_above}
 use Rattle.lines.proofs.digit_of.Goals as goal
--- `lines::digit_of` meets its contract.
-use native.Mathlib.Omega.{arith}
-use Rattle.lines.proofs.LineWrites.{value_below, value_figure, value_between, value_letter, value_above}
 
 pub returns-then-c-lt48 : goal.returns-then-c-lt48
 returns-then-c-lt48 c = (value_below _ c.if-c-lt48.true, omega arith)

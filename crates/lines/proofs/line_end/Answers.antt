@@ -1,8 +1,6 @@
 -- `lines::line_end` meets its contract.
 use Rattle.lines.proofs.LineTurns.{end_bad, end_odd, end_long, end_frame}
 use Rattle.lines.proofs.line_end.Goals as goal
--- `lines::line_end` meets its contract.
-use Rattle.lines.proofs.LineTurns.{end_bad, end_odd, end_long, end_frame}
 
 pub returns-then-high-gt15 : goal.returns-then-high-gt15
 returns-then-high-gt15 c = λ cs es. end_bad _ cs es c.if-high-gt15.true

@@ -3,10 +3,6 @@ use Rattle.octets.proofs.SameBytes.{parts}
 use native.Mathlib.Omega.{arith}
 use Rattle.sameness.proofs.SameTurns.{left_stands, tags_first, tags_second, both_inside, heads_room, heads_short, heads_bytes, heads_agree}
 use Rattle.sameness.proofs.same_heads.Goals as goal
--- `sameness::same_heads` meets its contract.
-use Rattle.octets.proofs.SameBytes.{parts}
-use native.Mathlib.Omega.{arith}
-use Rattle.sameness.proofs.SameTurns.{left_stands, tags_first, tags_second, both_inside, heads_room, heads_short, heads_bytes, heads_agree}
 
 pub bounds-s-a : goal.bounds-s-a
 bounds-s-a c = let z = both_inside _ _ _ _ c.requires in omega arith

@@ -2,9 +2,6 @@
 use native.Mathlib.Omega.{arith}
 use Rattle.tags.proofs.FormTables.{sort_expression, sort_predicate}
 use Rattle.tags.proofs.is_sort.Goals as goal
--- `tags::is_sort` meets its contract.
-use native.Mathlib.Omega.{arith}
-use Rattle.tags.proofs.FormTables.{sort_expression, sort_predicate}
 
 pub returns-then-e : goal.returns-then-e
 returns-then-e c = sort_expression c.args.form c.args.e (omega arith) c.if-e.true

@@ -3,10 +3,6 @@ use native.Mathlib.Omega.{arith}
 use mathlib.Core.Path.{refl}
 use Rattle.types.proofs.TypeTurns.{ty_past, ty_end, ty_bool, ty_int, ty_given, ty_pow, ty_prod, ty_prod_no, prod_further, ty_bad}
 use Rattle.types.proofs.+read_type.Goals as goal
--- `types::read_type` meets its contract: each need cites a law of its way out.
-use native.Mathlib.Omega.{arith}
-use mathlib.Core.Path.{refl}
-use Rattle.types.proofs.TypeTurns.{ty_past, ty_end, ty_bool, ty_int, ty_given, ty_pow, ty_prod, ty_prod_no, prod_further, ty_bad}
 
 pub returns-then-lim-at : goal.returns-then-lim-at
 returns-then-lim-at t c = ty_past _ _ _ c.requires.1 c.if-lim-at.true

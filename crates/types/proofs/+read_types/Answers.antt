@@ -2,9 +2,6 @@
 use native.Mathlib.Omega.{arith}
 use Rattle.types.proofs.TypeTurns.{tys_none, tys_more, tys_no, tys_further}
 use Rattle.types.proofs.+read_types.Goals as goal
--- `types::read_types` meets its contract: each need cites a law of its way out.
-use native.Mathlib.Omega.{arith}
-use Rattle.types.proofs.TypeTurns.{tys_none, tys_more, tys_no, tys_further}
 
 pub returns-then-n-eq0 : goal.returns-then-n-eq0
 returns-then-n-eq0 t c = tys_none _ _ _ c.if-n-eq0.true
