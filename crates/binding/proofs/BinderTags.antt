@@ -1,21 +1,46 @@
--- Number 8: which tags have binders, and which entries of the table of leaves matter.
--- Main results: leaves_same (only the entries of a tree's own places matter), under_plain, under_binding.
-use mathlib.Core.Path.{◌≡◌, refl, sym, ap, subst}
+-- Number 8: which forms have binders, and which entries of the table of leaves matter.
+-- Main results: leaves_same (only the entries of a tree's own places matter), under_plain, under_binding; bound_tag, other_tag.
+use mathlib.Core.Path.{◌≡◌, refl, sym, ap, ◌∙◌, subst}
 use mathlib.Core.Logic.{◌⊎◌, inl, inr}
-use mathlib.Core.Bool.{Bool, true, false, ◌||◌}
-use mathlib.Core.List.{List, [], ◌∷◌}
-use Prim.Native.Nat.{ℕ, suc, ◌+◌, ◌≤◌, ◌<◌}
+use mathlib.Core.Bool.{Bool, true, false, not, ◌||◌}
+use mathlib.Core.List.{List, []}
+use Prim.Native.Nat.{ℕ, suc, ◌+◌, ◌≤◌}
 use native.Mathlib.Omega.{arith}
-use lib.ListN.{length, get_or}
+use lib.ListN.{get_or}
 use lib.Dec.{eqb, ltb}
-use borrow.Author.Tests.{eqb-true, ltb-true, ltb-false, lt-ltb, le-ltb}
+use denote.Enum.Bare.{sameb, true_same}
+use borrow.Author.Tests.{eqb-true, ltb-true, ltb-false}
 use Rattle.frame.specs.Types.{Ty}
 use Rattle.frame.specs.Trees.{head, Tree, node, Forest, nil, cons, nodes, nodes_in}
-use Rattle.frame.specs.Tags.{pick, Sort, Layout, these, payload, counted, binding, Form, form_of, form_at, Class, table, types_of, binders_of}
+use Rattle.frame.specs.Tags as T
+use Rattle.frame.specs.Tags.{pick, form_of, Class, class_of, lookup, table, binders_of}
 use Rattle.frame.specs.Operators.{#BoundIdent}
-use Rattle.tags.specs.TagCodes.{layout_kind, form_at_code}
+use Rattle.tags.specs.declared.forms.Form.{Form}
+use Rattle.tags.specs.declared.forms.Form.TheVariants.{
+  Unlisted,
+  LiteralPredicate,
+  Relational,
+  BinaryPredicate,
+  Negation,
+  Finite,
+  AssociativePredicate,
+  Partition,
+  QuantifiedPredicate,
+  Atomic,
+  TypedAtomic,
+  BoolExpression,
+  UnaryExpression,
+  BinaryExpression,
+  Identifier,
+  BoundIdentifier,
+  Literal,
+  SetExtension,
+  AssociativeExpression,
+  QuantifiedExpression,
+}
+use Rattle.tags.specs.contracts.forms.Form.{the_type}
+use Rattle.tags.specs.TagCodes.{meant, form_code}
 use Rattle.frame.specs.Places.{Ctx, push, under}
-use Rattle.frame.specs.WellFormed.{HeadWf}
 use Rattle.tags.proofs.TagTables.{beyond, code_form}
 use Rattle.frame.proofs.EveryTag.{along_rows, every_tag}
 use Rattle.typing.specs.Typing.{type_at}
@@ -44,61 +69,73 @@ mutual
   leaves_same_in (cons t ts) Γ k s l m j le h a =
       (leaves_same t Γ k s l m j (omega arith) h a.0, leaves_same_in ts Γ (k + nodes t) s l m j (omega arith) h a.1)
 
--- ---- which tags have binders
--- by one evaluation: below 801 none has; from there on a tag has binders, or carries no types
-abbrev binder_test : ℕ → Class → Bool
-binder_test k c = pick (ltb k 801) (ltb (layout_kind (form_at c).layout) 3) (eqb (layout_kind (form_at c).layout) 3 || eqb (form_at c).carried 0)
+-- ---- which forms have binders
+abbrev pub Binding : Form → Type 0
+Binding f = (f ≡ QuantifiedPredicate) ⊎ (f ≡ QuantifiedExpression)
 
-binder_tags : along_rows binder_test 902 0 table ≡ true
-unfolding form_at
-binder_tags = refl
+plain_form : (f : Form) (us : List Ty) → (f ≡ QuantifiedPredicate → ⊥) → (f ≡ QuantifiedExpression → ⊥) → [] ≡ binders_of (meant f).layout us
+plain_form Unlisted us p e = refl
+plain_form LiteralPredicate us p e = refl
+plain_form Relational us p e = refl
+plain_form BinaryPredicate us p e = refl
+plain_form Negation us p e = refl
+plain_form Finite us p e = refl
+plain_form AssociativePredicate us p e = refl
+plain_form Partition us p e = refl
+plain_form QuantifiedPredicate us p e = absurd (p refl)
+plain_form Atomic us p e = refl
+plain_form TypedAtomic us p e = refl
+plain_form BoolExpression us p e = refl
+plain_form UnaryExpression us p e = refl
+plain_form BinaryExpression us p e = refl
+plain_form Identifier us p e = refl
+plain_form BoundIdentifier us p e = refl
+plain_form Literal us p e = refl
+plain_form SetExtension us p e = refl
+plain_form AssociativeExpression us p e = refl
+plain_form QuantifiedExpression us p e = absurd (e refl)
 
-pub no_binders : (l : Layout) (us : List Ty) → layout_kind l < 3 → binders_of l us ≡ []
-no_binders (these es) us h = refl
-no_binders (payload w) us h = refl
-no_binders (counted lo hi e) us h = refl
-no_binders (binding lo hi es) us h = absurd (omega arith)
+binding_form : (f : Form) (us : List Ty) → Binding f → us ≡ binders_of (meant f).layout us
+binding_form f us (inl e) = subst (λ (d : Form). us ≡ binders_of (meant d).layout us) (sym e) refl
+binding_form f us (inr e) = subst (λ (d : Form). us ≡ binders_of (meant d).layout us) (sym e) refl
 
-pub under_plain : (g : ℕ) (us : List Ty) (Γ : Ctx) → g < 801 → Γ ≡ under g us Γ
-under_plain g us Γ l =
-    let h = ltb-true (layout_kind (form_of g).layout) 3 (rw (lt-ltb g 801 l) at (every_tag binder_test 902 binder_tags g (omega arith))) in
-    ap (λ (ts : List Ty). push ts Γ) (sym (no_binders (form_of g).layout us h))
+-- the tag of a bound identifier, and no other, has its form
+bound_test : ℕ → Class → Bool
+bound_test t c = eqb t #BoundIdent || not (sameb the_type BoundIdentifier (form_code c))
 
--- from 801 on a tag has binders, or no types at all
-pub all_bound_lem : (l : Layout) (c x : ℕ) (us : List Ty) → (layout_kind l ≡ 3) ⊎ (c ≡ 0) → length us ≡ types_of l c x → us ≡ binders_of l us
-all_bound_lem (binding lo hi es) c x us k e = refl
-all_bound_lem (these es) c x us (inl k) e = absurd (omega arith)
-all_bound_lem (payload w) c x us (inl k) e = absurd (omega arith)
-all_bound_lem (counted lo hi d) c x us (inl k) e = absurd (omega arith)
-all_bound_lem (these es) c x [] (inr k) e = refl
-all_bound_lem (these es) c x (u ∷ us) (inr k) e = absurd (omega arith)
-all_bound_lem (payload w) c x [] (inr k) e = refl
-all_bound_lem (payload w) c x (u ∷ us) (inr k) e = absurd (omega arith)
-all_bound_lem (counted lo hi d) c x [] (inr k) e = refl
-all_bound_lem (counted lo hi d) c x (u ∷ us) (inr k) e = absurd (omega arith)
+bound_tests : along_rows bound_test 902 0 table ≡ true
+unfolding form_code bound_test
+bound_tests = refl
 
-pub or_either : (b c : Bool) → (b || c) ≡ true → (b ≡ true) ⊎ (c ≡ true)
-or_either true c h = inl refl
-or_either false c h = inr h
+left_of : (b c : Bool) → c ≡ true → (b || not c) ≡ true → b ≡ true
+left_of true c e h = refl
+left_of false true e h = h
+left_of false false e h = e
 
-pub unlisted_none : (g : ℕ) → 901 < g → (form_of g).carried ≡ 0
-unfolding form_at_code
-unlisted_none g l =
-    let f : form_at_code 0 ≡ form_of g = code_form g 0 (sym (beyond g l)) in
-    sym (ap (λ (fm : Form). fm.carried) f)
+module _ (g : ℕ) (f : Form) (is : f ≡ form_code (class_of g)) where
+  formed : meant f ≡ form_of g
+  formed = code_form g f is
 
-pub high_form : (g : ℕ) → 801 ≤ g → (layout_kind (form_of g).layout ≡ 3) ⊎ ((form_of g).carried ≡ 0)
-high_form g h = go (ltb g 902) refl
-  where
-    go : (b : Bool) → ltb g 902 ≡ b → (layout_kind (form_of g).layout ≡ 3) ⊎ ((form_of g).carried ≡ 0)
-    go true e = on (or_either (eqb (layout_kind (form_of g).layout) 3) (eqb (form_of g).carried 0)
-        (rw (le-ltb g 801 h) at (every_tag binder_test 902 binder_tags g (ltb-true g 902 e))))
-      where
-        on : (eqb (layout_kind (form_of g).layout) 3 ≡ true) ⊎ (eqb (form_of g).carried 0 ≡ true)
-            → (layout_kind (form_of g).layout ≡ 3) ⊎ ((form_of g).carried ≡ 0)
-        on (inl x) = inl (eqb-true (layout_kind (form_of g).layout) 3 x)
-        on (inr x) = inr (eqb-true (form_of g).carried 0 x)
-    go false e = inr (unlisted_none g (ltb-false g 902 e))
+  pub under_plain : (f ≡ QuantifiedPredicate → ⊥) → (f ≡ QuantifiedExpression → ⊥) → (us : List Ty) (Γ : Ctx) → Γ ≡ under g us Γ
+  under_plain p e us Γ = ap (λ (ts : List Ty). push ts Γ) (plain_form f us p e ∙ ap (λ (d : T.Form). binders_of d.layout us) formed)
 
-pub under_binding : (e : Sort) (g n : ℕ) (us : List Ty) (k : ℕ) (Γ : Ctx) → 801 ≤ g → HeadWf e g n us k → push us Γ ≡ under g us Γ
-under_binding e g n us k Γ h w = ap (λ (ts : List Ty). push ts Γ) (all_bound_lem (form_of g).layout (form_of g).carried _ us (high_form g h) w.many)
+  pub under_binding : Binding f → (us : List Ty) (Γ : Ctx) → push us Γ ≡ under g us Γ
+  under_binding b us Γ = ap (λ (ts : List Ty). push ts Γ) (binding_form f us b ∙ ap (λ (d : T.Form). binders_of d.layout us) formed)
+
+  pub bound_tag : f ≡ BoundIdentifier → g ≡ #BoundIdent
+  unfolding bound_test
+  bound_tag e = go (ltb g 902) refl
+    where
+      go : (b : Bool) → ltb g 902 ≡ b → g ≡ #BoundIdent
+      go true l =
+          let z : BoundIdentifier ≡ form_code (class_of g) = sym e ∙ is in
+          eqb-true g #BoundIdent (left_of (eqb g #BoundIdent) (sameb the_type BoundIdentifier (form_code (class_of g)))
+          (true_same the_type BoundIdentifier (form_code (class_of g)) z) (every_tag bound_test 902 bound_tests g (ltb-true g 902 l)))
+      go false l =
+          let h = ltb-false g 902 l in
+          let z : BoundIdentifier ≡ Unlisted = sym e ∙ is ∙ beyond g (omega arith) in
+          absurd (cc)
+
+  pub other_tag : (f ≡ BoundIdentifier → ⊥) → g ≡ #BoundIdent → ⊥
+  unfolding form_code class_of lookup
+  other_tag d e = d (is ∙ ap (λ (t : ℕ). form_code (class_of t)) e)

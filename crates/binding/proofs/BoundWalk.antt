@@ -1,6 +1,7 @@
 -- Number 8 on trees: what going over the first tree of a row and over the others says of the whole row.
 -- Main results: walk_nil (no tree); walk_none, walk_leaf (a bound identifier), walk_node (a node with binders around its children);
 -- walk_stop, walk_cons (the first tree and the others); walk_plain (a node's children join the others).
+use Rattle.std.proofs.Common.{Option, Some, None}
 use mathlib.Core.Path.{◌≡◌, refl, sym, ap, ap₂, ◌∙◌, subst}
 use mathlib.Core.Logic.{◌⊎◌, inl, inr}
 use mathlib.Core.Bool.{Bool, true, false, ◌&&◌, and_assoc}
@@ -22,26 +23,26 @@ use Rattle.typing.specs.Typing.{type_at}
 use Rattle.typing.specs.Binding.{closed_tree, closed_forest}
 use Rattle.heads.specs.Leaves.{LeavesAt, LeavesIn}
 use Rattle.binding.specs.Bound.{Opened, Below, bound_answer, Walked}
-use Rattle.binding.specs.declared.Bound.{Bound}
-use Rattle.binding.specs.declared.Bound.TheVariants.{Ends, Refused}
 use Rattle.binding.proofs.OpenBinders.{TyAt, opened_length, opened_at}
 use Rattle.binding.proofs.BinderTags.{leaves_same}
 
 -- one tree has been gone over, and trees in a row
-abbrev pub Walk : List ℕ → Tree → Ctx → ℕ → ℕ → ℕ → List ℕ → List ℕ → List ℕ → List ℕ → Bound → Type 0
+abbrev pub Walk : List ℕ → Tree → Ctx → ℕ → ℕ → ℕ → List ℕ → List ℕ → List ℕ → List ℕ → Option (ℕ × ℕ) → Type 0
 Walk s t Γ depth k q b₀ l₀ b₁ l₁ r = Walked (closed_tree t Γ) (LeavesAt t Γ k s) depth k (k + nodes t) q b₀ l₀ b₁ l₁ r
 
-abbrev pub WalkAll : List ℕ → Forest → Ctx → ℕ → ℕ → ℕ → List ℕ → List ℕ → List ℕ → List ℕ → Bound → Type 0
+abbrev pub WalkAll : List ℕ → Forest → Ctx → ℕ → ℕ → ℕ → List ℕ → List ℕ → List ℕ → List ℕ → Option (ℕ × ℕ) → Type 0
 WalkAll s ts Γ depth k q b₀ l₀ b₁ l₁ r = Walked (closed_forest ts Γ) (LeavesIn ts Γ k s) depth k (k + nodes_in ts) q b₀ l₀ b₁ l₁ r
 
 -- ---- answers
-pub answer_no : (c : Bool) (q j : ℕ) → Refused ≡ bound_answer c q j → c ≡ false
-answer_no true q j e = let z : ◌≡◌ {A = ℕ} 0 1 = cc in absurd (omega arith)
+pub answer_no : (c : Bool) (q j : ℕ) → None ≡ bound_answer c q j → c ≡ false
+answer_no true q j e = absurd (cc)
 answer_no false q j e = refl
 
-pub answer_yes : (c : Bool) (q j p i : ℕ) → Ends p i ≡ bound_answer c q j → (c ≡ true) × (p ≡ q) × (i ≡ j)
-answer_yes true q j p i e = (refl, cc, cc)
-answer_yes false q j p i e = let z : ◌≡◌ {A = ℕ} 0 1 = cc in absurd (omega arith)
+pub answer_yes : (c : Bool) (q j p i : ℕ) → ◌≡◌ {A = Option (ℕ × ℕ)} (Some (p, i)) (bound_answer c q j) → (c ≡ true) × (p ≡ q) × (i ≡ j)
+answer_yes true q j p i e =
+    let z : ◌≡◌ {A = ℕ × ℕ} (p, i) (q, j) = cc in
+    (refl, ap (λ (x : ℕ × ℕ). x.0) z, ap (λ (x : ℕ × ℕ). x.1) z)
+answer_yes false q j p i e = absurd (cc)
 
 -- ---- a node that is no bound identifier
 closed_other : (g n : ℕ) (us : List Ty) (ks : Forest) (Γ : Ctx) → (g ≡ #BoundIdent → ⊥)
@@ -59,7 +60,7 @@ leaves_other g n us ks Γ k s l d a = (
 )
 
 module _ (g n : ℕ) (us : List Ty) (ks : Forest) (Γ : Ctx) (d : g ≡ #BoundIdent → ⊥) (s : List ℕ) (depth inside k q : ℕ)
-    (b₀ l₀ b₁ b₂ l₂ : List ℕ) (r : Bound) where
+    (b₀ l₀ b₁ b₂ l₂ : List ℕ) (r : Option (ℕ × ℕ)) where
   abbrev here : Tree
   here = node (head g n us) ks
 
@@ -105,7 +106,7 @@ module _ (s : List ℕ) (g n : ℕ) (us : List Ty) (Γ : Ctx) (is : g ≡ #Bound
     (ll : length l ≡ 2048) (o : Opened s Γ b depth) where
   -- its index has no binder
   pub walk_none : (ks : Forest) → depth ≤ n → Walked (closed_tree (node (head g n us) ks) Γ) (LeavesAt (node (head g n us) ks) Γ k s) depth k
-      (k + nodes (node (head g n us) ks)) q b l b l Refused
+      (k + nodes (node (head g n us) ks)) q b l b l None
   walk_none ks le =
       let z = opened_length s Γ b depth o in
       let c = closed_none g n us ks Γ is (omega arith) in
@@ -121,7 +122,7 @@ module _ (s : List ℕ) (g n : ℕ) (us : List Ty) (Γ : Ctx) (is : g ≡ #Bound
   -- it has one
   pub walk_leaf : n < depth → k < 2048
       → Walked (closed_tree (node (head g n us) nil) Γ) (LeavesAt (node (head g n us) nil) Γ k s) depth k
-      (k + nodes (node (head g n us) nil)) q b l b (set l k (get_or b (depth - 1 - n) 0)) (Ends q (k + 1))
+      (k + nodes (node (head g n us) nil)) q b l b (set l k (get_or b (depth - 1 - n) 0)) (Some (q, k + 1))
   unfolding nodes
   walk_leaf lt r =
       let v : ℕ = get_or b (depth - 1 - n) 0 in
@@ -143,11 +144,11 @@ module _ (s : List ℕ) (g n : ℕ) (us : List Ty) (Γ : Ctx) (is : g ≡ #Bound
       apart i (inr h) e = omega arith
 
 -- ---- trees in a row
-pub walk_nil : (s : List ℕ) (Γ : Ctx) (depth k q : ℕ) (b l : List ℕ) → length l ≡ 2048 → WalkAll s nil Γ depth k q b l b l (Ends q k)
+pub walk_nil : (s : List ℕ) (Γ : Ctx) (depth k q : ℕ) (b l : List ℕ) → length l ≡ 2048 → WalkAll s nil Γ depth k q b l b l (Some (q, k))
 unfolding closed_tree LeavesAt nodes
 walk_nil s Γ depth k q b l ll =
     let z : k ≡ k + 0 = omega arith in
-    record { answer = ap (Ends q) z; leaves = λ f. tt; others = λ i f. refl; kept = λ i f. refl; binders_size = refl; leaves_size = ll }
+    record { answer = ap (λ (j : ℕ). Some (q, j)) z; leaves = λ f. tt; others = λ i f. refl; kept = λ i f. refl; binders_size = refl; leaves_size = ll }
 
 module _ (s : List ℕ) (t : Tree) (ts : Forest) (Γ : Ctx) (depth k q p : ℕ) (b₀ l₀ b₁ l₁ : List ℕ) where
   -- what is not of the row is not of its first tree
@@ -155,7 +156,7 @@ module _ (s : List ℕ) (t : Tree) (ts : Forest) (Γ : Ctx) (depth k q p : ℕ) 
   sooner i (inl h) = inl h
   sooner i (inr h) = inr (omega arith)
 
-  pub walk_stop : Walk s t Γ depth k p b₀ l₀ b₁ l₁ Refused → WalkAll s (cons t ts) Γ depth k q b₀ l₀ b₁ l₁ Refused
+  pub walk_stop : Walk s t Γ depth k p b₀ l₀ b₁ l₁ None → WalkAll s (cons t ts) Γ depth k q b₀ l₀ b₁ l₁ None
   unfolding closed_tree LeavesAt nodes
   walk_stop w =
       let c = answer_no (closed_tree t Γ) p (k + nodes t) w.answer in
@@ -169,7 +170,7 @@ module _ (s : List ℕ) (t : Tree) (ts : Forest) (Γ : Ctx) (depth k q p : ℕ) 
         leaves_size = w.leaves_size;
       }
 
-  pub walk_cons : (b₂ l₂ : List ℕ) (r : Bound) → Walk s t Γ depth k p b₀ l₀ b₁ l₁ (Ends p (k + nodes t))
+  pub walk_cons : (b₂ l₂ : List ℕ) (r : Option (ℕ × ℕ)) → Walk s t Γ depth k p b₀ l₀ b₁ l₁ (Some (p, k + nodes t))
       → WalkAll s ts Γ depth (k + nodes t) q b₁ l₁ b₂ l₂ r → WalkAll s (cons t ts) Γ depth k q b₀ l₀ b₂ l₂ r
   unfolding closed_tree LeavesAt nodes
   walk_cons b₂ l₂ r w v =
@@ -222,7 +223,7 @@ module _ (g n : ℕ) (us : List Ty) (ks ls : Forest) (Γ : Ctx) (d : g ≡ #Boun
         subst (λ (i : ℕ). LeavesIn ls Γ i s l) z w.1,
       )
 
-  pub walk_plain : (depth k q : ℕ) (b₀ l₀ b₁ l₁ : List ℕ) (r : Bound) → WalkAll s (append ks ls) Γ depth (k + 1) q b₀ l₀ b₁ l₁ r
+  pub walk_plain : (depth k q : ℕ) (b₀ l₀ b₁ l₁ : List ℕ) (r : Option (ℕ × ℕ)) → WalkAll s (append ks ls) Γ depth (k + 1) q b₀ l₀ b₁ l₁ r
       → WalkAll s (cons (node (head g n us) ks) ls) Γ depth k q b₀ l₀ b₁ l₁ r
   unfolding nodes
   walk_plain depth k q b₀ l₀ b₁ l₁ r w =

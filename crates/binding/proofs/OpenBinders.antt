@@ -1,5 +1,5 @@
 -- The list of open binders, and the ways out of open_binders.
--- Main results: opened_length, opened_at (the type of an index), opened_below, opened_push; binders_first, binders_after, open_none, open_more.
+-- Main results: opened_length, opened_at (the type of an index), opened_below, opened_push; the laws of Opens, the invariant of open_binders.
 use mathlib.Core.Path.{◌≡◌, refl, sym, ap, ◌∙◌, subst}
 use mathlib.Core.List.{List, [], ◌∷◌, append-nil}
 use Prim.Native.Nat.{ℕ, zero, suc, ◌+◌, ◌-◌, ◌≤◌, ◌<◌}
@@ -132,3 +132,41 @@ open_none s at end depth b l = record { size = refl; kept = λ i j. refl; by = b
         → (depth ≡ depth + length us) × ((Γ : Ctx) → Opened s Γ b depth → Opened s (push us Γ) b depth)
     by [] a w = (omega arith, λ Γ o. o)
     by (u ∷ us) a w = absurd (omega (arith, a.long, length-append (enc_ty u) (enc_tys us), ty_long u))
+
+-- ---- the loop: the binders that are left, and what they say of all
+pub record Opens (s : List ℕ) (at end depth : ℕ) (b₀ : List ℕ) (p n : ℕ) (b : List ℕ) : Type 0 where
+  pub left : Binders s p end
+  pub below : n ≤ p
+  pub size : length b ≡ length b₀
+  pub back : (c : List ℕ) (m : ℕ) → OpenPost s p end n b c m → OpenPost s at end depth b₀ c m
+
+pub opens_begins : (s : List ℕ) (at end depth : ℕ) (b : List ℕ) → depth ≤ at → Binders s at end → Opens s at end depth b at depth b
+opens_begins s at end depth b l h = record { left = h; below = l; size = refl; back = λ c m o. o }
+
+module _ {s : List ℕ} {at end depth : ℕ} {b₀ : List ℕ} {p n : ℕ} {b : List ℕ} (o : Opens s at end depth b₀ p n b) where
+  pub opens_done : end ≤ p → OpenPost s at end depth b₀ b n
+  opens_done l = o.back b n (open_none s p end n b l)
+
+  module _ (l : p < end) where
+    pub opens_room : end ≤ length s
+    opens_room = binders_room s p end l o.left
+
+    pub opens_first : TypesStand s p 1
+    opens_first = binders_first s p end l o.left
+
+    module _ (q : ℕ) (a : SkipPost s p 1 q) where
+      pub opens_past : p + 1 ≤ q
+      opens_past = (binders_after s p end l q a o.left).1
+
+      pub opens_next : length s ≤ length b₀ → Opens s at end depth b₀ q (n + 1) (set b n p)
+      opens_next h =
+          let r = opens_room in
+          let e = opens_past in
+          let y = o.below in
+          let z = o.size in
+          record {
+            left = (binders_after s p end l q a o.left).0;
+            below = omega arith;
+            size = length-set b n p ∙ o.size;
+            back = λ c m post. o.back c m (open_more s p end l q a b c n m (omega arith) post);
+          }

@@ -2,22 +2,24 @@
 -- Main results: row_head (a head stands there), node_of (the first node, its children and the later trees),
 -- joined (the children join the later trees), row_long.
 use mathlib.Core.Path.{◌≡◌, refl, sym, ap, ◌∙◌, subst}
-use mathlib.Core.Bool.{Bool}
 use mathlib.Core.List.{List, [], ◌∷◌, ◌++◌}
 use Prim.Native.Nat.{ℕ, zero, suc, ◌+◌, ◌-◌, ◌≤◌, ◌<◌}
 use native.Mathlib.Omega.{arith}
 use lib.ListN.{length, length-append}
 use Rattle.frame.specs.Types.{Ty}
 use Rattle.frame.specs.Trees.{head, Tree, node, Forest, nil, cons, append, count, nodes}
-use Rattle.frame.specs.Tags.{Sort, Form, form_of, form_at, class_of, lookup, payload_of, sorts_of}
-use Rattle.frame.specs.Operators.{#BoundIdent}
-use Rattle.tags.specs.TagCodes.{form_at_code, kinds_for}
+use Rattle.frame.specs.Tags as T
+use Rattle.frame.specs.Tags.{payload_of, sorts_of}
+use Rattle.tags.specs.declared.forms.Sort.{Sort}
+use Rattle.tags.specs.declared.forms.Form.{Form}
+use Rattle.tags.specs.declared.forms.Form.TheVariants.{BoundIdentifier}
+use Rattle.tags.specs.TagCodes.{meant, kinds_for}
 use Rattle.frame.specs.Encoding.{enc_tys, enc, encs}
 use Rattle.frame.specs.WellFormed.{number_in, HeadWf, Wfs}
 use Rattle.frame.specs.Spans.{Bytes, Spans}
 use Rattle.frame.specs.At.{IsAt}
 use Rattle.heads.specs.HeadPost.{HeadStands, payload_in, KnownPost}
-use Rattle.heads.specs.declared.KnownHead.{KnownHead}
+use Rattle.heads.specs.declared.Head.{Head as ReadHead}
 use Rattle.frame.proofs.Spans.{span_left, span_right, span_join}
 use Rattle.frame.proofs.Forests.{encs_append, count_append, wfs_append}
 use Rattle.frame.proofs.Extents.{nodes_enc}
@@ -28,7 +30,7 @@ use Rattle.binding.specs.Bound.{Row, RowHere}
 
 -- ---- the first tree
 record FirstTree (s : List ℕ) (at m : ℕ) (ts : Forest) (q : ℕ) : Type 0 where
-  e : Sort
+  e : T.Sort
   t : Tree
   later : Forest
   mid : ℕ
@@ -42,7 +44,7 @@ unfolding enc
 first_tree s at m l nil q a = absurd (omega (arith, a.many))
 first_tree s at m l (cons t ts) q a = go a.sorts a.wf
   where
-    go : (es : List Sort) → Wfs (cons t ts) es → FirstTree s at m (cons t ts) q
+    go : (es : List T.Sort) → Wfs (cons t ts) es → FirstTree s at m (cons t ts) q
     go [] w = absurd w
     go (e ∷ es) w = record {
       e = e;
@@ -67,27 +69,21 @@ count_long (cons t ts) = omega (arith, length-append (enc t) (encs ts), enc_long
 pub row_long : (s : List ℕ) (at m : ℕ) (ts : Forest) (q : ℕ) → Row s at m ts q → m ≤ length s
 row_long s at m ts q a = omega (arith, a.many, a.span.long, a.span.within, count_long ts)
 
--- ---- a bound identifier
--- it has its index behind the tag, and no child
-bound_form : (x y : ℕ) → (payload_of (form_of 3).layout x ≡ x) × (sorts_of (form_of 3).layout y ≡ [])
-unfolding lookup class_of form_at
-bound_form x y = (refl, refl)
-
-no_kinds : (c : ℕ) (a b : Bool) → kinds_for c a b ≡ [] → c ≡ 0
+-- ---- the first node, its children, and the later trees
+no_kinds : (c : ℕ) (a b : Sort) → kinds_for c a b ≡ [] → c ≡ 0
 no_kinds zero a b e = refl
 no_kinds (suc c) a b e = let z : ◌≡◌ {A = ℕ} 0 1 = cc in absurd (omega arith)
 
--- ---- the first node, its children, and the later trees
-pub record FirstNode (s : List ℕ) (at m : ℕ) (ts : Forest) (q : ℕ) (hd : KnownHead) : Type 0 where
-  pub e : Sort
+pub record FirstNode (s : List ℕ) (at m : ℕ) (ts : Forest) (q : ℕ) (hd : ReadHead) : Type 0 where
+  pub e : T.Sort
   pub n : ℕ
   pub us : List Ty
   pub ks : Forest
   pub later : Forest
   pub mid : ℕ
   pub is : ts ≡ cons (node (head hd.tag n us) ks) later
-  pub index : hd.tag ≡ #BoundIdent → n ≡ hd.number
-  pub alone : hd.tag ≡ #BoundIdent → hd.count ≡ 0
+  pub index : hd.form ≡ BoundIdentifier → n ≡ hd.number
+  pub alone : hd.form ≡ BoundIdentifier → hd.count ≡ 0
   pub types : Spans s hd.types hd.children (enc_tys us)
   pub wf : HeadWf e hd.tag n us (count ks)
   pub kids : Row s hd.children hd.count ks mid
@@ -96,10 +92,7 @@ pub record FirstNode (s : List ℕ) (at m : ℕ) (ts : Forest) (q : ℕ) (hd : K
   -- each place has two bytes
   pub places : at + (nodes (node (head hd.tag n us) ks) + nodes (node (head hd.tag n us) ks)) ≤ mid
 
-module _ (s : List ℕ) (bs : Bytes s) (at m : ℕ) (l : 0 < m) (hd : KnownHead) (kn : KnownPost s at hd) where
-  own_form : hd.tag ≡ #BoundIdent → form_of 3 ≡ form_at_code hd.form
-  own_form z = sym (code_form hd.tag hd.form kn.form ∙ ap form_of z)
-
+module _ (s : List ℕ) (bs : Bytes s) (at m : ℕ) (l : 0 < m) (hd : ReadHead) (kn : KnownPost s at hd) where
   pub node_of : (ts : Forest) (q : ℕ) → Row s at m ts q → FirstNode s at m ts q hd
   node_of ts q a =
       let f = first_tree s at m l ts q a in
@@ -112,9 +105,10 @@ module _ (s : List ℕ) (bs : Bytes s) (at m : ℕ) (l : 0 < m) (hd : KnownHead)
         later = f.later;
         mid = f.mid;
         is = f.is ∙ ap (λ (t : Tree). cons t f.later) v.is;
-        index = λ z. subst (λ (k : Form). payload_of k.layout hd.number ≡ hd.number) (own_form z) (bound_form hd.number 0).0;
-        alone = λ z. no_kinds hd.count _ _ (v.top.sorts ∙ ap (λ (g : ℕ). sorts_of (form_of g).layout
-            (number_in hd.tag (payload_in hd) v.us (count v.ks))) z ∙ (bound_form 0 _).1);
+        index = λ z. subst (λ (f : Form). payload_of (meant f).layout hd.number ≡ hd.number) (sym z) refl;
+        alone = λ z. no_kinds hd.count _ _ (v.top.sorts
+            ∙ ap (λ (f : T.Form). sorts_of f.layout (number_in hd.tag (payload_in hd) v.us (count v.ks))) (sym (code_form hd.tag hd.form kn.form))
+            ∙ ap (λ (f : Form). sorts_of (meant f).layout (number_in hd.tag (payload_in hd) v.us (count v.ks))) z);
         types = v.top.types;
         wf = v.top.wf;
         kids = record {
@@ -128,7 +122,7 @@ module _ (s : List ℕ) (bs : Bytes s) (at m : ℕ) (l : 0 < m) (hd : KnownHead)
         places = subst (λ (t : Tree). at + (nodes t + nodes t) ≤ f.mid) v.is (omega (arith, f.long, nodes_enc f.t));
       }
 
-pub joined : (s : List ℕ) (at m : ℕ) (ts : Forest) (q : ℕ) (hd : KnownHead) → 0 < m → (v : FirstNode s at m ts q hd)
+pub joined : (s : List ℕ) (at m : ℕ) (ts : Forest) (q : ℕ) (hd : ReadHead) → 0 < m → (v : FirstNode s at m ts q hd)
     → Row s hd.children (m - 1 + hd.count) (append v.ks v.later) q
 joined s at m ts q hd l v = record {
   sorts = v.kids.sorts ++ v.after.sorts;

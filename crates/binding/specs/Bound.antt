@@ -1,6 +1,6 @@
 -- What the check of number 8 promises: contracts of src/lib.rt. The list of open binders holds, for each, where its type
 -- stands; the last opened is index 0.
-use Rattle.std.specs.Prelude.{◌≡◌, ◌⊎◌, Bool, true, false, List, [], ◌∷◌, ℕ, zero, suc, ◌+◌, ◌≤◌, ◌<◌, length, get_or}
+use Rattle.std.specs.Prelude.{◌≡◌, Option, Some, None, ◌⊎◌, Bool, true, false, List, [], ◌∷◌, ℕ, zero, suc, ◌+◌, ◌≤◌, ◌<◌, length, get_or}
 use Rattle.frame.specs.Types.{Ty}
 use Rattle.frame.specs.Trees.{Tree, Forest, count, nodes, nodes_in}
 use Rattle.frame.specs.Tags.{Sort, predicate}
@@ -12,8 +12,6 @@ use Rattle.frame.specs.Spans.{Spans}
 use Rattle.frame.specs.At.{IsAt}
 use Rattle.typing.specs.Binding.{closed_tree, closed_forest}
 use Rattle.heads.specs.Leaves.{LeavesAt, LeavesIn}
-use Rattle.binding.specs.declared.Bound.{Bound}
-use Rattle.binding.specs.declared.Bound.TheVariants.{Ends, Refused}
 
 -- the first n entries are where the types of Γ stand, the last entry that of its first
 abbrev pub Opened : List ℕ → Ctx → List ℕ → ℕ → Type 0
@@ -61,12 +59,12 @@ pub record OpenPost (s : List ℕ) (at end depth : ℕ) (old new : List ℕ) (r 
       → (r ≡ depth + length us) × ((Γ : Ctx) → Opened s Γ old depth → Opened s (push us Γ) new r)
 
 -- ---- trees are gone over
-abbrev pub bound_answer : Bool → ℕ → ℕ → Bound
-bound_answer true q j = Ends q j
-bound_answer false q j = Refused
+abbrev pub bound_answer : Bool → ℕ → ℕ → Option (ℕ × ℕ)
+bound_answer true q j = Some (q, j)
+bound_answer false q j = None
 
 -- from place k up to j, and in the bytes up to q: whether all indices have a binder; if so the table has their types
-pub record Walked (closed : Bool) (typed : List ℕ → Type 0) (depth k j q : ℕ) (b₀ l₀ b₁ l₁ : List ℕ) (r : Bound) : Type 0 where
+pub record Walked (closed : Bool) (typed : List ℕ → Type 0) (depth k j q : ℕ) (b₀ l₀ b₁ l₁ : List ℕ) (r : Option (ℕ × ℕ)) : Type 0 where
   pub answer : r ≡ bound_answer closed q j
   pub leaves : closed ≡ true → typed l₁
   pub others : Outside k j l₀ l₁
@@ -74,7 +72,7 @@ pub record Walked (closed : Bool) (typed : List ℕ → Type 0) (depth k j q : �
   pub binders_size : length b₁ ≡ length b₀
   pub leaves_size : length l₁ ≡ 2048
 
-pub record BoundRow (s : List ℕ) (at m depth k : ℕ) (b₀ l₀ b₁ l₁ : List ℕ) (r : Bound) : Type 0 where
+pub record BoundRow (s : List ℕ) (at m depth k : ℕ) (b₀ l₀ b₁ l₁ : List ℕ) (r : Option (ℕ × ℕ)) : Type 0 where
   pub by : (ts : Forest) (Γ : Ctx) (q : ℕ) → Row s at m ts q → Opened s Γ b₀ depth
       → Walked (closed_forest ts Γ) (LeavesIn ts Γ k s) depth k (k + nodes_in ts) q b₀ l₀ b₁ l₁ r
 

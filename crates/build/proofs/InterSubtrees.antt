@@ -17,7 +17,9 @@ use Rattle.frame.proofs.Splices.{find_lt}
 use Rattle.frame.proofs.Within.{kids_of_lem, kid_first, kid_next}
 use Rattle.frame.proofs.Forests.{count_append, encs_append}
 use Rattle.frame.proofs.Extents.{some_node}
-use Rattle.nav.specs.PlaceTables.{Table, Placed, PlacedIn, ArityPost}
+use Rattle.std.proofs.Common.{Option}
+use Rattle.nav.specs.declared.Places.{Places}
+use Rattle.nav.specs.AtPlaces.{PlacesOf, AtPlace, InTables, ArityAt}
 use Rattle.nav.proofs.Hops.{place_sorted}
 use Rattle.nav.proofs.SamePlaces.{only_child}
 use Rattle.rules.specs.Change.{Change, joined}
@@ -37,28 +39,28 @@ inter_counts : Counts #BInter
 unfolding lookup class_of form_at
 inter_counts n us m = refl
 
-module _ (s : List ℕ) (n : ℕ) (st nx : List ℕ) (t : Tree) (tb : Table s t st nx n) (at : ℕ) (Ξ : Ctx) (x : ℕ) (vs : List Ty) (ks : Forest)
+module _ (pl : Places) (t : Tree) (tb : PlacesOf pl t) (at : ℕ) (Ξ : Ctx) (x : ℕ) (vs : List Ty) (ks : Forest)
     (f : find t [] at ≡ found Ξ (node (head #BInter x vs) ks)) where
   inter_few : (2 ≤ count ks) × (count ks ≤ 255)
   inter_few =
-      let o = place_sorted s t st n tb.framed at Ξ (node (head #BInter x vs) ks) f in
+      let o = place_sorted pl.bytes.now t pl.starts.now pl.count tb.framed at Ξ (node (head #BInter x vs) ks) f in
       (some_two #BInter inter_counts x vs ks o, few_of #BInter inter_counts x vs ks o)
 
   inter_row : RowAt t (at + 1) (under #BInter vs Ξ) ks
   inter_row = kids_of_lem t [] at Ξ #BInter x vs ks f
 
-  inter_placed : Placed s st at
-  inter_placed = record { t = t; n = n; framed = tb.framed; below = find_lt t [] at _ _ f }
+  inter_pre : RowPre pl at
+  inter_pre = record { t = t; table = tb; Γ = Ξ; g = #BInter; x = x; us = vs; ks = ks; there = f }
 
-  module _ (m : ℕ) (pm : ArityPost s st at m) where
+  inter_placed : AtPlace pl at
+  inter_placed = record { t = t; n = pl.count; framed = tb.framed; below = find_lt t [] at _ _ f }
+
+  module _ (m : ℕ) (pm : ArityAt pl at m) where
     inter_count : m ≡ count ks
-    inter_count = pm.many t n Ξ (node (head #BInter x vs) ks) tb.framed f
+    inter_count = pm.many t pl.count Ξ (node (head #BInter x vs) ks) tb.framed f
 
     inter_many : (2 ≤ m) × (m ≤ 255)
     inter_many = (omega (arith, inter_count, inter_few.0), omega (arith, inter_count, inter_few.1))
-
-    inter_pre : RowPre s n st nx (at + 1) m
-    inter_pre = record { t = t; table = tb; Γ = under #BInter vs Ξ; ks = ks; row = inter_row; many = inter_count }
 
 -- ---- a tree of operators over lists as bytes
 -- one operand stands alone
@@ -126,6 +128,15 @@ unfolding enc
 with_bytes (Rattle.rules.specs.EqualsEmptySet.minus a b) bs = ap (λ (l : List ℕ). l ++ encs bs) (append-nil (enc b))
 with_bytes (Rattle.rules.specs.EqualsEmptySet.whole t) bs = refl
 
+one_subtrahend : (m : Rattle.rules.specs.EqualsEmptySet.Minus) (ks : Forest) → count (with_subtrahend m ks) ≤ suc (count ks)
+one_subtrahend (Rattle.rules.specs.EqualsEmptySet.minus a b) ks = omega arith
+one_subtrahend (Rattle.rules.specs.EqualsEmptySet.whole t) ks = omega arith
+
+few_subtrahends : (ks : Forest) → count (subtrahends ks) ≤ count ks
+unfolding subtrahends
+few_subtrahends nil = omega arith
+few_subtrahends (cons w ks) = omega (arith, few_subtrahends ks, one_subtrahend (minus_of w) (subtrahends ks))
+
 row_subtrahends : (c : ℕ) (ks : Forest) → row_of Subtrahend c ks ≡ encs (subtrahends ks)
 unfolding row_of subtrahends enc
 row_subtrahends c nil = refl
@@ -142,26 +153,29 @@ row_at t c Γ (cons v left) w right r =
     let z : c + (nodes v + nodes_in left) ≡ c + nodes v + nodes_in left = omega arith in
     ap (find t []) z ∙ row_at t (c + nodes v) Γ left w right (kid_next t [] c Γ v (append left (cons w right)) r)
 
-module _ (at single : ℕ) (s : List ℕ) (n : ℕ) (st nx leaves : List ℕ) where
+module _ (at single : ℕ) (pl : Places) where
   abbrev operands : (t : Tree) (c : Change) → ApartMeans t at single c → Forest
   operands t c w = append w.left (cons (many #SetExt (sole w.a)) w.right)
 
-  member_at : (t : Tree) (c : Change) → Table s t st nx n → (w : ApartMeans t at single c)
+  member_at : (t : Tree) (c : Change) → PlacesOf pl t → (w : ApartMeans t at single c)
       → (find t [] single ≡ found (under #BInter w.vs w.Ξ) (many #SetExt (sole w.a)))
       × (find t [] (single + 1) ≡ found (under #SetExt [] (under #BInter w.vs w.Ξ)) w.a)
   member_at t c tb w =
-      let r = inter_row s n st nx t tb at w.Ξ w.n w.vs (operands t c w) w.at_node in
+      let r = inter_row pl t tb at w.Ξ w.n w.vs (operands t c w) w.at_node in
       let f = row_at t (at + 1) (under #BInter w.vs w.Ξ) w.left (many #SetExt (sole w.a)) w.right r in
       let g : find t [] single ≡ found (under #BInter w.vs w.Ξ) (many #SetExt (sole w.a)) = ap (find t []) w.there ∙ f in
-      (g, only_child t nx tb.follows single (under #BInter w.vs w.Ξ) #SetExt 0 [] w.a g)
+      (g, only_child t pl.nexts.now tb.follows single (under #BInter w.vs w.Ξ) #SetExt 0 [] w.a g)
 
-  pub apart_placed : BuildPre (OfApart at single) s n st nx leaves → Placed s st at
-  apart_placed p = inter_placed s n st nx p.t p.table at _ _ _ _ p.means.at_node
+  pub apart_placed : BuildPre (OfApart at single) pl → AtPlace pl at
+  apart_placed p = inter_placed pl p.t p.table at _ _ _ _ p.means.at_node
 
-  pub apart_few : BuildPre (OfApart at single) s n st nx leaves → (at < 2048) × (single < 2048)
+  pub apart_few : BuildPre (OfApart at single) pl → (at < 2048) × (single < 2048)
   apart_few p = (place_few p.table p.means.at_node, place_few p.table (member_at p.t p.c p.table p.means).0)
 
-  pub apart_member : BuildPre (OfApart at single) s n st nx leaves → PlacedIn s n st nx (single + 1)
+  pub apart_row : BuildPre (OfApart at single) pl → RowPre pl at
+  apart_row p = inter_pre pl p.t p.table at _ _ _ _ p.means.at_node
+
+  pub apart_member : BuildPre (OfApart at single) pl → InTables pl (single + 1)
   apart_member p = record {
     t = p.t;
     table = p.table;
@@ -169,80 +183,80 @@ module _ (at single : ℕ) (s : List ℕ) (n : ℕ) (st nx leaves : List ℕ) wh
         (member_at p.t p.c p.table p.means).1;
   }
 
-  module _ (m : ℕ) (pm : ArityPost s st at m) where
-    pub apart_many : BuildPre (OfApart at single) s n st nx leaves → (2 ≤ m) × (m ≤ 255)
-    apart_many p = inter_many s n st nx p.t p.table at _ _ _ _ p.means.at_node m pm
+  module _ (m : ℕ) (pm : ArityAt pl at m) where
+    pub apart_many : BuildPre (OfApart at single) pl → (2 ≤ m) × (m ≤ 255)
+    apart_many p = inter_many pl p.t p.table at _ _ _ _ p.means.at_node m pm
 
-    pub apart_row : BuildPre (OfApart at single) s n st nx leaves → RowPre s n st nx (at + 1) m
-    apart_row p = inter_pre s n st nx p.t p.table at _ _ _ _ p.means.at_node m pm
-
-    pub apart_built : (o₀ : List ℕ) (i₀ : ℕ) (o₁ : List ℕ) (i₁ : ℕ) → Puts o₀ i₀ o₁ i₁ (enc_number 2 #Not) → (o₂ : List ℕ) (i₂ : ℕ)
-        → Puts o₁ i₁ o₂ i₂ (enc_number 2 #In) → (o₃ : List ℕ) (i₃ : ℕ) → CopyPost s n st nx (single + 1) o₂ i₂ o₃ i₃ → (o₄ : List ℕ) (i₄ : ℕ)
-        → Puts o₃ i₃ o₄ i₄ (joined_bytes #BInter (m - 1)) → (o₅ : List ℕ) (i₅ : ℕ)
-        → RowPost s n st nx (at + 1) m (Besides single) o₄ i₄ o₅ i₅ → BuildPost (OfApart at single) s n st nx leaves o₀ i₀ o₅ i₅
+    pub apart_built : (o₀ o₁ : Option (List ℕ)) → Puts o₀ o₁ (enc_number 2 #Not) → (o₂ : Option (List ℕ))
+        → Puts o₁ o₂ (enc_number 2 #In) → (o₃ : Option (List ℕ)) → CopyPost pl (single + 1) o₂ o₃ → (o₄ : Option (List ℕ))
+        → Puts o₃ o₄ (joined_bytes #BInter (m - 1)) → (o₅ : Option (List ℕ))
+        → RowPost pl at (Besides single) o₄ o₅ → BuildPost (OfApart at single) pl o₀ o₅
     unfolding lookup class_of form_at
-    apart_built o₀ i₀ o₁ i₁ h₁ o₂ i₂ h₂ o₃ i₃ h₃ o₄ i₄ h₄ o₅ i₅ h₅ =
+    apart_built o₀ o₁ h₁ o₂ h₂ o₃ h₃ o₄ h₄ o₅ h₅ =
         record {
           puts = λ t c p new tb h w ans.
               (let rest : Forest = append w.left w.right in
               let b : Tree = joined #BInter rest in
               let y = ap enc (new_is (one #Not (two #In w.a b)) new 37 p (sym w.answer ∙ ans)) in
-              let r = inter_row s n st nx t tb at w.Ξ w.n w.vs (operands t c w) w.at_node in
-              let e = inter_count s n st nx t tb at w.Ξ w.n w.vs (operands t c w) w.at_node m pm in
+              let e = inter_count pl t tb at w.Ξ w.n w.vs (operands t c w) w.at_node m pm in
               let x₃ = h₃.puts t _ w.a tb (member_at t c tb w).1 in
-              let x₅ = puts_as o₄ i₄ o₅ i₅ _ _ (row_besides single (at + 1) w.left (many #SetExt (sole w.a)) w.right w.there)
-              (h₅.puts t (under #BInter w.vs w.Ξ) (operands t c w) tb r e) in
+              let x₅ = puts_as o₄ o₅ _ _ (row_besides single (at + 1) w.left (many #SetExt (sole w.a)) w.right w.there)
+              (h₅.puts t w.Ξ #BInter w.n w.vs (operands t c w) tb w.at_node) in
               let z : m - 1 ≡ count rest = omega (
                 arith,
                 count_append w.left
                     (cons (many #SetExt (sole w.a)) w.right),
                 count_append w.left w.right,
               ) in
-              let x₄ = puts_as o₃ i₃ o₄ i₄ _ _ (ap (joined_bytes #BInter) z) h₄ in
-              let x = puts_then o₀ i₀ o₁ i₁ o₅ i₅ _ _ h₁ (puts_then o₁ i₁ o₂ i₂ o₅ i₅ _ _ h₂
-              (puts_then o₂ i₂ o₃ i₃ o₅ i₅ _ _ x₃ (puts_then o₃ i₃ o₄ i₄ o₅ i₅ _ _ x₄ x₅))) in
-              puts_as o₀ i₀ o₅ i₅ _ _ (sym (not_bytes (two #In w.a b) ∙ ap (λ (l : List ℕ). enc_number 2 #Not ++ l)
+              let x₄ = puts_as o₃ o₄ _ _ (ap (joined_bytes #BInter) z) h₄ in
+              let x = puts_then o₀ o₁ o₅ _ _ h₁ (puts_then o₁ o₂ o₅ _ _ h₂
+              (puts_then o₂ o₃ o₅ _ _ x₃ (puts_then o₃ o₄ o₅ _ _ x₄ x₅))) in
+              puts_as o₀ o₅ _ _ (sym (not_bytes (two #In w.a b) ∙ ap (λ (l : List ℕ). enc_number 2 #Not ++ l)
               (two_bytes #In _ refl w.a b ∙ ap (λ (l : List ℕ). enc_number 2 #In ++ (enc w.a ++ l))
               (joined_bytes_lem #BInter inter_bytes rest))) ∙ y) x);
         }
 
 -- ---- build_within
-module _ (at : ℕ) (s : List ℕ) (n : ℕ) (st nx leaves : List ℕ) where
-  pub within_placed : BuildPre (OfWithin at) s n st nx leaves → Placed s st at
-  within_placed p = inter_placed s n st nx p.t p.table at _ _ _ _ p.means.at_node
+module _ (at : ℕ) (pl : Places) where
+  pub within_placed : BuildPre (OfWithin at) pl → AtPlace pl at
+  within_placed p = inter_placed pl p.t p.table at _ _ _ _ p.means.at_node
 
-  pub within_few : BuildPre (OfWithin at) s n st nx leaves → at < 2048
+  pub within_row : BuildPre (OfWithin at) pl → RowPre pl at
+  within_row p = inter_pre pl p.t p.table at _ _ _ _ p.means.at_node
+
+  pub within_few : BuildPre (OfWithin at) pl → at < 2048
   within_few p = place_few p.table p.means.at_node
 
-  module _ (m : ℕ) (pm : ArityPost s st at m) where
-    pub within_many : BuildPre (OfWithin at) s n st nx leaves → m ≤ 255
-    within_many p = (inter_many s n st nx p.t p.table at _ _ _ _ p.means.at_node m pm).1
+  module _ (m : ℕ) (pm : ArityAt pl at m) where
+    pub within_many : BuildPre (OfWithin at) pl → m ≤ 255
+    within_many p = (inter_many pl p.t p.table at _ _ _ _ p.means.at_node m pm).1
 
-    pub within_row : BuildPre (OfWithin at) s n st nx leaves → RowPre s n st nx (at + 1) m
-    within_row p = inter_pre s n st nx p.t p.table at _ _ _ _ p.means.at_node m pm
+    -- no more sets are subtracted than there are operands
+    pub within_minus : BuildPre (OfWithin at) pl → (d : ℕ) → MinusRowPost pl at d → d ≤ 255
+    within_minus p d pd =
+        let w = p.means in
+        omega (arith, pd.counts p.t w.Ξ #BInter w.n w.vs w.ks p.table w.at_node, few_subtrahends w.ks, (inter_few pl p.t p.table at w.Ξ w.n w.vs w.ks w.at_node).1)
 
-    pub within_built : (o₀ : List ℕ) (i₀ : ℕ) (o₁ : List ℕ) (i₁ : ℕ) → Puts o₀ i₀ o₁ i₁ (enc_number 2 #SubsetEq) → (o₂ : List ℕ) (i₂ : ℕ)
-        → Puts o₁ i₁ o₂ i₂ (joined_bytes #BInter m) → (o₃ : List ℕ) (i₃ : ℕ) → RowPost s n st nx (at + 1) m Minuend o₂ i₂ o₃ i₃ → (d : ℕ)
-        → MinusRowPost s n st nx (at + 1) m d → (o₄ : List ℕ) (i₄ : ℕ) → Puts o₃ i₃ o₄ i₄ (joined_bytes #BUnion d) → (o₅ : List ℕ) (i₅ : ℕ)
-        → RowPost s n st nx (at + 1) m Subtrahend o₄ i₄ o₅ i₅ → BuildPost (OfWithin at) s n st nx leaves o₀ i₀ o₅ i₅
+    pub within_built : (o₀ o₁ : Option (List ℕ)) → Puts o₀ o₁ (enc_number 2 #SubsetEq) → (o₂ : Option (List ℕ))
+        → Puts o₁ o₂ (joined_bytes #BInter m) → (o₃ : Option (List ℕ)) → RowPost pl at Minuend o₂ o₃ → (d : ℕ)
+        → MinusRowPost pl at d → (o₄ : Option (List ℕ)) → Puts o₃ o₄ (joined_bytes #BUnion d) → (o₅ : Option (List ℕ))
+        → RowPost pl at Subtrahend o₄ o₅ → BuildPost (OfWithin at) pl o₀ o₅
     unfolding lookup class_of form_at
-    within_built o₀ i₀ o₁ i₁ h₁ o₂ i₂ h₂ o₃ i₃ h₃ d pd o₄ i₄ h₄ o₅ i₅ h₅ =
+    within_built o₀ o₁ h₁ o₂ h₂ o₃ h₃ d pd o₄ h₄ o₅ h₅ =
         record {
           puts = λ t c p new tb h w ans.
               (let ks = w.ks in
               let a : Tree = joined #BInter (minuends ks) in
               let b : Tree = joined #BUnion (subtrahends ks) in
-              let Γ = under #BInter w.vs w.Ξ in
               let y = ap enc (new_is (two #SubsetEq a b) new 38 p (sym w.answer ∙ ans)) in
-              let r = inter_row s n st nx t tb at w.Ξ w.n w.vs ks w.at_node in
-              let e = inter_count s n st nx t tb at w.Ξ w.n w.vs ks w.at_node m pm in
-              let x₂ = puts_as o₁ i₁ o₂ i₂ _ _ (ap (joined_bytes #BInter) (e ∙ sym (count_minuends ks))) h₂ in
-              let x₃ = puts_as o₂ i₂ o₃ i₃ _ _ (row_minuends (at + 1) ks) (h₃.puts t Γ ks tb r e) in
-              let x₄ = puts_as o₃ i₃ o₄ i₄ _ _ (ap (joined_bytes #BUnion) (pd.counts t Γ ks tb r e)) h₄ in
-              let x₅ = puts_as o₄ i₄ o₅ i₅ _ _ (row_subtrahends (at + 1) ks) (h₅.puts t Γ ks tb r e) in
-              let first = puts_as o₁ i₁ o₃ i₃ _ _ (sym (joined_bytes_lem #BInter inter_bytes (minuends ks))) (puts_then o₁ i₁ o₂ i₂ o₃ i₃ _ _ x₂ x₃) in
-              let second = puts_as o₃ i₃ o₅ i₅ _ _ (sym (joined_bytes_lem #BUnion union_bytes (subtrahends ks)))
-              (puts_then o₃ i₃ o₄ i₄ o₅ i₅ _ _ x₄ x₅) in
-              puts_as o₀ i₀ o₅ i₅ _ _ (sym (two_bytes #SubsetEq _ refl a b) ∙ y)
-              (puts_then o₀ i₀ o₁ i₁ o₅ i₅ _ _ h₁ (puts_then o₁ i₁ o₃ i₃ o₅ i₅ _ _ first second)));
+              let e = inter_count pl t tb at w.Ξ w.n w.vs ks w.at_node m pm in
+              let x₂ = puts_as o₁ o₂ _ _ (ap (joined_bytes #BInter) (e ∙ sym (count_minuends ks))) h₂ in
+              let x₃ = puts_as o₂ o₃ _ _ (row_minuends (at + 1) ks) (h₃.puts t w.Ξ #BInter w.n w.vs ks tb w.at_node) in
+              let x₄ = puts_as o₃ o₄ _ _ (ap (joined_bytes #BUnion) (pd.counts t w.Ξ #BInter w.n w.vs ks tb w.at_node)) h₄ in
+              let x₅ = puts_as o₄ o₅ _ _ (row_subtrahends (at + 1) ks) (h₅.puts t w.Ξ #BInter w.n w.vs ks tb w.at_node) in
+              let first = puts_as o₁ o₃ _ _ (sym (joined_bytes_lem #BInter inter_bytes (minuends ks))) (puts_then o₁ o₂ o₃ _ _ x₂ x₃) in
+              let second = puts_as o₃ o₅ _ _ (sym (joined_bytes_lem #BUnion union_bytes (subtrahends ks)))
+              (puts_then o₃ o₄ o₅ _ _ x₄ x₅) in
+              puts_as o₀ o₅ _ _ (sym (two_bytes #SubsetEq _ refl a b) ∙ y)
+              (puts_then o₀ o₁ o₅ _ _ h₁ (puts_then o₁ o₃ o₅ _ _ first second)));
         }

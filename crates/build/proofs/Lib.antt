@@ -1,5 +1,5 @@
-mod RowTurns
-mod SubtreeTurns
-mod InterSubtrees
-mod DecisionTurns
-mod SpliceTurns
+pub mod RowTurns
+pub mod SubtreeTurns
+pub mod InterSubtrees
+pub mod DecisionTurns
+pub mod SpliceTurns

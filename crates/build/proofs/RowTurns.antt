@@ -1,51 +1,56 @@
 -- The ways out of the functions of src/rows.rt.
--- Main results: copy_range, copy_done; the shares (besides_none .. subtrahend_none); row_none, row_first, row_rest, row_more; minus_none,
--- minus_yes, minus_no; kept_none, kept_place, kept_rest, kept_more.
-use mathlib.Core.Path.{◌≡◌, refl, sym, ap, ◌∙◌, subst}
-use mathlib.Core.List.{List, [], ◌∷◌, ◌++◌, append-nil}
-use Prim.Native.Nat.{ℕ, zero, suc, ◌+◌, ◌-◌, ◌≤◌, ◌<◌}
+-- Main results: copied; the shares (besides_none .. subtrahend_none); row_placed, row_child, row_first, row_next, row_end; minus_few .. minus_end;
+-- kept_first .. kept_end.
+use mathlib.Core.Path.{◌≡◌, refl, sym, ap, ◌∙◌}
+use mathlib.Core.Bool.{Bool, true, false}
+use mathlib.Core.List.{List, [], ◌∷◌, append-nil}
+use Prim.Native.Nat.{ℕ, zero, suc, ◌+◌, ◌≤◌, ◌<◌}
 use native.Mathlib.Omega.{arith}
-use lib.ListN.{length, get_or, take, drop}
-use borrow.Author.Tests.{eq-eqb, ne_eqb}
-use Rattle.frame.specs.Trees.{head, Tree, node, Forest, nil, cons, count, nodes, tag_of}
-use Rattle.frame.specs.Tags.{expression, lookup, class_of, form_at}
+use lib.ListN.{length, get_or, drop, drop_of_length-le}
+use lib.Dec.{eqb}
+use borrow.Author.Tests.{eq-eqb, ne_eqb, eqb-true}
+use Rattle.std.proofs.Common.{Option, slice_index_or}
+use Rattle.std.specs.Int.{from_bool}
+use Rattle.frame.specs.Trees.{head, Tree, node, Forest, nil, cons, count, nodes, nodes_in, tag_of}
+use Rattle.frame.specs.Tags.{predicate, expression, lookup, class_of, form_at}
 use Rattle.frame.specs.Encoding.{enc, encs}
 use Rattle.frame.specs.Places.{Ctx, under, found, find}
+use Rattle.frame.proofs.Extents.{some_node}
+use Rattle.frame.proofs.Frames.{enc_injective}
 use Rattle.frame.proofs.Splices.{find_some, find_lt}
-use Rattle.nav.specs.PlaceTables.{Table, Placed, PlacedIn, EndAtPost, TagPost}
-use Rattle.nav.proofs.Hops.{place_sorted, child_next}
+use Rattle.nav.specs.declared.Places.{Places}
+use Rattle.nav.specs.PlaceTables.{Table, places_from, child_places}
+use Rattle.nav.specs.AtPlaces.{PlacesOf, AtPlace, InTables, TreeAt, TagAt, ChildrenAt}
+use Rattle.nav.proofs.Hops.{place_sorted, framed_few, place_end}
 use Rattle.nav.proofs.SamePlaces.{two_children}
 use Rattle.rules.specs.EqualsEmptySet.{minus_of, minuend, with_subtrahend, subtrahends}
-use Rattle.put.specs.Out.{Puts}
-use Rattle.put.specs.Copied.{between}
-use Rattle.put.proofs.Puts.{puts_nil, puts_then, puts_as, between_span}
-use Rattle.decision.specs.Decision.{At}
+use Rattle.put.specs.Out.{Puts, behind}
+use Rattle.put.proofs.Puts.{puts_nil, puts_then, puts_as}
+use Rattle.decision.specs.Decision.{At, places_of}
+use Rattle.decision.specs.declared.kept.KeptChild.{KeptChild}
 use Rattle.decision.proofs.Shapes.{Double, double, place_few}
-use Rattle.build.specs.Rows.{CopyPost, share_of, row_of, ShareOfPost, RowAt, RowPre, RowPost, MinusRowPost, KeptPre, KeptPost}
+use Rattle.decision.proofs.ChildWalks.{Lefts, walk_first, walk_next, walk_end, walk_tree}
+use Rattle.filling.specs.Operands.{SubtreePost}
+use Rattle.build.specs.Rows.{CopyPost, share_of, row_of, ShareOfPost, RowPre, RowPost, MinusRowPost, KeptPre, KeptPost}
 use Rattle.build.specs.declared.rows.Share.{Share}
 use Rattle.build.specs.declared.rows.Share.TheVariants.{Besides, Minuend, Subtrahend}
-use Rattle.filling.proofs.Subtrees.{span_at}
 
--- ---- a subtree
-module _ (s : List ℕ) (n : ℕ) (st nx : List ℕ) (k : ℕ) where
-  pub in_placed : PlacedIn s n st nx k → Placed s st k
-  in_placed p = record { t = p.t; n = n; framed = p.table.framed; below = p.below }
+-- ---- places of one frame
+module _ (pl : Places) where
+  pub copied : (k : ℕ) (r : List ℕ) → SubtreePost pl k r → (o q : Option (List ℕ)) → Puts o q r → CopyPost pl k o q
+  copied k r h o q z = record { puts = λ t Γ v tb f. puts_as o q _ _ (h.is t Γ v tb f) z }
 
-  module _ (from : ℕ) (ef : from ≡ get_or st k 0) (to : ℕ) (et : EndAtPost s n st nx k to) where
-    pub copy_range : PlacedIn s n st nx k → (from ≤ to) × (to ≤ length s)
-    copy_range p =
-        let v = find_some p.t [] k p.below in
-        let z = et.ends p.t v.0 v.1 p.table v.2 in
-        let w = span_at s p.t st n p.table.framed k v.0 v.1 v.2 to z in
-        (omega arith, w.within)
+  pub in_placed : (k : ℕ) → InTables pl k → AtPlace pl k
+  in_placed k p = record { t = p.t; n = pl.count; framed = p.table.framed; below = p.below }
 
-    pub copy_done : (o : List ℕ) (at : ℕ) (q : List ℕ) (r : ℕ) → Puts o at q r (between s from to) → CopyPost s n st nx k o at q r
-    copy_done o at q r h =
-        record {
-          puts = λ t Γ v tb f.
-              (let w = span_at s t st n tb.framed k Γ v f to (et.ends t Γ v tb f) in
-              puts_as o at q r _ _ (between_span s from to (enc v) (rw ef w)) h);
-        }
+  pub in_few : (k : ℕ) → InTables pl k → k < 2048
+  in_few k p = omega (arith, p.below, framed_few pl.bytes.now p.t pl.starts.now pl.count p.table.framed)
+
+  -- its bytes say how many places it has
+  pub same_count : (t u : Tree) (n : ℕ) → PlacesOf pl t → Table pl.bytes.now u pl.starts.now pl.nexts.now n → n ≡ pl.count
+  same_count t u n a b =
+      let e : t ≡ u = enc_injective t u predicate a.framed.formed b.framed.formed (sym a.framed.bytes ∙ b.framed.bytes) in
+      b.framed.size ∙ ap nodes (sym e) ∙ sym a.framed.size
 
 -- ---- shares
 -- a difference has two operands
@@ -56,38 +61,38 @@ minus_double v o z = double 213 expression expression (λ x. refl) v o z
 not_minus : (v : Tree) → (tag_of v ≡ 213 → ⊥) → (minuend (minus_of v) ≡ v) × ((ks : Forest) → with_subtrahend (minus_of v) ks ≡ ks)
 not_minus (node (head g n us) ks) d = let z = ne_eqb g 213 d in (rw z refl, λ ls. rw z refl)
 
-module _ (s : List ℕ) (n : ℕ) (st nx : List ℕ) (c : ℕ) (o : List ℕ) (at : ℕ) where
-  pub besides_none : (x : Share) (k : ℕ) → x ≡ Besides k → c ≡ k → ShareOfPost s n st nx c x o at o at
+module _ (pl : Places) (c : ℕ) (o : Option (List ℕ)) where
+  pub besides_none : (x : Share) (k : ℕ) → x ≡ Besides k → c ≡ k → ShareOfPost pl c x o o
   besides_none x k e z = record {
-    puts = λ t Γ w tb f. puts_as o at o at _ _
-        (sym (ap (λ (y : Share). share_of y c w) e ∙ rw (eq-eqb c k z) refl)) (puts_nil o at);
+    puts = λ t Γ w tb f. puts_as o o _ _
+        (sym (ap (λ (y : Share). share_of y c w) e ∙ rw (eq-eqb c k z) refl)) (puts_nil o);
   }
 
-  module _ (q : List ℕ) (r : ℕ) where
-    pub besides_some : (x : Share) (k : ℕ) → x ≡ Besides k → (c ≡ k → ⊥) → CopyPost s n st nx c o at q r → ShareOfPost s n st nx c x o at q r
+  module _ (q : Option (List ℕ)) where
+    pub besides_some : (x : Share) (k : ℕ) → x ≡ Besides k → (c ≡ k → ⊥) → CopyPost pl c o q → ShareOfPost pl c x o q
     besides_some x k e d p =
-        record { puts = λ t Γ w tb f. puts_as o at q r _ _ (sym (ap (λ (y : Share). share_of y c w) e ∙ rw (ne_eqb c k d) refl)) (p.puts t Γ w tb f) }
+        record { puts = λ t Γ w tb f. puts_as o q _ _ (sym (ap (λ (y : Share). share_of y c w) e ∙ rw (ne_eqb c k d) refl)) (p.puts t Γ w tb f) }
 
-  module _ (tag : ℕ) (pt : TagPost s st c tag) where
+  module _ (tag : ℕ) (pt : TagAt pl c tag) where
     -- the operands of a difference, and their places
-    parts : tag ≡ 213 → (t : Tree) (Γ : Ctx) (w : Tree) → Table s t st nx n → find t [] c ≡ found Γ w
+    parts : tag ≡ 213 → (t : Tree) (Γ : Ctx) (w : Tree) → PlacesOf pl t → find t [] c ≡ found Γ w
         → (d : Double 213 w) × ((find t [] (c + 1) ≡ found (under 213 d.us Γ) d.a)
-        × (find t [] (get_or nx (c + 1) 0) ≡ found (under 213 d.us Γ) d.b))
+        × (find t [] (get_or pl.nexts.now (c + 1) 0) ≡ found (under 213 d.us Γ) d.b))
     parts key t Γ w tb f =
-        let d = minus_double w (place_sorted s t st n tb.framed c Γ w f) (sym (pt.tag t n Γ w tb.framed f) ∙ key) in
-        (d, two_children t nx tb.follows c Γ 213 d.n d.us d.a d.b (f ∙ ap (found Γ) d.is))
+        let d = minus_double w (place_sorted pl.bytes.now t pl.starts.now pl.count tb.framed c Γ w f) (sym (pt.tag t pl.count Γ w tb.framed f) ∙ key) in
+        (d, two_children t pl.nexts.now tb.follows c Γ 213 d.n d.us d.a d.b (f ∙ ap (found Γ) d.is))
 
-    pub left_in : tag ≡ 213 → PlacedIn s n st nx c → PlacedIn s n st nx (c + 1)
+    pub left_in : tag ≡ 213 → InTables pl c → InTables pl (c + 1)
     left_in key p =
         let v = find_some p.t [] c p.below in
         let d = parts key p.t v.0 v.1 p.table v.2 in
         record { t = p.t; table = p.table; below = find_lt p.t [] (c + 1) _ _ d.1.0 }
 
-    second_is : tag ≡ 213 → (b : ℕ) → (c + 1 < 2048 → b ≡ get_or nx (c + 1) 0) → (t : Tree) (Γ : Ctx) (w : Tree) → Table s t st nx n
-        → find t [] c ≡ found Γ w → b ≡ get_or nx (c + 1) 0
+    second_is : tag ≡ 213 → (b : ℕ) → (c + 1 < 2048 → b ≡ get_or pl.nexts.now (c + 1) 0) → (t : Tree) (Γ : Ctx) (w : Tree) → PlacesOf pl t
+        → find t [] c ≡ found Γ w → b ≡ get_or pl.nexts.now (c + 1) 0
     second_is key b eb t Γ w tb f = eb (place_few tb (parts key t Γ w tb f).1.0)
 
-    pub right_in : tag ≡ 213 → (b : ℕ) → (c + 1 < 2048 → b ≡ get_or nx (c + 1) 0) → PlacedIn s n st nx c → PlacedIn s n st nx b
+    pub right_in : tag ≡ 213 → (b : ℕ) → (c + 1 < 2048 → b ≡ get_or pl.nexts.now (c + 1) 0) → InTables pl c → InTables pl b
     right_in key b eb p =
         let v = find_some p.t [] c p.below in
         let d = parts key p.t v.0 v.1 p.table v.2 in
@@ -95,191 +100,229 @@ module _ (s : List ℕ) (n : ℕ) (st nx : List ℕ) (c : ℕ) (o : List ℕ) (a
           t = p.t;
           table = p.table;
           below = rw (second_is key b eb p.t v.0 v.1 p.table v.2)
-              (find_lt p.t [] (get_or nx (c + 1) 0) _ _ d.1.1);
+              (find_lt p.t [] (get_or pl.nexts.now (c + 1) 0) _ _ d.1.1);
         }
 
-    module _ (q : List ℕ) (r : ℕ) (x : Share) where
-      pub minuend_left : x ≡ Minuend → tag ≡ 213 → CopyPost s n st nx (c + 1) o at q r → ShareOfPost s n st nx c x o at q r
+    module _ (q : Option (List ℕ)) (x : Share) where
+      pub minuend_left : x ≡ Minuend → tag ≡ 213 → CopyPost pl (c + 1) o q → ShareOfPost pl c x o q
       minuend_left e key p =
           record {
             puts = λ t Γ w tb f.
                 (let d = parts key t Γ w tb f in
-                puts_as o at q r _ _ (sym (ap (λ (y : Share). share_of y c w) e ∙ ap (λ (u : Tree). enc (minuend (minus_of u))) d.0.is))
+                puts_as o q _ _ (sym (ap (λ (y : Share). share_of y c w) e ∙ ap (λ (u : Tree). enc (minuend (minus_of u))) d.0.is))
                 (p.puts t _ d.0.a tb d.1.0));
           }
 
-      pub minuend_whole : x ≡ Minuend → (tag ≡ 213 → ⊥) → CopyPost s n st nx c o at q r → ShareOfPost s n st nx c x o at q r
+      pub minuend_whole : x ≡ Minuend → (tag ≡ 213 → ⊥) → CopyPost pl c o q → ShareOfPost pl c x o q
       minuend_whole e h p =
           record {
             puts = λ t Γ w tb f.
-                puts_as o at q r _ _ (sym (ap (λ (y : Share). share_of y c w) e ∙ ap enc
-                (not_minus w (λ z. h (pt.tag t n Γ w tb.framed f ∙ z))).0)) (p.puts t Γ w tb f);
+                puts_as o q _ _ (sym (ap (λ (y : Share). share_of y c w) e ∙ ap enc
+                (not_minus w (λ z. h (pt.tag t pl.count Γ w tb.framed f ∙ z))).0)) (p.puts t Γ w tb f);
           }
 
-      pub subtrahend_right : x ≡ Subtrahend → tag ≡ 213 → (b : ℕ) → (c + 1 < 2048 → b ≡ get_or nx (c + 1) 0) → CopyPost s n st nx b o at q r
-          → ShareOfPost s n st nx c x o at q r
+      pub subtrahend_right : x ≡ Subtrahend → tag ≡ 213 → (b : ℕ) → (c + 1 < 2048 → b ≡ get_or pl.nexts.now (c + 1) 0) → CopyPost pl b o q
+          → ShareOfPost pl c x o q
       unfolding enc
       subtrahend_right e key b eb p =
           record {
             puts = λ t Γ w tb f.
                 (let d = parts key t Γ w tb f in
-                puts_as o at q r _ _ (sym (ap (λ (y : Share). share_of y c w) e ∙ ap (λ (u : Tree). encs (with_subtrahend (minus_of u) nil))
+                puts_as o q _ _ (sym (ap (λ (y : Share). share_of y c w) e ∙ ap (λ (u : Tree). encs (with_subtrahend (minus_of u) nil))
                 d.0.is ∙ append-nil (enc d.0.b)))
                 (p.puts t _ d.0.b tb (ap (find t []) (second_is key b eb t Γ w tb f) ∙ d.1.1)));
           }
 
-    pub subtrahend_none : (x : Share) → x ≡ Subtrahend → (tag ≡ 213 → ⊥) → ShareOfPost s n st nx c x o at o at
+    pub subtrahend_none : (x : Share) → x ≡ Subtrahend → (tag ≡ 213 → ⊥) → ShareOfPost pl c x o o
     unfolding enc
     subtrahend_none x e h =
         record {
           puts = λ t Γ w tb f.
-              puts_as o at o at _ _ (sym (ap (λ (y : Share). share_of y c w) e ∙ ap encs
-              ((not_minus w (λ z. h (pt.tag t n Γ w tb.framed f ∙ z))).1 nil))) (puts_nil o at);
+              puts_as o o _ _ (sym (ap (λ (y : Share). share_of y c w) e ∙ ap encs
+              ((not_minus w (λ z. h (pt.tag t pl.count Γ w tb.framed f ∙ z))).1 nil))) (puts_nil o);
         }
 
--- ---- rows
-module _ (s : List ℕ) (n : ℕ) (st nx : List ℕ) (c m : ℕ) where
-  pub row_none : m ≡ 0 → (x : Share) (o : List ℕ) (at : ℕ) → RowPost s n st nx c m x o at o at
-  unfolding row_of
-  row_none z x o at = record { puts = λ t Γ ks tb row em. go ks (sym em ∙ z) }
+-- a child counts as one where its tag is that of a difference
+module _ (pl : Places) (c tag : ℕ) (pt : TagAt pl c tag) (t : Tree) (Γ : Ctx) (v : Tree) (tb : PlacesOf pl t) (f : find t [] c ≡ found Γ v) where
+  minus_one : (a : ℕ) → a ≡ from_bool (eqb tag 213) → (ls : Forest) → count (with_subtrahend (minus_of v) ls) ≡ a + count ls
+  minus_one a ea ls = go (eqb tag 213) refl ea
     where
-      go : (ks : Forest) → count ks ≡ 0 → Puts o at o at (row_of x c ks)
-      go nil h = puts_nil o at
-      go (cons a ks) h = absurd (omega arith)
+      go : (b : Bool) → eqb tag 213 ≡ b → a ≡ from_bool b → count (with_subtrahend (minus_of v) ls) ≡ a + count ls
+      go true e z =
+          let key : tag ≡ 213 = eqb-true tag 213 e in
+          let d = minus_double v (place_sorted pl.bytes.now t pl.starts.now pl.count tb.framed c Γ v f) (sym (pt.tag t pl.count Γ v tb.framed f) ∙ key) in
+          let y : count (with_subtrahend (minus_of v) ls) ≡ count (cons d.b ls) = ap (λ (u : Tree). count (with_subtrahend (minus_of u) ls)) d.is in
+          omega arith
+      go false e z =
+          let y = ap count ((not_minus v (λ i. other e (pt.tag t pl.count Γ v tb.framed f ∙ i))).1 ls) in
+          omega arith
+        where
+          other : eqb tag 213 ≡ false → tag ≡ 213 → ⊥
+          other e i = let h : ◌≡◌ {A = Bool} true false = sym (eq-eqb tag 213 i) ∙ e in cc
 
-  module _ (some : m ≡ 0 → ⊥) where
-    -- the first child, and the others
-    pub split_row : (t : Tree) (Γ : Ctx) (ks : Forest) → Table s t st nx n → RowAt t c Γ ks → m ≡ count ks
-        → (w : Tree) × ((ls : Forest) × ((ks ≡ cons w ls) × ((find t [] c ≡ found Γ w)
-        × (RowAt t (get_or nx c 0) Γ ls × ((m - 1 ≡ count ls) × (get_or nx c 0 ≡ c + nodes w))))))
-    split_row t Γ nil tb row em = absurd (some em)
-    split_row t Γ (cons w ls) tb row em =
-        let f = child_next t nx 0 tb.follows c Γ w ls (omega arith) row in
-        (w, (ls, (refl, (f.0, (f.1, (omega arith, tb.follows.next c Γ w (omega arith) f.0))))))
+pub one_more : (b : Bool) (r : ℕ) → r ≡ from_bool b → (places : List ℕ) (c : ℕ) (more : List ℕ) → places ≡ c ∷ more
+    → (r ≤ 1) × (length places ≡ suc (length more))
+one_more true r e places c more z = (omega arith, ap length z)
+one_more false r e places c more z = (omega arith, ap length z)
 
-    pub row_first : RowPre s n st nx c m → PlacedIn s n st nx c
-    row_first p =
-        let x = split_row p.t p.Γ p.ks p.table p.row p.many in
-        record { t = p.t; table = p.table; below = find_lt p.t [] c p.Γ x.0 x.1.1.1.0 }
+count_nodes : (ks : Forest) → count ks ≤ nodes_in ks
+unfolding nodes
+count_nodes nil = omega arith
+count_nodes (cons w ks) = omega (arith, count_nodes ks, some_node w)
 
-    pub row_rest : RowPre s n st nx c m → (d : ℕ) → d ≡ get_or nx c 0 → RowPre s n st nx d (m - 1)
-    row_rest p d ed =
-        let x = split_row p.t p.Γ p.ks p.table p.row p.many in
-        rw ed (record { t = p.t; table = p.table; Γ = p.Γ; ks = x.1.0; row = x.1.1.1.1.0; many = x.1.1.1.1.1.0 })
+-- ---- the children of the node at place k
+-- what has been written, from o₀ to o, is the row of ks but for that of the others
+abbrev pub Rowing : Share → ℕ → Option (List ℕ) → Option (List ℕ) → Forest → ℕ → Forest → Type 0
+Rowing x k o₀ o ks c rest = behind o (row_of x c rest) ≡ behind o₀ (row_of x (k + 1) ks)
 
-    pub row_more : (x : Share) (o : List ℕ) (at : ℕ) (q : List ℕ) (i : ℕ) → ShareOfPost s n st nx c x o at q i → (d : ℕ) → d ≡ get_or nx c 0
-        → (z : List ℕ) (j : ℕ) → RowPost s n st nx d (m - 1) x q i z j → RowPost s n st nx c m x o at z j
-    unfolding row_of
-    row_more x o at q i ps d ed z j pr =
-        record {
-          puts = λ t Γ ks tb row em.
-              (let y = split_row t Γ ks tb row em in
-              let w = y.0 in
-              let ls = y.1.0 in
-              let r = pr.puts t Γ ls tb (rw ed y.1.1.1.1.0) y.1.1.1.1.1.0 in
-              let e : d ≡ c + nodes w = ed ∙ y.1.1.1.1.1.1 in
-              puts_as o at z j _ _ (ap (λ (l : ℕ). share_of x c w ++ row_of x l ls) e ∙ ap (row_of x c) (sym y.1.1.0))
-              (puts_then o at q i z j _ _ (ps.puts t Γ w tb y.1.1.1.0) r));
-        }
+few_children : (ks : Forest) (c : ℕ) → length (places_from ks c) ≡ count ks
+few_children nil c = refl
+few_children (cons w ks) c = ap suc (few_children ks (c + nodes w))
 
-  -- ---- differences counted
-  pub minus_none : m ≡ 0 → MinusRowPost s n st nx c m 0
-  unfolding subtrahends
-  minus_none z = record { counts = λ t Γ ks tb row em. go ks (sym em ∙ z); few = omega arith }
-    where
-      go : (ks : Forest) → count ks ≡ 0 → 0 ≡ count (subtrahends ks)
-      go nil h = refl
-      go (cons a ks) h = absurd (omega arith)
+module _ (pl : Places) (k : ℕ) where
+  pub row_placed : RowPre pl k → AtPlace pl k
+  row_placed p = record { t = p.t; n = pl.count; framed = p.table.framed; below = find_lt p.t [] k _ _ p.there }
 
-  module _ (some : m ≡ 0 → ⊥) (d : ℕ) (ed : d ≡ get_or nx c 0) (r : ℕ) (pr : MinusRowPost s n st nx d (m - 1) r) (tag : ℕ)
-      (pt : TagPost s st c tag) where
-    -- b counts the first child with the others
-    counted : (b : ℕ) → b ≤ r + 1
-        → ((t : Tree) (Γ : Ctx) (w : Tree) → Table s t st nx n → find t [] c ≡ found Γ w → (ls : Forest)
-        → r + count (with_subtrahend (minus_of w) ls) ≡ b + count ls)
-        → MinusRowPost s n st nx c m b
-    unfolding subtrahends
-    counted b l h =
-        record {
-          counts = λ t Γ ks tb row em.
-              (let y = split_row some t Γ ks tb row em in
-              let ls = subtrahends y.1.0 in
-              let e : r ≡ count ls = pr.counts t Γ y.1.0 tb (rw ed y.1.1.1.1.0) y.1.1.1.1.1.0 in
-              let z : count (subtrahends ks) ≡ count (with_subtrahend (minus_of y.0) ls) = ap (λ (l : Forest). count (subtrahends l)) y.1.1.0 in
-              let k : r + count (with_subtrahend (minus_of y.0) ls) ≡ b + count ls = h t Γ y.0 tb y.1.1.1.0 ls in
-              omega arith);
-          few = omega (arith, pr.few);
-        }
+  pub row_tree : RowPre pl k → TreeAt pl k
+  row_tree p = record { t = p.t; n = pl.count; table = p.table; below = find_lt p.t [] k _ _ p.there }
 
-    pub minus_yes : tag ≡ 213 → MinusRowPost s n st nx c m (r + 1)
-    minus_yes key = counted (r + 1) (omega arith) (λ t Γ w tb f ls.
-        let d = minus_double w (place_sorted s t st n tb.framed c Γ w f) (sym (pt.tag t n Γ w tb.framed f) ∙ key) in
-        let z : count (with_subtrahend (minus_of w) ls) ≡ count (cons d.b ls) = ap (λ (u : Tree). count (with_subtrahend (minus_of u) ls)) d.is in
-        omega arith)
+  -- a place that is one of the children's is a place of the frame
+  module _ (P : Forest → ℕ → Forest → Type 0) (places : List ℕ) (ls : Lefts pl.bytes.now pl.starts.now pl.nexts.now k P places) (c : ℕ) (more : List ℕ)
+      (e : places ≡ c ∷ more) where
+    pub row_child : RowPre pl k → InTables pl c
+    row_child p =
+        let i = walk_tree pl.bytes.now pl.starts.now pl.nexts.now k P places ls c more e p.t pl.count p.Γ p.g p.x p.us p.ks p.table p.there in
+        let z = same_count pl p.t i.t i.n p.table i.table in
+        record { t = i.t; table = rw z at i.table; below = i.below }
 
-    pub minus_no : (tag ≡ 213 → ⊥) → MinusRowPost s n st nx c m r
-    minus_no h = counted r (omega arith) (λ t Γ w tb f ls. ap (λ (l : Forest). r + count l)
-        ((not_minus w (λ i. h (pt.tag t n Γ w tb.framed f ∙ i))).1 ls))
+    -- R is what is known of the child there
+    pub row_walk : RowPre pl k → (R : Tree → Type 0) → ((t : Tree) (Γ : Ctx) (v : Tree) → PlacesOf pl t → find t [] c ≡ found Γ v → R v)
+        → (Q : Forest → ℕ → Forest → Type 0) → ((ks : Forest) (w : Tree) (others : Forest) → R w → P ks c (cons w others) → Q ks (c + nodes w) others)
+        → Lefts pl.bytes.now pl.starts.now pl.nexts.now k Q more
+    row_walk p R known Q step =
+        walk_next pl.bytes.now pl.starts.now pl.nexts.now k P places ls c more e R
+        (λ t n Γ v tb f. let z = same_count pl p.t t n p.table tb in known t Γ v (rw z at tb) f) Q step
 
--- ---- kept children
-take_next : (kept : List ℕ) (i m : ℕ) → i < m → i < length kept → take (m - i) (drop i kept) ≡ get_or kept i 0 ∷ take (m - (i + 1)) (drop (i + 1) kept)
-take_next [] i m h l = absurd (omega arith)
-take_next (x ∷ xs) zero (suc m) h l =
-    let a : suc m - 0 ≡ suc m = omega arith in
-    let b : suc m - (0 + 1) ≡ m = omega arith in
-    rw (a, b) refl
-take_next (x ∷ xs) zero zero h l = absurd (omega arith)
-take_next (x ∷ xs) (suc i) zero h l = absurd (omega arith)
-take_next (x ∷ xs) (suc i) (suc m) h l =
-    let a : suc m - suc i ≡ m - i = omega arith in
-    let b : suc m - (suc i + 1) ≡ m - (i + 1) = omega arith in
-    let c : suc i + 1 ≡ suc (i + 1) = omega arith in
-    rw (a, b, c) (take_next xs i m (omega arith) (omega arith))
+  -- ---- put_row
+  module _ (x : Share) (o₀ : Option (List ℕ)) where
+    pub row_first : (places : List ℕ) → ChildrenAt pl k places → Lefts pl.bytes.now pl.starts.now pl.nexts.now k (Rowing x k o₀ o₀) places
+    row_first = walk_first pl.bytes.now pl.starts.now pl.nexts.now k (Rowing x k o₀ o₀) (λ ks. refl)
 
-module _ (s : List ℕ) (n : ℕ) (st nx kept : List ℕ) (long : length kept ≡ 256) (i m : ℕ) where
-  pub kept_none : m ≤ i → (o : List ℕ) (at : ℕ) → KeptPost s n st nx kept i m o at o at
-  unfolding At enc
-  kept_none h o at =
-      record {
-        puts = λ t Γ ks tb l.
-            (let z : m - i ≡ 0 = omega arith in
-            go t Γ ks (subst (λ (j : ℕ). At t Γ (take j (drop i kept)) ks) z l));
+    module _ (o : Option (List ℕ)) (places : List ℕ) (ls : Lefts pl.bytes.now pl.starts.now pl.nexts.now k (Rowing x k o₀ o) places) where
+      pub row_next : RowPre pl k → (c : ℕ) (more : List ℕ) → places ≡ c ∷ more → (q : Option (List ℕ)) → ShareOfPost pl c x o q
+          → Lefts pl.bytes.now pl.starts.now pl.nexts.now k (Rowing x k o₀ q) more
+      unfolding row_of
+      row_next p c more e q post =
+          row_walk (Rowing x k o₀ o) places ls c more e p (λ w. Puts o q (share_of x c w)) (λ t Γ v tb f. post.puts t Γ v tb f) (Rowing x k o₀ q)
+          (λ ks w others r h. puts_then o q (behind q (row_of x (c + nodes w) others)) (share_of x c w) (row_of x (c + nodes w) others) r refl ∙ h)
+
+      pub row_end : places ≡ [] → RowPost pl k x o₀ o
+      unfolding row_of
+      row_end h = record {
+        puts = λ t Γ g i us ks tb f.
+            walk_end pl.bytes.now pl.starts.now pl.nexts.now k (Rowing x k o₀ o) places ls h (λ ks. Puts o₀ o (row_of x (k + 1) ks))
+            (λ ks c z. puts_nil o ∙ z) t pl.count Γ g i us ks tb f;
       }
-    where
-      go : (t : Tree) (Γ : Ctx) (ks : Forest) → At t Γ [] ks → Puts o at o at (encs ks)
-      go t Γ nil l = puts_nil o at
-      go t Γ (cons w ks) l = absurd l
 
-  module _ (h : i < m) where
-    split_kept : m ≤ 256 → (t : Tree) (Γ : Ctx) (ks : Forest) → At t Γ (take (m - i) (drop i kept)) ks
-        → (w : Tree) × ((ls : Forest) × ((ks ≡ cons w ls) × ((find t [] (get_or kept i 0) ≡ found Γ w)
-        × At t Γ (take (m - (i + 1)) (drop (i + 1) kept)) ls)))
-    unfolding At
-    split_kept f t Γ ks l = go ks (subst (λ (ps : List ℕ). At t Γ ps ks) (take_next kept i m h (omega arith)) l)
-      where
-        go : (ks : Forest) → At t Γ (get_or kept i 0 ∷ take (m - (i + 1)) (drop (i + 1) kept)) ks
-            → (w : Tree) × ((ls : Forest) × ((ks ≡ cons w ls) × ((find t [] (get_or kept i 0) ≡ found Γ w)
-            × At t Γ (take (m - (i + 1)) (drop (i + 1) kept)) ls)))
-        go nil l = absurd l
-        go (cons w ls) l = (w, (ls, (refl, l)))
+  -- ---- count_minus
+  -- m of ks are behind, but for those of the others
+  abbrev pub Minused : ℕ → Forest → ℕ → Forest → Type 0
+  Minused m ks c rest = count (subtrahends ks) ≡ m + count (subtrahends rest)
 
-    pub kept_place : KeptPre s n st nx kept i m → (k : ℕ) → k ≡ get_or kept i 0 → PlacedIn s n st nx k
-    kept_place p k e =
-        let x = split_kept p.few p.t p.Γ p.ks p.listed in
-        record { t = p.t; table = p.table; below = rw e (find_lt p.t [] (get_or kept i 0) p.Γ x.0 x.1.1.1.0) }
+  pub minus_few : RowPre pl k → (places : List ℕ) → ChildrenAt pl k places → length places ≤ 2048
+  unfolding nodes
+  minus_few p places post =
+      let v : Tree = node (head p.g p.x p.us) p.ks in
+      let z : length places ≡ length (child_places v k) = ap length (post.are p.t pl.count p.Γ v p.table p.there) in
+      let y : length (child_places v k) ≡ count p.ks = few_children p.ks (k + 1) in
+      omega (arith, z, y, count_nodes p.ks, place_end p.t [] k p.Γ v p.there, framed_few pl.bytes.now p.t pl.starts.now pl.count p.table.framed)
 
-    pub kept_rest : KeptPre s n st nx kept i m → KeptPre s n st nx kept (i + 1) m
-    kept_rest p =
-        let x = split_kept p.few p.t p.Γ p.ks p.listed in
-        record { t = p.t; table = p.table; Γ = p.Γ; ks = x.1.0; listed = x.1.1.1.1; few = p.few; long = p.long }
+  pub minus_first : (places : List ℕ) → ChildrenAt pl k places → Lefts pl.bytes.now pl.starts.now pl.nexts.now k (Minused 0) places
+  minus_first = walk_first pl.bytes.now pl.starts.now pl.nexts.now k (Minused 0) (λ ks. omega arith)
 
-    pub kept_more : m ≤ 256 → (k : ℕ) → k ≡ get_or kept i 0 → (o : List ℕ) (at : ℕ) (q : List ℕ) (j : ℕ) → CopyPost s n st nx k o at q j
-        → (z : List ℕ) (r : ℕ) → KeptPost s n st nx kept (i + 1) m q j z r → KeptPost s n st nx kept i m o at z r
+  module _ (m : ℕ) (places : List ℕ) (ls : Lefts pl.bytes.now pl.starts.now pl.nexts.now k (Minused m) places) where
+    pub minus_next : RowPre pl k → (c : ℕ) (more : List ℕ) → places ≡ c ∷ more → (tag : ℕ) → TagAt pl c tag → (a : ℕ) → a ≡ from_bool (eqb tag 213)
+        → Lefts pl.bytes.now pl.starts.now pl.nexts.now k (Minused (m + a)) more
+    unfolding subtrahends
+    minus_next p c more e tag pt a ea =
+        row_walk (Minused m) places ls c more e p (λ w. (ls : Forest) → count (with_subtrahend (minus_of w) ls) ≡ a + count ls)
+        (λ t Γ v tb f ls. minus_one pl c tag pt t Γ v tb f a ea ls) (Minused (m + a))
+        (λ ks w others r h. let z = r (subtrahends others) in omega arith)
+
+    pub minus_end : places ≡ [] → MinusRowPost pl k m
+    unfolding subtrahends
+    minus_end h = record {
+      counts = λ t Γ g i us ks tb f.
+          walk_end pl.bytes.now pl.starts.now pl.nexts.now k (Minused m) places ls h (λ ks. m ≡ count (subtrahends ks)) (λ ks c z. omega arith)
+          t pl.count Γ g i us ks tb f;
+    }
+
+-- ---- put_kept
+drop_next : (items : List KeptChild) (i : ℕ) → i < length items → drop i items ≡ slice_index_or items i (record { place = 0; key = 0 }) ∷ drop (i + 1) items
+drop_next [] i h = absurd (omega arith)
+drop_next (x ∷ xs) zero h = refl
+drop_next (x ∷ xs) (suc i) h = let z : suc i + 1 ≡ suc (i + 1) = omega arith in rw z (drop_next xs i (omega arith))
+
+-- what has been written, from o₀ to o, are the trees of the list, but for those of its rest
+module _ (pl : Places) (kept : List KeptChild) (o₀ : Option (List ℕ)) where
+  pub record KeptLeft (t : Tree) (Γ : Ctx) (ks : Forest) (left : List KeptChild) (o : Option (List ℕ)) : Type 0 where
+    pub rest : Forest
+    pub listed : At t Γ (places_of left) rest
+    pub keeps : behind o (encs rest) ≡ behind o₀ (encs ks)
+
+  abbrev pub KeptLefts : List KeptChild → Option (List ℕ) → Type 0
+  KeptLefts left o = (t : Tree) (Γ : Ctx) (ks : Forest) → PlacesOf pl t → At t Γ (places_of kept) ks → KeptLeft t Γ ks left o
+
+  pub kept_first : KeptLefts kept o₀
+  kept_first t Γ ks tb l = record { rest = ks; listed = l; keeps = refl }
+
+  -- the same of a list that is lent as a slice, by how many of its items are behind
+  pub kept_all : (items : List KeptChild) → items ≡ kept → KeptLefts (drop 0 items) o₀
+  kept_all items e = let z : drop 0 items ≡ kept = e in rw z kept_first
+
+  pub kept_step : (items : List KeptChild) (i : ℕ) (o : Option (List ℕ)) → i < length items → KeptLefts (drop i items) o
+      → KeptLefts (slice_index_or items i (record { place = 0; key = 0 }) ∷ drop (i + 1) items) o
+  kept_step items i o h ls = let z : drop i items ≡ slice_index_or items i (record { place = 0; key = 0 }) ∷ drop (i + 1) items = drop_next items i h in rw z at ls
+
+  pub kept_rest : (items : List KeptChild) (i : ℕ) (o : Option (List ℕ)) → length items ≤ i → KeptLefts (drop i items) o → KeptLefts [] o
+  kept_rest items i o h ls = let z : drop i items ≡ [] = drop_of_length-le items h in rw z at ls
+
+  split_kept : (t : Tree) (Γ : Ctx) (p : ℕ) (ps : List ℕ) (ks : Forest) → At t Γ (p ∷ ps) ks
+      → (w : Tree) × ((ls : Forest) × ((ks ≡ cons w ls) × ((find t [] p ≡ found Γ w) × At t Γ ps ls)))
+  unfolding At
+  split_kept t Γ p ps nil l = absurd l
+  split_kept t Γ p ps (cons w ls) l = (w, (ls, (refl, l)))
+
+  no_more : (t : Tree) (Γ : Ctx) (ks : Forest) → At t Γ [] ks → ks ≡ nil
+  unfolding At
+  no_more t Γ nil l = refl
+  no_more t Γ (cons w ks) l = absurd l
+
+  module _ (child : KeptChild) (left : List KeptChild) (o : Option (List ℕ)) (h : KeptLefts (child ∷ left) o) where
+    pub kept_child : KeptPre pl kept → InTables pl child.place
+    kept_child p =
+        let r = h p.t p.Γ p.ks p.table p.listed in
+        let x = split_kept p.t p.Γ child.place (places_of left) r.rest r.listed in
+        record { t = p.t; table = p.table; below = find_lt p.t [] child.place p.Γ x.0 x.1.1.1.0 }
+
+    pub kept_next : (q : Option (List ℕ)) → CopyPost pl child.place o q → KeptLefts left q
     unfolding enc
-    kept_more f k e o at q j pc z r pk =
+    kept_next q post t Γ ks tb l =
+        let r = h t Γ ks tb l in
+        let x = split_kept t Γ child.place (places_of left) r.rest r.listed in
+        let w = x.0 in
+        let ls = x.1.0 in
         record {
-          puts = λ t Γ ks tb l.
-              (let x = split_kept f t Γ ks l in
-              puts_as o at z r _ _ (ap encs (sym x.1.1.0))
-              (puts_then o at q j z r _ _ (pc.puts t Γ x.0 tb (ap (find t []) e ∙ x.1.1.1.0)) (pk.puts t Γ x.1.0 tb x.1.1.1.1)));
+          rest = ls;
+          listed = x.1.1.1.1;
+          keeps = puts_then o q (behind q (encs ls)) (enc w) (encs ls) (post.puts t Γ w tb x.1.1.1.0) refl
+              ∙ ap (λ (z : Forest). behind o (encs z)) (sym x.1.1.0) ∙ r.keeps;
         }
+
+  pub kept_end : (o : Option (List ℕ)) → KeptLefts [] o → KeptPost pl kept o₀ o
+  unfolding enc
+  kept_end o h = record {
+    puts = λ t Γ ks tb l.
+        (let r = h t Γ ks tb l in
+        puts_nil o ∙ ap (λ (z : Forest). behind o (encs z)) (sym (no_more t Γ r.rest r.listed)) ∙ r.keeps);
+  }

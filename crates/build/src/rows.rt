@@ -1,14 +1,15 @@
 // Subtrees of the frame, one after the other.
-ghost use Rattle.nav.specs.PlaceTables.{PlacedIn};
-ghost use Rattle.build.specs.Rows.{CopyPost, ShareOfPost, RowPre, RowPost, KeptPre, KeptPost, MinusRowPre, MinusRowPost};
+ghost use Rattle.nav.specs.AtPlaces.{InTables};
+ghost use Rattle.build.specs.Rows.{CopyPost, ShareOfPost, RowPre, RowPost, MinusRowPost, KeptPre, KeptPost};
 
+use decision::kept::Kept;
+use filling::subtree_at;
 use frame::operators::SETMINUS;
-use nav::{end_at, next_at, start_at, tag_at};
-use octets::wide16;
-use put::put_copy;
+use nav::Places;
+use put::Writer;
 
 // What of each child goes into a row.
-#[derive(Clone, Copy)]
+#[derive(Clone, Copy, Debug, PartialEq, Eq)]
 pub enum Share {
     // the child itself, unless it is at this place
     Besides(usize),
@@ -19,124 +20,67 @@ pub enum Share {
 }
 
 // The subtree at place k.
-pub fn copy_at(
-    s: &[u8],
-    n: usize,
-    starts: &[u16; 2048],
-    nexts: &[u16; 2048],
-    k: usize,
-    out: &mut [u8; 4096],
-    at: usize,
-) -> usize
-    requires { PlacedIn s.now n starts.now nexts.now k }
-    ensures { CopyPost s.now n starts.now nexts.now k out.old at out.new result }
+pub fn copy_at(places: &Places<'_>, k: usize, out: &mut Writer)
+    requires { InTables places.now k }
+    ensures { CopyPost places.now k out.old out.new }
 {
-    let from = start_at(starts, k);
-    let to = end_at(s, n, starts, nexts, k);
-    put_copy(out, at, s, from, to)
+    out.put_copy(subtree_at(places, k));
 }
 
 // The share of the child at place c.
-fn put_share(
-    s: &[u8],
-    n: usize,
-    starts: &[u16; 2048],
-    nexts: &[u16; 2048],
-    c: usize,
-    share: Share,
-    out: &mut [u8; 4096],
-    at: usize,
-) -> usize
-    requires { PlacedIn s.now n starts.now nexts.now c }
-    ensures { ShareOfPost s.now n starts.now nexts.now c share out.old at out.new result }
+fn put_share(places: &Places<'_>, c: usize, share: Share, out: &mut Writer)
+    requires { InTables places.now c }
+    ensures { ShareOfPost places.now c share out.old out.new }
 {
     match share {
         Share::Besides(k) => {
-            if c == k {
-                return at;
+            if c != k {
+                copy_at(places, c, out);
             }
-            copy_at(s, n, starts, nexts, c, out, at)
         }
         Share::Minuend => {
-            if tag_at(s, starts, c) == SETMINUS {
-                return copy_at(s, n, starts, nexts, c + 1, out, at);
+            if places.tag_at(c) == SETMINUS {
+                copy_at(places, c + 1, out);
+            } else {
+                copy_at(places, c, out);
             }
-            copy_at(s, n, starts, nexts, c, out, at)
         }
         Share::Subtrahend => {
-            if tag_at(s, starts, c) == SETMINUS {
-                let b = decision::operands::second_of(nexts, c);
-                return copy_at(s, n, starts, nexts, b, out, at);
+            if places.tag_at(c) == SETMINUS {
+                copy_at(places, places.second_of(c), out);
             }
-            at
         }
     }
 }
 
-// The shares of the m children from place c on.
-pub fn put_row(
-    s: &[u8],
-    n: usize,
-    starts: &[u16; 2048],
-    nexts: &[u16; 2048],
-    c: usize,
-    m: usize,
-    share: Share,
-    out: &mut [u8; 4096],
-    at: usize,
-) -> usize
-    requires { RowPre s.now n starts.now nexts.now c m }
-    ensures { RowPost s.now n starts.now nexts.now c m share out.old at out.new result }
+// The shares of the children of the node at place k.
+pub fn put_row(places: &Places<'_>, k: usize, share: Share, out: &mut Writer)
+    requires { RowPre places.now k }
+    ensures { RowPost places.now k share out.old out.new }
 {
-    if m == 0 {
-        return at;
+    for c in places.children(k) {
+        put_share(places, c, share, out);
     }
-    let q = put_share(s, n, starts, nexts, c, share, out, at);
-    let d = next_at(nexts, c);
-    put_row(s, n, starts, nexts, d, m - 1, share, out, q)
 }
 
-// How many of the m children from place c on are differences.
-pub fn count_minus(
-    s: &[u8],
-    n: usize,
-    starts: &[u16; 2048],
-    nexts: &[u16; 2048],
-    c: usize,
-    m: usize,
-) -> usize
-    requires { MinusRowPre s.now n starts.now nexts.now c m }
-    ensures { MinusRowPost s.now n starts.now nexts.now c m result }
+// How many children of the node at place k are differences.
+pub fn count_minus(places: &Places<'_>, k: usize) -> usize
+    requires { RowPre places.now k }
+    ensures { MinusRowPost places.now k result }
 {
-    if m == 0 {
-        return 0;
+    let mut m = 0;
+    for c in places.children(k) {
+        m += usize::from(places.tag_at(c) == SETMINUS);
     }
-    let d = next_at(nexts, c);
-    let rest = count_minus(s, n, starts, nexts, d, m - 1);
-    if tag_at(s, starts, c) == SETMINUS {
-        return rest + 1;
-    }
-    rest
+    m
 }
 
-// The subtrees at the places that the lent list has from i up to m.
-pub fn put_kept(
-    s: &[u8],
-    n: usize,
-    starts: &[u16; 2048],
-    nexts: &[u16; 2048],
-    kept: &[u16; 256],
-    i: usize,
-    m: usize,
-    out: &mut [u8; 4096],
-    at: usize,
-) -> usize
-    requires { KeptPre s.now n starts.now nexts.now kept.now i m }
-    ensures { KeptPost s.now n starts.now nexts.now kept.now i m out.old at out.new result }
+// The subtrees at the places that the lent list has.
+pub fn put_kept(places: &Places<'_>, kept: &Kept, out: &mut Writer)
+    requires { KeptPre places.now kept.now }
+    ensures { KeptPost places.now kept.now out.old out.new }
 {
-    if m <= i {
-        return at;
+    for child in kept.as_slice() {
+        copy_at(places, usize::from(child.place), out);
     }
-    let q = copy_at(s, n, starts, nexts, wide16(kept[i]), out, at);
-    put_kept(s, n, starts, nexts, kept, i + 1, m, out, q)
 }

@@ -1,30 +1,21 @@
-// The new frame in the scratch buffer: the old one with one subtree replaced.
+// The new frame: the old one with one subtree replaced.
 ghost use Rattle.build.specs.SplicePosts.{SplicePre, SplicePost};
 
 use crate::build;
 use decision::Decision;
-use nav::{end_at, start_at};
-use put::put_copy;
+use decision::kept::Kept;
+use nav::Places;
+use put::Writer;
 
-// The frame's bytes with those of the decision's subtree in the place of the subtree at place k, in the scratch buffer. The
-// answer is how many they are; 4,097 if they don't fit.
-pub fn splice(
-    s: &[u8],
-    n: usize,
-    starts: &[u16; 2048],
-    nexts: &[u16; 2048],
-    leaves: &[u16; 2048],
-    k: usize,
-    kept: &[u16; 256],
-    d: Decision,
-    out: &mut [u8; 4096],
-) -> usize
-    requires { SplicePre s.now n starts.now nexts.now leaves.now k kept.now d out.old }
-    ensures { SplicePost s.now n starts.now nexts.now leaves.now k kept.now d out.new result }
+// The frame's bytes with those of the decision's subtree in the place of the subtree at place k, and nothing else, if they fit.
+pub fn splice(places: &Places<'_>, k: usize, kept: &Kept, decision: Decision, out: &mut Writer)
+    requires { SplicePre places.now k kept.now decision }
+    ensures { SplicePost places.now k kept.now decision out.new }
 {
-    let from = start_at(starts, k);
-    let to = end_at(s, n, starts, nexts, k);
-    let q = put_copy(out, 0, s, 0, from);
-    let q = build(s, n, starts, nexts, leaves, k, kept, d, out, q);
-    put_copy(out, q, s, to, s.len())
+    let from = places.start_at(k);
+    let to = places.end_at(k);
+    out.clear();
+    out.put_copy(&places.bytes[..from]);
+    build(places, k, kept, decision, out);
+    out.put_copy(&places.bytes[to..]);
 }

@@ -11,11 +11,12 @@ use Rattle.frame.specs.Tags.{predicate}
 use Rattle.frame.specs.Reading.{Parsed, tree, bad, parse, frame_limit}
 use Rattle.frame.specs.Spans.{Bytes}
 use Rattle.frame.specs.At.{IsAt}
-use Rattle.reading.specs.Post.{frame_answer}
-use Rattle.reading.specs.declared.FrameAnswer.TheVariants as F
+use Rattle.std.proofs.Common.{Ok, Err}
+use Rattle.frame.specs.Refusals.{refusal}
+use Rattle.frame.specs.declared.refusals.Refusal.{Refusal}
+use Rattle.frame.specs.declared.refusals.Refusal.TheVariants.{NoBinder, TwoTypes, BadlyTyped}
 use Rattle.frame.proofs.Frames.{parse_inv, parse_enc}
 use Rattle.frame.proofs.Extents.{nodes_enc}
-use Rattle.reading.proofs.FrameSays.{frame_at}
 use Rattle.heads.proofs.View.{parse_at, at_span}
 use Rattle.typing.specs.Typing.{typed_tree}
 use Rattle.typing.specs.Binding.{closed_tree}
@@ -24,10 +25,12 @@ use Rattle.heads.specs.Leaves.{LeavesAt}
 use Rattle.typing.specs.Check.{accepted, check_tree, check_parsed, check, check_answer}
 use Rattle.typing.proofs.Decides.{check_accepted}
 use Rattle.synthesis.specs.TypingPosts.{TypePre, TypePost, Typing}
-use Rattle.patterns.specs.declared.Typed.{Typed}
-use Rattle.patterns.specs.declared.Typed.TheVariants as T
+use Rattle.std.proofs.Common.{Option, Some, None}
+use Rattle.std.specs.Prelude.{is_some}
+use Rattle.reading.specs.Post.{frame_answer}
+use Rattle.reading.specs.declared.FrameRead.{FrameRead}
+use Rattle.reading.proofs.FrameSays.{frame_at}
 use Rattle.checking.specs.Posts.{TypedPre, TypedPost, ReadPre, TreePost}
-use Rattle.typing.specs.declared.CheckAnswer.TheVariants as A
 
 -- ---- typing
 few_nodes : (s : List ℕ) → Bytes s → (t : Tree) → IsAt s predicate 0 t (length s) → nodes t + nodes t ≤ length s
@@ -53,12 +56,8 @@ type_pre s leaves types bs p d =
       buffer = omega arith;
     }
 
-abbrev pub is_typed : Typed → Bool
-is_typed (T.Is n) = true
-is_typed T.Bad = false
-
-pub typed_by : (s leaves types : List ℕ) (r : Typed) → Bytes s → TypedPre s leaves → Roomy s types → TypePost s 0 0 leaves types r
-    → (b : Bool) → b ≡ is_typed r → TypedPost s leaves b
+pub typed_by : (s leaves types : List ℕ) (r : Option ℕ) → Bytes s → TypedPre s leaves → Roomy s types → TypePost s 0 0 leaves types r
+    → (b : Bool) → b ≡ is_some r → TypedPost s leaves b
 typed_by s leaves types r bs p l q b e = record { answer = λ t h k. e ∙ go t r (q.answer predicate t (length s) [] h k (room t h) (buffer t h)) }
   where
     room : (t : Tree) → IsAt s predicate 0 t (length s) → 0 + nodes t ≤ 2048
@@ -67,21 +66,21 @@ typed_by s leaves types r bs p l q b e = record { answer = λ t h k. e ∙ go t 
     buffer : (t : Tree) → IsAt s predicate 0 t (length s) → 64 * nodes t + 64 ≤ length types
     buffer t h = omega (arith, few_nodes s bs t h, l)
 
-    go : (t : Tree) (x : Typed) → Typing x t [] types → is_typed x ≡ typed_tree t []
-    go t (T.Is n) y = sym y.0
-    go t T.Bad y = sym y
+    go : (t : Tree) (x : Option ℕ) → Typing x t [] types → is_some x ≡ typed_tree t []
+    go t (Some n) y = sym y.0
+    go t None y = sym y
 
 -- ---- a frame that was read
-pub read_pre : (s : List ℕ) → Bytes s → (n : ℕ) → F.Nodes n ≡ frame_answer (parse s) → ReadPre s n
-read_pre s bs n e = let f = frame_at s bs n e in record { t = f.t; parsed = f.parsed; many = f.many }
+pub read_pre : (s : List ℕ) → Bytes s → (r : FrameRead) → Ok r ≡ frame_answer (parse s) → ReadPre s r.nodes
+read_pre s bs r e = let f = frame_at s bs r e in record { t = f.t; parsed = f.parsed; many = f.many }
 
-pub refused_read : (s : List ℕ) (c : ℕ) → F.Refused c ≡ frame_answer (parse s) → A.Refused c ≡ check_answer (check s)
+pub refused_read : (s : List ℕ) (r : Refusal) → Err r ≡ frame_answer (parse s) → Err r ≡ check_answer (check s)
 unfolding check
-refused_read s c e = go (parse s) e
+refused_read s r e = go (parse s) e
   where
-    go : (x : Parsed) → F.Refused c ≡ frame_answer x → A.Refused c ≡ check_answer (check_parsed x)
-    go (tree t) e = let z : ◌≡◌ {A = ℕ} 0 1 = cc in absurd (omega arith)
-    go (bad d) e = cc
+    go : (x : Parsed) → Err r ≡ frame_answer x → Err r ≡ check_answer (check_parsed x)
+    go (tree t) e = cc
+    go (bad d) e = let z : r ≡ refusal d = cc in ap Err z
 
 module _ (s : List ℕ) (bs : Bytes s) (n : ℕ) (p : ReadPre s n) where
   pub read_stands : IsAt s predicate 0 p.t (length s)
@@ -94,33 +93,33 @@ module _ (s : List ℕ) (bs : Bytes s) (n : ℕ) (p : ReadPre s n) where
   unfolding check
   checks = rw p.parsed
 
-  pub bound_out : closed_tree p.t [] ≡ false → A.Refused 8 ≡ check_answer (check s)
+  pub bound_out : closed_tree p.t [] ≡ false → Err NoBinder ≡ check_answer (check s)
   unfolding check_tree
   bound_out a = rw (checks, a)
 
   module _ (a : closed_tree p.t [] ≡ true) where
-    pub names_out : names_agree p.t ≡ false → A.Refused 9 ≡ check_answer (check s)
+    pub names_out : names_agree p.t ≡ false → Err TwoTypes ≡ check_answer (check s)
     unfolding check_tree
     names_out b = rw (checks, a, b)
 
     module _ (b : names_agree p.t ≡ true) where
-      pub typed_out : typed_tree p.t [] ≡ false → A.Refused 10 ≡ check_answer (check s)
+      pub typed_out : typed_tree p.t [] ≡ false → Err BadlyTyped ≡ check_answer (check s)
       unfolding check_tree
       typed_out c = rw (checks, a, b, c)
 
-      pub accepted_out : typed_tree p.t [] ≡ true → A.Accepted n ≡ check_answer (check s)
+      pub accepted_out : typed_tree p.t [] ≡ true → Ok n ≡ check_answer (check s)
       unfolding check_tree
-      accepted_out c = rw (checks, a, b, c) (ap A.Accepted p.many)
+      accepted_out c = rw (checks, a, b, c) (ap Ok p.many)
 
 -- ---- with the table of bound identifiers
-pub refused_post : (s leaves : List ℕ) (c : ℕ) → length leaves ≡ 2048 → A.Refused c ≡ check_answer (check s) → TreePost s leaves (A.Refused c)
-refused_post s leaves c l e = record { answer = e; leafs = λ t h. not_accepted t (e ∙ ap check_answer h); size = l }
+pub refused_post : (s leaves : List ℕ) (r : Refusal) → length leaves ≡ 2048 → Err r ≡ check_answer (check s) → TreePost s leaves (Err r)
+refused_post s leaves r l e = record { answer = e; leafs = λ t h. not_accepted t (e ∙ ap check_answer h); size = l }
   where
-    not_accepted : (t : Tree) → A.Refused c ≡ A.Accepted (nodes t) → LeavesAt t [] 0 s leaves
-    not_accepted t z = let y : ◌≡◌ {A = ℕ} 0 1 = cc in absurd (omega arith)
+    not_accepted : (t : Tree) → Err r ≡ Ok (nodes t) → LeavesAt t [] 0 s leaves
+    not_accepted t z = cc
 
-pub accepted_post : (s leaves : List ℕ) (bs : Bytes s) (n : ℕ) (p : ReadPre s n) → length leaves ≡ 2048 → A.Accepted n ≡ check_answer (check s)
-    → LeavesAt p.t [] 0 s leaves → TreePost s leaves (A.Accepted n)
+pub accepted_post : (s leaves : List ℕ) (bs : Bytes s) (n : ℕ) (p : ReadPre s n) → length leaves ≡ 2048 → Ok n ≡ check_answer (check s)
+    → LeavesAt p.t [] 0 s leaves → TreePost s leaves (Ok n)
 unfolding check
 accepted_post s leaves bs n p l e h =
     record {

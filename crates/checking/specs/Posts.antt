@@ -1,5 +1,6 @@
 -- What the code of the check answers, by the definition of typing/specs/Check.antt.
-use Rattle.std.specs.Prelude.{◌≡◌, Bool, List, [], ℕ, ◌≤◌, length}
+use Rattle.std.specs.Prelude.{◌≡◌, Bool, List, [], ℕ, ◌≤◌, length, Result}
+use Rattle.frame.specs.declared.refusals.Refusal.{Refusal}
 use Rattle.frame.specs.Trees.{Tree, nodes}
 use Rattle.frame.specs.Tags.{predicate}
 use Rattle.frame.specs.Reading.{tree, parse, frame_limit}
@@ -7,7 +8,6 @@ use Rattle.frame.specs.At.{IsAt}
 use Rattle.typing.specs.Typing.{typed_tree}
 use Rattle.heads.specs.Leaves.{LeavesAt}
 use Rattle.typing.specs.Check.{accepted, check, check_answer}
-use Rattle.typing.specs.declared.CheckAnswer.{CheckAnswer}
 
 -- a closed tree stands in the frame, and the table has the types of its bound identifiers
 pub record TypedPre (s leaves : List ℕ) : Type 0 where
@@ -26,7 +26,7 @@ pub record ReadPre (s : List ℕ) (n : ℕ) : Type 0 where
   pub many : n ≡ nodes t
 
 -- what the check of a frame's tree answers; where it is accepted, the table has the types of its bound identifiers
-pub record TreePost (s leaves : List ℕ) (r : CheckAnswer) : Type 0 where
+pub record TreePost (s leaves : List ℕ) (r : Result ℕ Refusal) : Type 0 where
   pub answer : r ≡ check_answer (check s)
   pub leafs : (t : Tree) → check s ≡ accepted t → LeavesAt t [] 0 s leaves
   pub size : length leaves ≡ 2048

@@ -6,74 +6,57 @@ ghost use Rattle.typing.specs.Check.{check as checked, check_answer};
 ghost use Rattle.checking.specs.Posts.{TypedPre, TypedPost, ReadPre, TreePost};
 
 use binding::binding_ok;
-use frame::refusals::{BADLY_TYPED, NO_BINDER, TWO_TYPES};
+use frame::refusals::Refusal;
 use identifiers::names_ok;
-use patterns::Typed;
-use reading::FrameAnswer;
 use synthesis::type_tree;
-use typing::CheckAnswer;
 
-// Whether every node of a frame's tree is typed; the buffer has room for a type of 64 bytes for each node.
-fn typed_with(s: &[u8], leaves: &[u16; 2048], types: &mut [u8]) -> bool
-    requires { TypedPre s.now leaves.now × (32 * length s.now + 64 ≤ length types.old) }
+// Whether every node of a frame's tree is typed; N bytes have room for a type of 64 bytes for each node.
+fn typed_in<const N: usize>(s: &[u8], leaves: &[u16; 2048]) -> bool
+    requires { TypedPre s.now leaves.now × (32 * length s.now + 64 ≤ N) × (N ≤ 131136) }
     ensures { TypedPost s.now leaves.now result }
 {
-    let a = type_tree(s, 0, 0, leaves, types);
-    match a {
-        Typed::Is(_n) => true,
-        Typed::Bad => false,
-    }
+    let mut types = [0u8; N];
+    type_tree(s, 0, 0, leaves, &mut types).is_some()
 }
 
-// The same, with a buffer for 2,048 nodes; a short frame has few nodes, and a buffer takes time to clear.
+// The same, with room for 2,048 nodes; a short frame has few nodes, and bytes take time to clear.
 fn typing_ok(s: &[u8], leaves: &[u16; 2048]) -> bool
     requires { TypedPre s.now leaves.now }
     ensures { TypedPost s.now leaves.now result }
 {
-    if s.len() <= 254 {
-        let mut small = [0u8; 8192];
-        return typed_with(s, leaves, &mut small);
+    match s.len() {
+        0..=254 => typed_in::<8192>(s, leaves),
+        255..=1022 => typed_in::<32768>(s, leaves),
+        _ => typed_in::<131136>(s, leaves),
     }
-    if s.len() <= 1022 {
-        let mut medium = [0u8; 32768];
-        return typed_with(s, leaves, &mut medium);
-    }
-    let mut types = [0u8; 131136];
-    typed_with(s, leaves, &mut types)
 }
 
 // Numbers 8, 9 and 10 of a frame that was read, with n nodes. Where it is accepted, the table has the types of its bound
 // identifiers.
-pub fn check_tree(s: &[u8], n: usize, leaves: &mut [u16; 2048]) -> CheckAnswer
+pub fn check_tree(s: &[u8], n: usize, leaves: &mut [u16; 2048]) -> Result<usize, Refusal>
     requires { ReadPre s.now n × (length leaves.old ≡ 2048) }
     ensures { TreePost s.now leaves.new result }
 {
     let closed = binding_ok(s, leaves);
     if !closed {
-        return CheckAnswer::Refused(NO_BINDER);
+        return Err(Refusal::NoBinder);
     }
     let agree = names_ok(s);
     if !agree {
-        return CheckAnswer::Refused(TWO_TYPES);
+        return Err(Refusal::TwoTypes);
     }
     let typed = typing_ok(s, leaves);
     if !typed {
-        return CheckAnswer::Refused(BADLY_TYPED);
+        return Err(Refusal::BadlyTyped);
     }
-    CheckAnswer::Accepted(n)
+    Ok(n)
 }
 
 // Numbers 2 to 7 by reading, then 8, 9 and 10 over the whole tree.
-pub fn check(frame: &[u8]) -> CheckAnswer
+pub fn check(frame: &[u8]) -> Result<usize, Refusal>
     ensures { result ≡ check_answer (checked frame.now) }
 {
-    let read = reading::read(frame);
-    let answer = read.answer;
-    match answer {
-        FrameAnswer::Refused(c) => CheckAnswer::Refused(c),
-        FrameAnswer::Nodes(n) => {
-            let mut leaves = [0u16; 2048];
-            check_tree(frame, n, &mut leaves)
-        }
-    }
+    let read = reading::read(frame)?;
+    let mut leaves = [0u16; 2048];
+    check_tree(frame, read.nodes, &mut leaves)
 }

@@ -1,12 +1,12 @@
 -- One claim is noted in the table, or clashes with one noted before.
--- Main results: type_unique (one place has one type), says_unique; the ways out of is_power, same_type, note_identifier and note_given.
+-- Main results: type_unique (one place has one type), says_unique; the ways out of is_power, note_identifier and note_given.
 use mathlib.Core.Path.{◌≡◌, refl, sym, ap, ◌∙◌, subst}
 use mathlib.Core.Logic.{◌⊎◌, inl, inr}
 use mathlib.Core.Bool.{Bool, true, false}
 use mathlib.Core.List.{List, [], ◌∷◌, ◌++◌, append-nil}
-use Prim.Native.Nat.{ℕ, suc, ◌+◌, ◌-◌, ◌≤◌, ◌<◌}
+use Prim.Native.Nat.{ℕ, suc, ◌+◌, ◌≤◌, ◌<◌}
 use native.Mathlib.Omega.{arith}
-use lib.ListN.{length, take, drop, get_or, set, length-set}
+use lib.ListN.{length, get_or, set, length-set}
 use lib.Seq.{get_or-set_same, get_or-set_other}
 use lib.Dec.{eqb}
 use borrow.Author.Tests.{eqb-true, eqb-false}
@@ -21,7 +21,6 @@ use Rattle.typing.specs.Members.{In}
 use Rattle.typing.specs.Identifiers.{Named, named}
 use Rattle.typing.proofs.Members.{in_left, in_right, in_either}
 use Rattle.frame.proofs.ReadTypes.{ty_long, ty_back}
-use Rattle.octets.specs.Bytes.{SameParts}
 use Rattle.claims.specs.Table.{Clash, TypeAt, given_mark, Says, by_mark, by_place, Told, PowerPost, SameType, Held, NamePost, GivenPost}
 
 -- ---- what an entry says
@@ -161,37 +160,6 @@ module _ (s : List ℕ) (p n : ℕ) (l : n < 65536) where
     not = λ y q t. eqb-false _ _ (sym e ∙ y) (power_bytes s p n q l t).number;
   }
 
--- ---- same_type
-take_span : (s : List ℕ) (p q : ℕ) (xs : List ℕ) → Spans s p q xs → take (q - p) (drop p s) ≡ xs
-take_span s p q xs a = let z : q - p ≡ length xs = omega (arith, a.long) in ap (λ (i : ℕ). take i (drop p s)) z ∙ a.bytes
-
-module _ (s : List ℕ) (p q e : ℕ) where
-  pub type_short : length s < e + (q - p) → SameType s p q e false
-  type_short l = record {
-    yes = λ y. true_not y;
-    not = λ y t x a b. (let z = a.span.long in let w = b.span.long in let v = b.span.within in omega arith);
-  }
-
-  pub type_bytes : p ≤ q → e + (q - p) ≤ length s → (r : Bool) → SameParts s p e (q - p) r → SameType s p q e r
-  type_bytes l w r b = record {
-    yes = λ y t a. record {
-      span = record {
-        long = lengths t a;
-        within = w;
-        bytes = ap (λ (i : ℕ). take i (drop e s)) (long t a) ∙ sym
-            (b.same y) ∙ take_span s p q (enc_ty t) a.span;
-      };
-      wf = a.wf;
-    };
-    not = λ y t x a c. b.differ y (take_span s p q (enc_ty t) a.span ∙ sym (ap (λ (i : ℕ). take i (drop e s)) (sym (long t a)) ∙ c.span.bytes));
-  }
-    where
-      long : (t : Ty) → TypeAt s p q t → length (enc_ty t) ≡ q - p
-      long t a = omega (arith, a.span.long)
-
-      lengths : (t : Ty) → TypeAt s p q t → e + length (enc_ty t) ≡ e + (q - p)
-      lengths t a = ap (λ (i : ℕ). e + i) (long t a)
-
 -- ---- note_identifier, note_given
 -- a type that stands somewhere in a frame
 pub type_room : (s : List ℕ) (p q : ℕ) → length s ≤ frame_limit → (t : Ty) × TypeAt s p q t → (p ≤ q) × (q ≤ length s) × (p < 4096)
@@ -200,15 +168,17 @@ type_room s p q l h =
     let y = h.1.span.within in
     (omega arith, y, omega (arith, ty_long h.0))
 
+-- the entry of an identifier that has claimed a number: it says that place
+abbrev pub PlaceEntry : ℕ → ℕ → Type 0
+PlaceEntry v e = (v ≡ suc e) × (v ≡ given_mark → ⊥)
+
 module _ (s table : List ℕ) (n : ℕ) where
-  -- a place that an entry says
-  pub entry_place : Held s table → (get_or table n 0 ≡ 0 → ⊥) → (get_or table n 0 ≡ given_mark → ⊥) → (v : ℕ) → v ≡ get_or table n 0
-      → (v - 1 ≤ length s) × (v - 1 < 4096)
-  entry_place h z g v ev = let w = h.told.only n z in go w.0 w.2
+  pub entry_place : Held s table → (e : ℕ) → PlaceEntry (get_or table n 0) e → (e ≤ length s) × (e < 4096)
+  entry_place h e a = let w = h.told.only n (λ z. cc) in go w.0 w.2
     where
-      go : (u : Ty) → Says s n (get_or table n 0) u → (v - 1 ≤ length s) × (v - 1 < 4096)
-      go u (by_mark e f) = absurd (g e)
-      go u (by_place p q e l a) = let x = a.span.long in let y = a.span.within in (omega arith, omega arith)
+      go : (u : Ty) → Says s n (get_or table n 0) u → (e ≤ length s) × (e < 4096)
+      go u (by_mark g f) = absurd (a.1 g)
+      go u (by_place p q g l t) = let x = t.span.long in let y = t.span.within in let z : suc e ≡ suc p = sym a.0 ∙ g in (omega arith, omega arith)
 
   module _ (p q : ℕ) where
     pub name_new : n < length table → p < 4096 → get_or table n 0 ≡ 0 → NamePost s n p q table (set table n (p + 1)) true
@@ -220,15 +190,15 @@ module _ (s table : List ℕ) (n : ℕ) where
       };
     }
 
-    pub name_mark : n < 65536 → get_or table n 0 ≡ given_mark → (r : Bool) → PowerPost s p n r → NamePost s n p q table table r
-    name_mark l g true b = record {
+    pub name_mark : get_or table n 0 ≡ given_mark → (r : Bool) → PowerPost s p n r → NamePost s n p q table table r
+    name_mark g true b = record {
       by = λ t a. record {
         size = refl;
         by = λ done h. note_same s table done h n t
             (by_mark g (type_unique s p q (p + 4) t (pow (given n)) a (b.yes refl)));
       };
     }
-    name_mark l g false b = record {
+    name_mark g false b = record {
       by = λ t a. record {
         size = refl;
         by = λ done h. note_clash s table done h n t
@@ -240,20 +210,23 @@ module _ (s table : List ℕ) (n : ℕ) where
         never t a (by_mark e f) = b.not refl q (subst (TypeAt s p q) f a)
         never t a (by_place p' q' e l' a') = omega arith
 
-    pub name_place : Held s table → (get_or table n 0 ≡ 0 → ⊥) → (get_or table n 0 ≡ given_mark → ⊥) → (v : ℕ) → v ≡ get_or table n 0 → (r : Bool)
-        → SameType s p q (v - 1) r → NamePost s n p q table table r
-    name_place hd z g v ev true b = record {
+    pub name_place : Held s table → (e : ℕ) → PlaceEntry (get_or table n 0) e → (r : Bool) → SameType s p q e r
+        → NamePost s n p q table table r
+    name_place hd e g true b = record {
       by = λ t a. record {
         size = refl;
         by = λ done h. note_same s table done h n t
-            (by_place (v - 1) _ (omega arith) (entry_place hd z g v ev).1 (b.yes refl t a));
+            (by_place e _ g.0 (entry_place hd e g).1 (b.yes refl t a));
       };
     }
-    name_place hd z g v ev false b = record { by = λ t a. record { size = refl; by = λ done h. note_clash s table done h n t z (never t a) } }
+    name_place hd e g false b = record { by = λ t a. record { size = refl; by = λ done h. note_clash s table done h n t (λ z. cc) (never t a) } }
       where
         never : (t : Ty) → TypeAt s p q t → Says s n (get_or table n 0) t → ⊥
-        never t a (by_mark e f) = g e
-        never t a (by_place p' q' e l' a') = let w : p' ≡ v - 1 = omega arith in b.not refl t q' a (subst (λ (i : ℕ). TypeAt s i q' t) w a')
+        never t a (by_mark y f) = g.1 y
+        never t a (by_place p' q' y l' a') =
+            let z : suc p' ≡ suc e = sym y ∙ g.0 in
+            let w : p' ≡ e = omega arith in
+            b.not refl t q' a (subst (λ (i : ℕ). TypeAt s i q' t) w a')
 
   pub given_new : n < length table → get_or table n 0 ≡ 0 → GivenPost s n table (set table n given_mark) true
   given_new l z = record {
@@ -265,15 +238,17 @@ module _ (s table : List ℕ) (n : ℕ) where
   pub given_mark_lem : get_or table n 0 ≡ given_mark → GivenPost s n table table true
   given_mark_lem g = record { size = refl; by = λ done h. note_same s table done h n (pow (given n)) (by_mark g refl) }
 
-  pub given_place : Held s table → (get_or table n 0 ≡ 0 → ⊥) → (get_or table n 0 ≡ given_mark → ⊥) → (v : ℕ) → v ≡ get_or table n 0 → (r : Bool)
-      → PowerPost s (v - 1) n r → GivenPost s n table table r
-  given_place hd z g v ev true b = record {
+  pub given_place : Held s table → (e : ℕ) → PlaceEntry (get_or table n 0) e → (r : Bool) → PowerPost s e n r → GivenPost s n table table r
+  given_place hd e g true b = record {
     size = refl;
     by = λ done h. note_same s table done h n (pow (given n))
-        (by_place (v - 1) _ (omega arith) (entry_place hd z g v ev).1 (b.yes refl));
+        (by_place e _ g.0 (entry_place hd e g).1 (b.yes refl));
   }
-  given_place hd z g v ev false b = record { size = refl; by = λ done h. note_clash s table done h n (pow (given n)) z never }
+  given_place hd e g false b = record { size = refl; by = λ done h. note_clash s table done h n (pow (given n)) (λ z. cc) never }
     where
       never : Says s n (get_or table n 0) (pow (given n)) → ⊥
-      never (by_mark e f) = g e
-      never (by_place p' q' e l' a') = let w : p' ≡ v - 1 = omega arith in b.not refl q' (subst (λ (i : ℕ). TypeAt s i q' (pow (given n))) w a')
+      never (by_mark y f) = g.1 y
+      never (by_place p' q' y l' a') =
+          let z : suc p' ≡ suc e = sym y ∙ g.0 in
+          let w : p' ≡ e = omega arith in
+          b.not refl q' (subst (λ (i : ℕ). TypeAt s i q' (pow (given n))) w a')

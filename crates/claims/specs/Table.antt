@@ -1,6 +1,6 @@
 -- What the table of claims says. An identifier claims its type for its number, and a given set in a carried type claims the power of
 -- that set for its own.
-use Rattle.std.specs.Prelude.{◌≡◌, Bool, true, false, List, [], ◌∷◌, ◌++◌, ℕ, suc, ◌+◌, ◌-◌, ◌≤◌, ◌<◌, length, get_or}
+use Rattle.std.specs.Prelude.{◌≡◌, Option, Some, None, Bool, true, false, List, [], ◌∷◌, ◌++◌, ℕ, suc, ◌+◌, ◌-◌, ◌≤◌, ◌<◌, length, get_or}
 use Rattle.frame.specs.Types.{Ty, given, pow}
 use Rattle.frame.specs.Tags.{pick}
 use Rattle.frame.specs.Encoding.{enc_ty}
@@ -9,6 +9,8 @@ use Rattle.frame.specs.WellFormed.{TyWf}
 use Rattle.frame.specs.Spans.{Spans}
 use Rattle.typing.specs.Members.{In}
 use Rattle.typing.specs.Identifiers.{Named, named}
+use Rattle.claims.specs.declared.Claim.{Claim}
+use Rattle.claims.specs.declared.Claim.TheVariants.{Identifier, GivenSet}
 
 -- one number has claims of two types
 pub record Clash (l : List Named) : Type 0 where
@@ -28,6 +30,12 @@ pub record TypeAt (s : List ℕ) (p q : ℕ) (u : Ty) : Type 0 where
 -- the entry of a number that a given set has claimed: above one more than any position
 abbrev pub given_mark : ℕ
 given_mark = 5000
+
+-- who claimed the number of the entry v
+abbrev pub EntrySays : ℕ → Option Claim → Type 0
+EntrySays v None = v ≡ 0
+EntrySays v (Some GivenSet) = v ≡ given_mark
+EntrySays v (Some (Identifier p)) = (v ≡ suc p) × (v ≡ given_mark → ⊥)
 
 -- the entry v of the number n says that its type is u: by that mark, or by one more than the position of a type
 pub data Says (s : List ℕ) (n v : ℕ) (u : Ty) : Type 0 where

@@ -5,14 +5,33 @@
 ghost use Rattle.std.specs.Prelude.{◌≤◌, ◌<◌, length};
 ghost use Rattle.frame.specs.Types.{Ty};
 ghost use Rattle.frame.specs.Reading.{frame_limit};
-ghost use Rattle.claims.specs.Table.{PowerPost, SameType, Held, TypeAt, NamePost, GivenPost};
+ghost use Rattle.claims.specs.Table.{PowerPost, SameType, Held, TypeAt, NamePost, GivenPost, EntrySays};
 
 use heads::number;
-use octets::{same_bytes, wide16};
 
 // The entry of a number that a given set has claimed. Other entries are one more than the position of an identifier's type,
 // at most 4,096, and 0 where nothing has been claimed: so any number above tells it from these.
 const GIVEN: u16 = 5000;
+
+// Who claimed a number: an identifier with the type that stands at a position, or a given set.
+#[derive(Clone, Copy, Debug, PartialEq, Eq)]
+enum Claim {
+    Identifier(usize),
+    GivenSet,
+}
+
+// What an entry of the table says.
+// Kept: a table of `Option<Claim>` is at least twice as long, so that of all two-byte numbers would take 128 KiB more of the
+// fixed memory, to be cleared for each frame that needs it.
+fn claim_of(entry: u16) -> Option<Claim>
+    ensures { EntrySays entry result }
+{
+    match entry {
+        0 => None,
+        GIVEN => Some(Claim::GivenSet),
+        _ => Some(Claim::Identifier(usize::from(entry) - 1)),
+    }
+}
 
 // Whether the type from p up to q stands at e as well.
 fn same_type(s: &[u8], p: usize, q: usize, e: usize) -> bool
@@ -20,10 +39,7 @@ fn same_type(s: &[u8], p: usize, q: usize, e: usize) -> bool
     ensures { SameType s.now p q e result }
 {
     let n = q - p;
-    if s.len() < e + n {
-        return false;
-    }
-    same_bytes(s, p, e, n)
+    e + n <= s.len() && s[p..q] == s[e..e + n]
 }
 
 // Whether the type at p is the power of the given set n.
@@ -31,32 +47,23 @@ pub fn is_power(s: &[u8], p: usize, n: usize) -> bool
     requires { (p ≤ length s.now) × (length s.now ≤ frame_limit) × (n < 65536) }
     ensures { PowerPost s.now p n result }
 {
-    if s.len() < p + 4 {
-        return false;
-    }
-    if s[p] != 3 {
-        return false;
-    }
-    if s[p + 1] != 2 {
-        return false;
-    }
-    number(s, p + 2, 2) == n
+    p + 4 <= s.len() && s[p] == 3 && s[p + 1] == 2 && number(s, p + 2, 2) == n
 }
 
 // An identifier n whose type stands from p up to q.
+// Kept: the frame and the table are no struct, since one is lent to be read and the other to be written, for a call each.
 pub fn note_identifier(s: &[u8], n: usize, p: usize, q: usize, table: &mut [u16]) -> bool
     requires { (n < 65536) × (n < length table.old) × Held s.now table.old × ((t : Ty) × TypeAt s.now p q t) }
     ensures { NamePost s.now n p q table.old table.new result }
 {
-    let entry = table[n];
-    if entry == 0 {
-        table[n] = (p + 1) as u16;
-        return true;
+    match claim_of(table[n]) {
+        None => {
+            table[n] = (p + 1) as u16;
+            true
+        }
+        Some(Claim::GivenSet) => is_power(s, p, n),
+        Some(Claim::Identifier(e)) => same_type(s, p, q, e),
     }
-    if entry == GIVEN {
-        return is_power(s, p, n);
-    }
-    same_type(s, p, q, wide16(entry) - 1)
 }
 
 // A given set n in some type: its number is an identifier's of one type only, the power of that set.
@@ -64,13 +71,12 @@ pub fn note_given(s: &[u8], n: usize, table: &mut [u16]) -> bool
     requires { (n < 65536) × (n < length table.old) × Held s.now table.old }
     ensures { GivenPost s.now n table.old table.new result }
 {
-    let entry = table[n];
-    if entry == 0 {
-        table[n] = GIVEN;
-        return true;
+    match claim_of(table[n]) {
+        None => {
+            table[n] = GIVEN;
+            true
+        }
+        Some(Claim::GivenSet) => true,
+        Some(Claim::Identifier(e)) => is_power(s, e, n),
     }
-    if entry == GIVEN {
-        return true;
-    }
-    is_power(s, wide16(entry) - 1, n)
 }

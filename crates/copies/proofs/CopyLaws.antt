@@ -1,16 +1,11 @@
--- Laws of copies: bytes one by one and spans; copies.
--- Main results: span_get, span_by (a span by its bytes), span_kept (a span below what is written), copied_span (what a copy is);
--- copied_none, copied_more, copy_unread (a copy byte by byte).
-use mathlib.Core.Path.{◌≡◌, refl, sym, ap, ◌∙◌}
-use mathlib.Core.Bool.{Bool, true, false}
+-- Laws of copies: spans, byte by byte; what a copy leaves of them.
+-- Main results: span_get, span_by (a span by its bytes), span_kept (a span below what is written), copied_span (what a copy is).
+use mathlib.Core.Path.{◌≡◌, sym, ap, ◌∙◌}
 use mathlib.Core.List.{List}
 use Prim.Native.Nat.{ℕ, ◌+◌, ◌-◌, ◌≤◌, ◌<◌}
 use native.Mathlib.Omega.{arith}
-use lib.ListN.{length, take, drop, get_or, set, length-take, length-drop, length-set}
-use lib.Seq.{get_or-take, get_or-drop, ext_get_or, get_or-set_same, get_or-set_other}
-use lib.Dec.{ltb, leb}
-use borrow.Author.Count.{below_more, below_none}
-use borrow.Author.Tests.{ltb-true, ltb-false, leb-true, leb-false}
+use lib.ListN.{length, take, drop, get_or, length-take, length-drop}
+use lib.Seq.{get_or-take, get_or-drop, ext_get_or}
 use Rattle.frame.specs.Spans.{Spans}
 use Rattle.copies.specs.Copies.{Copied, Apart}
 
@@ -42,35 +37,6 @@ pub copied_span : {s : List ℕ} {a e : ℕ} {xs : List ℕ} (n : ℕ) (o p : Li
 copied_span {s} {a} {e} {xs} n o p to en sp c h =
     let z : length xs ≡ n = omega (arith, sp.long) in
     span_by p to (to + n) xs (omega arith) (omega (arith, c.long)) (λ j k. c.put j (omega (arith, z, k)) ∙ span_get sp j k)
-
--- ---- copies
-module _ (s : List ℕ) (a : ℕ) (o : List ℕ) (to : ℕ) where
-  pub copied_none : Copied s a 0 o o to
-  copied_none = record { long = refl; put = below_none (λ j. get_or o (to + j) 0 ≡ get_or s (a + j) 0); low = λ j h. refl; high = λ j h. refl }
-
-  pub copied_more : (i : ℕ) (p : List ℕ) (x : ℕ) → x ≡ get_or s (a + i) 0 → to + i < length o → Copied s a i o p to
-      → Copied s a (i + 1) o (set p (to + i) x) to
-  copied_more i p x e h c = record {
-    long = length-set p (to + i) x ∙ c.long;
-    put = below_more (λ j. get_or (set p (to + i) x) (to + j) 0 ≡ get_or s (a + j) 0) i
-        (λ j k. get_or-set_other p (to + i) (to + j) x 0 (omega arith) ∙ c.put j k)
-        (get_or-set_same p (to + i) x 0 (omega (arith, c.long)) ∙ e);
-    low = λ j k. get_or-set_other p (to + i) j x 0 (omega arith) ∙ c.low j k;
-    high = λ j k. get_or-set_other p (to + i) j x 0 (omega arith) ∙ c.high j (omega arith);
-  }
-
--- what is still to be copied has not been written
-pub copy_unread : (o : List ℕ) (a e to i : ℕ) (p : List ℕ) → Apart a e to → a + i < e → Copied o a i o p to → get_or p (a + i) 0 ≡ get_or o (a + i) 0
-copy_unread o a e to i p d h c = by_side (ltb (a + i) to) refl (leb (to + i) (a + i)) refl
-  where
-    by_side : (x : Bool) → ltb (a + i) to ≡ x → (y : Bool) → leb (to + i) (a + i) ≡ y → get_or p (a + i) 0 ≡ get_or o (a + i) 0
-    by_side true ex y ey = c.low (a + i) (ltb-true _ _ ex)
-    by_side false ex true ey = c.high (a + i) (leb-true _ _ ey)
-    by_side false ex false ey =
-        let l = ltb-false (a + i) to ex in
-        let r = leb-false (to + i) (a + i) ey in
-        let z : to + (a + i - to) ≡ a + i = omega arith in
-        absurd (d.clear i (a + i - to) h (omega arith) z)
 
 -- a copy further up, and one further down
 pub apart_up : (a e to : ℕ) → e ≤ to → Apart a e to

@@ -1,6 +1,7 @@
 -- From the place of a node to those of its children.
 -- Main results: here_child, by_child (a node's one child); here_first, here_second (either of two places); after_first_lem (the place
 -- that follows a subtree is behind it); plain (a node without a number and types of its own).
+use Rattle.std.proofs.Common.{Option}
 use mathlib.Core.Path.{◌≡◌, sym, ap, ◌∙◌}
 use mathlib.Core.List.{List, [], ◌∷◌}
 use Prim.Native.Nat.{ℕ, ◌+◌, ◌<◌}
@@ -37,7 +38,7 @@ module _ (s st nx : List ℕ) (k tag : ℕ) (pt : TagPost s st k tag) (g : ℕ) 
   -- a rule that goes on to it
   pub by_child : (rule : Ctx → Tree → Change) (on : Ctx → Tree → Change)
       → ((Γ : Ctx) (n : ℕ) (us : List Ty) (a : Tree) → rule Γ (node (head g n us) (cons a nil)) ≡ on (under g us Γ) a)
-      → (r : Decision) → Decides on s st nx (k + 1) r → Decides rule s st nx k r
+      → (r : Option Decision) → Decides on s st nx (k + 1) r → Decides rule s st nx k r
   by_child rule on ans r de =
       record {
         means = λ t n Γ v tb f w Ξ kept.

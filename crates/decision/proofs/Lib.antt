@@ -1,9 +1,9 @@
 pub mod Shapes
 pub mod TagRows
 pub mod TwoPlaces
-pub mod Children
 pub mod Opposites
-mod RowTurns
-mod Bridges
+pub mod Bridges
 pub mod Series
 pub mod Descents
+pub mod ChildWalks
+pub mod Among

@@ -1,6 +1,7 @@
 -- The shape that a tag gives to a tree that stands at a place, where its children are, and decisions with a fixed pattern.
--- Main results: here_few, here_placed, first_placed, second_placed; bare, single, double, any (the shape by the tag);
+-- Main results: here_few, here_placed, here_tree, first_tree, first_placed, second_placed; bare, single, double, any (the shape by the tag);
 -- fixed_at, each_means (what a decision stands for); by_node, by_single, by_double, by_each, by_pair, by_two (decisions by the tag).
+use Rattle.std.proofs.Common.{Option, Some, None}
 use mathlib.Core.Path.{◌≡◌, refl, sym, ap, ap₂, ◌∙◌}
 use mathlib.Core.Bool.{Bool, true, false, not, ◌&&◌, ◌||◌}
 use mathlib.Core.List.{List, [], ◌∷◌, ◌++◌}
@@ -19,7 +20,7 @@ use Rattle.frame.proofs.Splices.{find_lt}
 use Rattle.frame.proofs.Booleans.{both_true}
 use Rattle.frame.proofs.Inversion.{true_not}
 use Rattle.rules.proofs.Operands.{count_map}
-use Rattle.nav.specs.PlaceTables.{Table, Placed, TagPost, ArityPost}
+use Rattle.nav.specs.PlaceTables.{Table, Placed, InTree, TagPost, ArityPost}
 use Rattle.nav.proofs.Hops.{framed_few, Sorted, place_sorted}
 use Rattle.nav.proofs.SamePlaces.{only_child, two_children}
 use Rattle.rules.specs.Change.{Change, to, same, ◌or_else◌, on_tag, with2}
@@ -44,6 +45,12 @@ here_few h = place_few h.table h.there
 
 pub here_placed : {s st nx : List ℕ} {k : ℕ} → Here s st nx k → Placed s st k
 here_placed h = placed h.table h.there
+
+pub here_tree : {s st nx : List ℕ} {k : ℕ} → Here s st nx k → InTree s st nx k
+here_tree {s} {st} {nx} {k} h = record { t = h.t; n = h.n; table = h.table; below = find_lt h.t [] k h.Γ h.v h.there }
+
+pub first_tree : {s st nx : List ℕ} {a b : ℕ} → HereTwo s st nx a b → InTree s st nx a
+first_tree {s} {st} {nx} {a} h = record { t = h.t; n = h.n; table = h.table; below = find_lt h.t [] a h.Γ h.v h.first }
 
 pub first_placed : {s st nx : List ℕ} {a b : ℕ} → HereTwo s st nx a b → Placed s st a
 first_placed h = placed h.table h.first
@@ -150,37 +157,37 @@ unbound p g h = go (ltb p 88) (not (takes_binders p)) h
 -- Where the tag at place k is g, the function decides the place of the source: by a right side of the node, of its child, of its
 -- two children, of each child, and of its two children if there are no more.
 module _ (rule : Ctx → Tree → Change) (s st nx : List ℕ) (k tag g place : ℕ) where
-  abbrev Decided : Decision → Type 0
-  Decided d = (r : Decision) → r ≡ d → Decides rule s st nx k r
+  abbrev Decided : Option Decision → Type 0
+  Decided d = (r : Option Decision) → r ≡ d → Decides rule s st nx k r
 
   abbrev pub OfNode : Type 0
-  OfNode = tag ≡ g → Decided (D.Fixed place place k k k)
+  OfNode = tag ≡ g → Decided (Some (D.Fixed place place k k k))
 
   abbrev pub OfChild : Type 0
-  OfChild = tag ≡ g → Decided (D.Fixed place place (k + 1) (k + 1) k)
+  OfChild = tag ≡ g → Decided (Some (D.Fixed place place (k + 1) (k + 1) k))
 
   abbrev pub OfTwo : Type 0
-  OfTwo = tag ≡ g → (j : ℕ) → (k + 1 < 2048 → j ≡ get_or nx (k + 1) 0) → Decided (D.Fixed place place (k + 1) j k)
+  OfTwo = tag ≡ g → (j : ℕ) → (k + 1 < 2048 → j ≡ get_or nx (k + 1) 0) → Decided (Some (D.Fixed place place (k + 1) j k))
 
   abbrev pub OfEach : Type 0
-  OfEach = tag ≡ g → Decided (D.Each place k k)
+  OfEach = tag ≡ g → Decided (Some (D.Each place k k))
 
   abbrev pub OfPair : Type 0
   OfPair = tag ≡ g → (j : ℕ) → (k + 1 < 2048 → j ≡ get_or nx (k + 1) 0) → (m : ℕ) → ArityPost s st k m
-      → Decided (pick (eqb m 2) (D.Fixed place place (k + 1) j k) D.Rests)
+      → Decided (pick (eqb m 2) (Some (D.Fixed place place (k + 1) j k)) None)
 
 -- what a function decides by the tag at place k alone
 module _ (rule : Ctx → Tree → Change) (s st nx : List ℕ) (k tag : ℕ) (pt : TagPost s st k tag) where
   -- no place answers
-  pub by_rest : ((Γ : Ctx) (v : Tree) → tag_of v ≡ tag → rule Γ v ≡ same) → (r : Decision) → r ≡ D.Rests → Decides rule s st nx k r
+  pub by_rest : ((Γ : Ctx) (v : Tree) → tag_of v ≡ tag → rule Γ v ≡ same) → (r : Option Decision) → r ≡ None → Decides rule s st nx k r
   by_rest ans r er =
       record { means = λ t n Γ v tb f w Ξ kept. rw er (ans Γ v (sym (pt.tag t n Γ v tb.framed f))) }
 
   -- the rule is one of another tag
   pub by_other : (g : ℕ) (on : Ctx → List Ty → Forest → Change) → ((Γ : Ctx) (v : Tree) → rule Γ v ≡ on_tag g v (on Γ)) → (tag ≡ g → ⊥)
-      → Decides rule s st nx k D.Rests
+      → Decides rule s st nx k None
   unfolding on_tag
-  by_other g on is h = by_rest (λ Γ v z. is Γ v ∙ go (on Γ) v z) D.Rests refl
+  by_other g on is h = by_rest (λ Γ v z. is Γ v ∙ go (on Γ) v z) None refl
     where
       go : (f : List Ty → Forest → Change) (v : Tree) → tag_of v ≡ tag → on_tag g v f ≡ same
       go f (node (head o n us) ks) z = rw z (rw (ne_eqb tag g h))
@@ -329,7 +336,7 @@ module _ (rule : Ctx → Tree → Change) (s st nx : List ℕ) (k tag : ℕ) (pt
     where
       go : (t : Tree) (n : ℕ) (Γ : Ctx) (i : ℕ) (us : List Ty) (ks : Forest) → Table s t st nx n → find t [] k ≡ found Γ (node (head g i us) ks)
           → (w : Tree) (Ξ : Ctx) (kept : List ℕ)
-          → Means t w Ξ kept (pick (eqb (count ks) 2) (D.Fixed place place (k + 1) j k) D.Rests) (rule Γ (node (head g i us) ks))
+          → Means t w Ξ kept (pick (eqb (count ks) 2) (Some (D.Fixed place place (k + 1) j k)) None) (rule Γ (node (head g i us) ks))
       go t n Γ i us nil tb fx w Ξ kept = ans Γ i us nil
       go t n Γ i us (cons a nil) tb fx w Ξ kept = ans Γ i us (cons a nil)
       go t n Γ i us (cons a (cons b nil)) tb fx w Ξ kept =
@@ -373,7 +380,7 @@ module _ (s st nx : List ℕ) (k tag : ℕ) (pt : TagPost s st k tag) (g : ℕ) 
 
   pub by_both : (rule : Ctx → Tree → Change) (on : Ctx → Tree → Tree → Change)
       → ((Γ : Ctx) (n : ℕ) (us : List Ty) (a b : Tree) → rule Γ (node (head g n us) (cons a (cons b nil))) ≡ on (under g us Γ) a b)
-      → (r : Decision) → DecidesPair on s st nx (k + 1) j r → Decides rule s st nx k r
+      → (r : Option Decision) → DecidesPair on s st nx (k + 1) j r → Decides rule s st nx k r
   by_both rule on ans r de =
       record {
         means = λ t n Γ v tb f w Ξ kept.
@@ -386,5 +393,5 @@ module _ (s st nx : List ℕ) (k tag : ℕ) (pt : TagPost s st k tag) (g : ℕ) 
   -- where the rule does not ask for the context
   pub by_two : (rule : Ctx → Tree → Change) (on : Tree → Tree → Change)
       → ((Γ : Ctx) (n : ℕ) (us : List Ty) (a b : Tree) → rule Γ (node (head g n us) (cons a (cons b nil))) ≡ on a b)
-      → (r : Decision) → DecidesTwo on s st nx (k + 1) j r → Decides rule s st nx k r
+      → (r : Option Decision) → DecidesTwo on s st nx (k + 1) j r → Decides rule s st nx k r
   by_two rule on ans r de = by_both rule (λ Γ. on) ans r de

@@ -1,5 +1,6 @@
 -- Two places of a tree, and decisions on one of the two trees that stand there.
 -- Main results: both_placed, turned, two_few; on_left, on_right, on_right_at_left, negated_left.
+use Rattle.std.proofs.Common.{Option, Some}
 use mathlib.Core.Path.{◌≡◌, refl, sym, ap, ◌∙◌}
 use mathlib.Core.Bool.{Bool, true, false, not, ◌&&◌}
 use mathlib.Core.List.{List, []}
@@ -42,8 +43,8 @@ module _ (rule : Tree → Tree → Change) (s st nx : List ℕ) (a b place : ℕ
   Answers new = (t : Tree) (n : ℕ) (Γ : Ctx) (v w : Tree) → Table s t st nx n → find t [] a ≡ found Γ v → find t [] b ≡ found Γ w
       → rule v w ≡ to place (new Γ v w)
 
-  abbrev Decided : Decision → Type 0
-  Decided d = (r : Decision) → r ≡ d → DecidesTwo rule s st nx a b r
+  abbrev Decided : Option Decision → Type 0
+  Decided d = (r : Option Decision) → r ≡ d → DecidesTwo rule s st nx a b r
 
   -- the right side has the one operand u; its binder is u or the other tree
   of_one : (t : Tree) (i j : ℕ) (Γ : Ctx) (u y : Tree) (c : Change) → find t [] i ≡ found Γ u → find t [] j ≡ found Γ y
@@ -52,13 +53,13 @@ module _ (rule : Tree → Tree → Change) (s st nx : List ℕ) (a b place : ℕ
       fixed_at t place place c (side place Γ u u (own_types y)) ans i i j Γ Γ u u y fu fu fy (unbound place (tag_of y) plain)
       (sym (right_side place has Γ u u (own_types y)))
 
-  pub on_left : Answers (λ Γ v w. side place Γ v v (own_types v)) → Decided (D.Fixed place place a a a)
+  pub on_left : Answers (λ Γ v w. side place Γ v v (own_types v)) → Decided (Some (D.Fixed place place a a a))
   on_left ans r er = record { means = λ t n Γ v w tb fa fb x Ξ kept. rw er (of_one t a a Γ v v (rule v w) fa fa (ans t n Γ v w tb fa fb)) }
 
-  pub on_right : Answers (λ Γ v w. side place Γ w w (own_types w)) → Decided (D.Fixed place place b b b)
+  pub on_right : Answers (λ Γ v w. side place Γ w w (own_types w)) → Decided (Some (D.Fixed place place b b b))
   on_right ans r er = record { means = λ t n Γ v w tb fa fb x Ξ kept. rw er (of_one t b b Γ w w (rule v w) fb fb (ans t n Γ v w tb fa fb)) }
 
-  pub on_right_at_left : Answers (λ Γ v w. side place Γ w w (own_types v)) → Decided (D.Fixed place place b b a)
+  pub on_right_at_left : Answers (λ Γ v w. side place Γ w w (own_types v)) → Decided (Some (D.Fixed place place b b a))
   on_right_at_left ans r er = record { means = λ t n Γ v w tb fa fb x Ξ kept. rw er (of_one t b a Γ w v (rule v w) fb fa (ans t n Γ v w tb fa fb)) }
 
   -- a negation, removed where there is one
@@ -68,7 +69,7 @@ module _ (rule : Tree → Tree → Change) (s st nx : List ℕ) (a b place : ℕ
     unfolding lookup class_of form_at side make_neg
     negated_means t n p Γ v tag c tb f pt ans x Ξ kept = go (eqb tag 701) refl
       where
-        go : (b : Bool) → eqb tag 701 ≡ b → Means t x Ξ kept (pick b (D.Fixed place 64 (p + 1) (p + 1) p) (D.Fixed place place p p p)) c
+        go : (b : Bool) → eqb tag 701 ≡ b → Means t x Ξ kept (pick b (Some (D.Fixed place 64 (p + 1) (p + 1) p)) (Some (D.Fixed place place p p p))) c
         go true h =
             let z = pt.tag t n Γ v tb.framed f in
             let o = single 701 predicate (λ x. refl) v (place_sorted s t st n tb.framed p Γ v f) (sym z ∙ eqb-true tag 701 h) in

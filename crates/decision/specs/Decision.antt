@@ -1,5 +1,5 @@
 -- What a decision stands for: an answer of the definitions, and the bytes of the tree that it builds.
-use Rattle.std.specs.Prelude.{◌≡◌, Bool, true, false, not, ◌&&◌, ◌||◌, List, [], ◌∷◌, ◌++◌, ℕ, ◌+◌, ◌≤◌, eqb, ltb, take}
+use Rattle.std.specs.Prelude.{◌≡◌, Bool, true, false, not, ◌&&◌, ◌||◌, List, [], ◌∷◌, ◌++◌, ℕ, ◌+◌, ◌≤◌, eqb, ltb, map, Option, Some, None}
 use Rattle.frame.specs.Types.{Ty}
 use Rattle.frame.specs.Trees.{head, Tree, node, Forest, nil, cons, count, tag_of, nodes_in, one, two, many, sole, append}
 use Rattle.frame.specs.Tags.{predicate, Layout, these, payload, counted, binding, form_of, pick}
@@ -13,6 +13,7 @@ use Rattle.templates.specs.Template.{Filling, filled}
 use Rattle.templates.specs.Programs.{template}
 use Rattle.decision.specs.declared.Decision.{Decision}
 use Rattle.decision.specs.declared.Decision.TheVariants as D
+use Rattle.decision.specs.declared.kept.KeptChild.{KeptChild}
 
 -- two operands in their context, with their types, and the types of binders
 abbrev pub filling : Ctx → Tree → Tree → List Ty → Filling
@@ -87,12 +88,16 @@ pub record EachMeans (t : Tree) (place at binder : ℕ) (c : Change) : Type 0 wh
   pub bound : Bound place h
   pub bytes : enc new ≡ enc_number 2 (joint place) ++ (count ks ∷ each_filled place (under g vs Ξ) us ks)
 
--- it is the node's own operator over the children whose places are the first m of the lent list
-pub record KeptMeans (t v : Tree) (Γ : Ctx) (kept : List ℕ) (m : ℕ) (c : Change) : Type 0 where
+-- the places of the children that a list keeps
+abbrev pub places_of : List KeptChild → List ℕ
+places_of = map (λ child. child.place)
+
+-- it is the node's own operator over the children that stand at the places of the list
+pub record KeptMeans (t v : Tree) (Γ : Ctx) (kept : List ℕ) (c : Change) : Type 0 where
   pub ks : Forest
   pub answer : c ≡ to 65 (many (tag_of v) ks)
   pub operator : (form_of (tag_of v)).layout ≡ counted 2 255 predicate
-  pub listed : At t Γ (take m kept) ks
+  pub listed : At t Γ kept ks
 
 -- it says that a member is in none of the other operands of an intersection: {a} is the operand at `single`
 pub record ApartMeans (t : Tree) (at single : ℕ) (c : Change) : Type 0 where
@@ -115,11 +120,15 @@ pub record WithinMeans (t : Tree) (at : ℕ) (c : Change) : Type 0 where
   pub at_node : find t [] at ≡ found Ξ (node (head #BInter n vs) ks)
   pub answer : c ≡ to 38 (two #SubsetEq (joined #BInter (minuends ks)) (joined #BUnion (subtrahends ks)))
 
--- the decision d, made at a node v in the context Γ of the tree t, stands for the answer c; kept is the lent list
-abbrev pub Means : Tree → Tree → Ctx → List ℕ → Decision → Change → Type 0
-Means t v Γ kept D.Rests c = c ≡ same
-Means t v Γ kept (D.Fixed place pattern first second binder) c = FixedMeans t place pattern first second binder c
-Means t v Γ kept (D.Each place at binder) c = EachMeans t place at binder c
-Means t v Γ kept (D.Kept m) c = KeptMeans t v Γ kept m c
-Means t v Γ kept (D.Apart at single) c = ApartMeans t at single c
-Means t v Γ kept (D.Within at) c = WithinMeans t at c
+-- the decision d, made at a node v in the context Γ of the tree t, stands for the answer c; kept are the places in the lent list
+abbrev pub StandsFor : Tree → Tree → Ctx → List ℕ → Decision → Change → Type 0
+StandsFor t v Γ kept (D.Fixed place pattern first second binder) c = FixedMeans t place pattern first second binder c
+StandsFor t v Γ kept (D.Each place at binder) c = EachMeans t place at binder c
+StandsFor t v Γ kept D.Kept c = KeptMeans t v Γ kept c
+StandsFor t v Γ kept (D.Apart at single) c = ApartMeans t at single c
+StandsFor t v Γ kept (D.Within at) c = WithinMeans t at c
+
+-- the same where a rule decides, or does not apply
+abbrev pub Means : Tree → Tree → Ctx → List ℕ → Option Decision → Change → Type 0
+Means t v Γ kept None c = c ≡ same
+Means t v Γ kept (Some d) c = StandsFor t v Γ kept d c

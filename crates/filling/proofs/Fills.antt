@@ -1,45 +1,71 @@
--- What stands in the buffers fills a template, whichever it is; the table of the templates that ask for types.
--- Main results: asks_high, asks_low, fill_ready, fill_done.
+-- What stands in the buffers fills a template, whichever it is; which templates ask for types.
+-- Main results: asks_one, asks_none, fill_types, fill_places, fill_ready, fill_done.
 use mathlib.Core.Path.{◌≡◌, refl, sym, ap, ◌∙◌}
 use mathlib.Core.Bool.{Bool, true, false, not, ◌&&◌, ◌||◌}
 use mathlib.Core.List.{List, [], ◌∷◌}
-use Prim.Native.Nat.{ℕ, zero, suc, ◌/◌, ◌%◌, ◌^◌, ◌≤◌, ◌<◌}
+use Prim.Native.Nat.{ℕ, zero, suc, ◌≤◌, ◌<◌}
+use native.Mathlib.Omega.{arith}
 use lib.ListN.{length, get_or}
-use lib.Dec.{eqb, leb, ltb}
-use borrow.Author.Tests.{ltb-true, le-leb, lt-leb}
+use lib.Dec.{ltb}
+use borrow.Author.Tests.{ltb-true}
+use Rattle.std.proofs.Common.{Option}
 use Rattle.frame.specs.Types.{Ty}
 use Rattle.frame.specs.Trees.{head, Tree, node}
-use Rattle.frame.specs.Tags.{pick, form_of}
-use Rattle.frame.specs.Encoding.{enc_tys, enc}
-use Rattle.frame.specs.Spans.{Spans}
+use Rattle.frame.specs.Tags.{form_of}
+use Rattle.frame.specs.Encoding.{enc_ty, enc_tys, enc}
 use Rattle.frame.specs.Places.{Ctx}
 use Rattle.frame.proofs.Inversion.{true_not}
 use Rattle.frame.proofs.Booleans.{both_true, or_then}
 use Rattle.frame.proofs.Splices.{find_lt}
-use Rattle.frame.proofs.Tables.{all_below, below, flag}
+use Rattle.frame.proofs.Tables.{all_below, below}
 use Rattle.typing.specs.Typing.{type_of}
-use Rattle.nav.specs.PlaceTables.{Table}
+use Rattle.nav.specs.AtPlaces.{PlacesOf, InTables}
+use Rattle.nav.specs.declared.Places.{Places}
 use Rattle.templates.specs.Template.{Part, tag, byte, operand, type, expression, binders, Filling, operand_at, type_at}
 use Rattle.templates.specs.Programs.{templates, among, find_row, template}
-use Rattle.parts.specs.Holds.{from_of, end_of, type_of_operand, bool_at, MadeFrom, Holds, Fillable, Filled}
-use Rattle.parts.specs.declared.Ranges.{Ranges}
+use Rattle.programs.specs.Parts.{part_then, parts_of, asks_type}
+use Rattle.programs.specs.declared.Part as C
+use Rattle.programs.specs.declared.Part.TheVariants as P
+use Rattle.parts.specs.Holds.{subtree_of, type_of as type_bytes, Holds, Fillable, Filled}
+use Rattle.parts.specs.declared.Operands.{Operands}
 use Rattle.decision.specs.Decision.{filling, takes_binders, has_binders, Bound}
-use Rattle.filling.specs.Operands.{asks_types, Held, TypesPre, TypesPost, RangesPre, RangesPost, FillAt, FillPre, FillPost}
+use Rattle.filling.specs.Operands.{asks_types, HeldIn, TypeOfPre, TypeOfPost, SubtreePost, BindersPost, FillAt, FillPre, FillPost}
 
--- ---- the table of src/lib.rt
--- what the code reads of its word
-abbrev pub asked_at : ℕ → Bool
-asked_at k = eqb (1148060082513142032 / 2 ^ k % 2) 1
+-- ---- whether a part asks for types
+or_true : (a b : Bool) → b ≡ true → a || b ≡ true
+or_true true b e = refl
+or_true false b e = e
 
-asks_at : (k : ℕ) → k < 88 → pick (leb 64 k) false (asked_at k) ≡ asks_types (template k)
-unfolding asks_types template find_row templates among
-asks_at k h = flag (λ k. pick (leb 64 k) false (asked_at k)) (λ k. asks_types (template k)) 88 refl k h
+asks_part : (c : C.Part) (ps : List Part) → asks_types (part_then c ps) ≡ asks_type c || asks_types ps
+unfolding asks_types
+asks_part (P.Tag g) ps = refl
+asks_part (P.Count n) ps = refl
+asks_part (P.Subtree i) ps = refl
+asks_part (P.Type m i) ps = refl
+asks_part (P.Expression m i) ps = refl
+asks_part P.Binders ps = refl
+asks_part (P.Empty i) ps = refl
+asks_part (P.Full i) ps = refl
 
-pub asks_high : (k : ℕ) → k < 88 → 64 ≤ k → false ≡ asks_types (template k)
-asks_high k h l = sym (ap (λ (b : Bool). pick b false (asked_at k)) (le-leb 64 k l)) ∙ asks_at k h
+-- one of the parts does, or none
+pub asks_one : (cs : List C.Part) (ps : List Part) (i : ℕ) (d : C.Part) → parts_of cs ≡ ps → i < length cs → true ≡ asks_type (get_or cs i d)
+    → true ≡ asks_types ps
+asks_one cs ps i d e h a = go cs i h a ∙ ap asks_types e
+  where
+    go : (cs : List C.Part) (i : ℕ) → i < length cs → true ≡ asks_type (get_or cs i d) → true ≡ asks_types (parts_of cs)
+    go [] i h a = absurd (omega arith)
+    go (c ∷ cs) zero h a = sym (asks_part c (parts_of cs) ∙ ap (λ (b : Bool). b || asks_types (parts_of cs)) (sym a))
+    go (c ∷ cs) (suc i) h a = sym (asks_part c (parts_of cs) ∙ or_true (asks_type c) (asks_types (parts_of cs)) (sym (go cs i (omega arith) a)))
 
-pub asks_low : (k : ℕ) → k < 88 → k < 64 → asked_at k ≡ asks_types (template k)
-asks_low k h l = sym (ap (λ (b : Bool). pick b false (asked_at k)) (lt-leb 64 k l)) ∙ asks_at k h
+pub asks_none : (cs : List C.Part) (ps : List Part) (i : ℕ) (d : C.Part) → parts_of cs ≡ ps → length cs ≤ i
+    → ((j : ℕ) → j < i → asks_type (get_or cs j d) ≡ false) → false ≡ asks_types ps
+unfolding asks_types
+asks_none cs ps i d e h a = go cs (λ j k. a j (omega arith)) ∙ ap asks_types e
+  where
+    go : (cs : List C.Part) → ((j : ℕ) → j < length cs → asks_type (get_or cs j d) ≡ false) → false ≡ asks_types (parts_of cs)
+    go [] a = refl
+    go (c ∷ cs) a =
+        go cs (λ j k. a (suc j) (omega arith)) ∙ sym (asks_part c (parts_of cs) ∙ ap (λ (b : Bool). b || asks_types (parts_of cs)) (a 0 (omega arith)))
 
 -- ---- templates have two operands, and binders at the places that take them
 small : ℕ → Bool
@@ -68,27 +94,27 @@ template_fits : (k : ℕ) → k < 88 → fits (takes_binders k) (template k) ≡
 unfolding fits_right
 template_fits k h = below 88 fits_right all_fit k h
 
-module _ (s types : List ℕ) (r : Ranges) (a b : Tree) (t u : Ty) (us : List Ty) where
+module _ (r : Operands) (a b : Tree) (t u : Ty) (us : List Ty) where
   abbrev f : Filling
   f = record { operands = a ∷ b ∷ []; types = t ∷ u ∷ []; binder_types = us }
 
-  module _ (first : Spans s r.first r.first_end (enc a)) (second : Spans s r.second r.second_end (enc b)) where
-    operand_holds : (i : ℕ) → small i ≡ true → Spans s (from_of r i) (end_of r i) (enc (operand_at i f.operands))
+  module _ (first : r.first.now ≡ enc a) (second : r.second.now ≡ enc b) where
+    operand_holds : (i : ℕ) → small i ≡ true → subtree_of r i ≡ enc (operand_at i f.operands)
     unfolding small
     operand_holds zero h = first
     operand_holds (suc zero) h = second
     operand_holds (suc (suc i)) h = true_not h
 
-    type_holds : MadeFrom types r.first_type t × MadeFrom types r.second_type u → (i : ℕ) → small i ≡ true
-        → MadeFrom types (type_of_operand r i) (type_at i f.types)
+    type_holds : (r.first_type.now ≡ enc_ty t) × (r.second_type.now ≡ enc_ty u) → (i : ℕ) → small i ≡ true
+        → type_bytes r i ≡ enc_ty (type_at i f.types)
     unfolding small
     type_holds m zero h = m.0
     type_holds m (suc zero) h = m.1
     type_holds m (suc (suc i)) h = true_not h
 
-    module _ (c : Bool) (bound : c ≡ true → Spans s r.binders r.binders_end (length us ∷ enc_tys us)) where
-      all_holds : (ps : List Part) → fits c ps ≡ true → (asks_types ps ≡ true
-          → MadeFrom types r.first_type t × MadeFrom types r.second_type u) → Holds s types r f ps
+    module _ (c : Bool) (bound : c ≡ true → r.binders.now ≡ length us ∷ enc_tys us) where
+      all_holds : (ps : List Part) → fits c ps ≡ true → (asks_types ps ≡ true → (r.first_type.now ≡ enc_ty t) × (r.second_type.now ≡ enc_ty u))
+          → Holds r f ps
       unfolding fits asks_types Holds
       all_holds [] h m = tt
       all_holds (tag g ∷ ps) h m = all_holds ps h m
@@ -108,52 +134,43 @@ bound_has : (p g : ℕ) → Bound p g → takes_binders p ≡ true → has_binde
 bound_has p g h e = or_then (takes_binders p) (has_binders (form_of g).layout)
     (both_true (ltb p 88) (not (takes_binders p) || has_binders (form_of g).layout) h).1 e
 
-module _ (s : List ℕ) (n : ℕ) (st nx leaves : List ℕ) (pattern first second binder : ℕ) where
-  pub fill_types : FillPre s n st nx leaves pattern first second binder → (types : List ℕ) → length types ≡ 129 → get_or types bool_at 0 ≡ 0
-      → TypesPre s st leaves pattern first second types
-  fill_types p types l z =
-      let w = p.places in
-      record {
-        t = p.t;
-        n = n;
-        held = p.held;
-        few = bound_few pattern w.g w.bound;
-        below = (find_lt p.t [] first p.Δ p.a w.at_first, find_lt p.t [] second p.Δ p.b w.at_second);
-        long = l;
-        bool_there = z;
-      }
+module _ (p : Places) (pattern first second binder : ℕ) where
+  module _ (pre : FillPre p pattern first second binder) where
+    pub fill_few : pattern < 88
+    fill_few = bound_few pattern pre.places.g pre.places.bound
 
-  pub fill_ranges : FillPre s n st nx leaves pattern first second binder → RangesPre s n st nx first second binder
-  fill_ranges p =
-      let w = p.places in
-      record {
-        t = p.t;
-        table = p.table;
-        below = (
-          find_lt p.t [] first p.Δ p.a w.at_first,
-          find_lt p.t [] second p.Δ p.b w.at_second,
-          find_lt
-              p.t [] binder w.Θ (node (head w.g w.x p.us) w.ks) w.at_binder,
-        );
-      }
+    pub fill_types : TypeOfPre p first × TypeOfPre p second
+    fill_types =
+        let w = pre.places in (
+          record { t = pre.t; held = pre.held; below = find_lt pre.t [] first pre.Δ pre.a w.at_first },
+          record { t = pre.t; held = pre.held; below = find_lt pre.t [] second pre.Δ pre.b w.at_second },
+        )
 
-  module _ (types : List ℕ) (pt : TypesPost s st leaves pattern first second types) (r : Ranges)
-      (pr : RangesPost s n st nx first second binder r) where
-    holds : (t : Tree) (Δ : Ctx) (a b : Tree) (us : List Ty) → Table s t st nx n → Held s st leaves n t
-        → FillAt t pattern first second binder Δ a b us → Holds s types r (filling Δ a b us) (template pattern)
+    pub fill_places : InTables p first × InTables p second × InTables p binder
+    fill_places =
+        let w = pre.places in (
+          record { t = pre.t; table = pre.table; below = find_lt pre.t [] first pre.Δ pre.a w.at_first },
+          record { t = pre.t; table = pre.table; below = find_lt pre.t [] second pre.Δ pre.b w.at_second },
+          record { t = pre.t; table = pre.table; below = find_lt pre.t [] binder w.Θ (node (head w.g w.x pre.us) w.ks) w.at_binder },
+        )
+
+  module _ (asked : Bool) (says : asked ≡ asks_types (template pattern)) (r : Operands) (of_first : SubtreePost p first r.first.now)
+      (of_second : SubtreePost p second r.second.now) (first_type : asked ≡ true → TypeOfPost p first r.first_type.now)
+      (second_type : asked ≡ true → TypeOfPost p second r.second_type.now) (of_binders : BindersPost p binder r.binders.now) where
+    holds : (t : Tree) (Δ : Ctx) (a b : Tree) (us : List Ty) → PlacesOf p t → HeldIn p t → FillAt t pattern first second binder Δ a b us
+        → Holds r (filling Δ a b us) (template pattern)
     holds t Δ a b us tb h w =
-        all_holds s types r a b (type_of a Δ) (type_of b Δ) us (pr.of_first t Δ a tb w.at_first)
-        (pr.of_second t Δ b tb w.at_second) (takes_binders pattern)
-        (λ e. pr.of_binders t w.Θ w.g w.x us w.ks tb w.at_binder (bound_has pattern w.g w.bound e))
+        all_holds r a b (type_of a Δ) (type_of b Δ) us (of_first.is t Δ a tb w.at_first) (of_second.is t Δ b tb w.at_second)
+        (takes_binders pattern)
+        (λ e. of_binders.is t w.Θ w.g w.x us w.ks tb w.at_binder (bound_has pattern w.g w.bound e))
         (template pattern) (template_fits pattern (bound_few pattern w.g w.bound))
-        (λ e. rw (pr.types.0, pr.types.1) (pt.there e t n Δ Δ a b h w.at_first w.at_second))
+        (λ e. ((first_type (says ∙ e)).is t Δ a h w.at_first, (second_type (says ∙ e)).is t Δ b h w.at_second))
 
-    pub fill_ready : FillPre s n st nx leaves pattern first second binder → (pattern < 88) × Fillable (template pattern) s types r
-    fill_ready p = (
-      bound_few pattern p.places.g p.places.bound,
-      (filling p.Δ p.a p.b p.us, holds p.t p.Δ p.a p.b p.us p.table p.held p.places),
+    pub fill_ready : FillPre p pattern first second binder → (pattern < 88) × Fillable (template pattern) r
+    fill_ready pre = (
+      bound_few pattern pre.places.g pre.places.bound,
+      (filling pre.Δ pre.a pre.b pre.us, holds pre.t pre.Δ pre.a pre.b pre.us pre.table pre.held pre.places),
     )
 
-    pub fill_done : (o : List ℕ) (at : ℕ) (q : List ℕ) (k : ℕ) → Filled (template pattern) s types r o at q k
-        → FillPost s n st nx leaves pattern first second binder o at q k
-    fill_done o at q k d = record { puts = λ t Δ a b us tb h w. d.puts (filling Δ a b us) (holds t Δ a b us tb h w) }
+    pub fill_done : (o q : Option (List ℕ)) → Filled (template pattern) r o q → FillPost p pattern first second binder o q
+    fill_done o q d = record { puts = λ t Δ a b us tb h w. d.puts (filling Δ a b us) (holds t Δ a b us tb h w) }

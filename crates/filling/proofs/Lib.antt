@@ -1,3 +1,4 @@
 pub mod Subtrees
 mod Types
+mod Ends
 mod Fills

@@ -2,12 +2,12 @@
 -- Main results: leaves_found, held_typed (an accepted tree's subtree is typed, by a type of at most 64 bytes), span_at, binders_at.
 use mathlib.Core.Path.{◌≡◌, refl, sym, ap, ◌∙◌, subst}
 use mathlib.Core.Bool.{Bool, true, false}
-use mathlib.Core.List.{List, [], ◌∷◌, ◌++◌}
+use mathlib.Core.List.{List, [], ◌∷◌, ◌++◌, append-nil}
 use Prim.Native.Nat.{ℕ, zero, suc, ◌+◌, ◌-◌, ◌/◌, ◌≤◌, ◌<◌}
 use native.Mathlib.Omega.{arith}
-use lib.ListN.{length, get_or}
+use lib.ListN.{length, get_or, length-append}
 use lib.Dec.{ltb}
-use borrow.Author.Tests.{ltb-false}
+use borrow.Author.Tests.{ltb-true, ltb-false}
 use Rattle.frame.specs.Types.{Ty}
 use Rattle.frame.specs.Trees.{Head, head, Tree, node, Forest, nil, cons, count, nodes}
 use Rattle.frame.specs.Tags.{pick, predicate, Layout, these, payload, counted, binding, form_of, width, number_of}
@@ -27,7 +27,7 @@ use Rattle.typing.proofs.Derived.{short_of}
 use Rattle.typing.specs.Signature.{signature}
 use Rattle.step.proofs.Places.{accepted_at}
 use Rattle.nav.specs.PlaceTables.{Framed}
-use Rattle.nav.proofs.Hops.{place_stands, place_sorted, place_end}
+use Rattle.nav.proofs.Hops.{place_stands, place_sorted, place_end, ends_inside, ends_last}
 use Rattle.decision.specs.Decision.{has_binders}
 use Rattle.filling.specs.Operands.{Held}
 
@@ -136,40 +136,70 @@ module _ (s : List ℕ) (t : Tree) (st : List ℕ) (n : ℕ) (fr : Framed s t st
       let o = place_sorted s t st n fr k Γ v f in
       subst (λ (j : ℕ). Spans s (get_or st k 0) j (enc v)) (sym e) (place_stands s t st n fr k Γ v f o.0 o.1).bytes
 
-  -- the binders of a node stand between its tag and its first child
-  module _ (k : ℕ) (Γ : Ctx) (g x : ℕ) (us : List Ty) (a : Tree) (ks : Forest) (f : find t [] k ≡ found Γ (node (head g x us) (cons a ks))) where
-    top : List ℕ
-    top = enc_head (head g x us) (count (cons a ks))
+  -- the head of a node ends where the next place starts, or at the frame's end
+  head_long : (h : Head) (m q : ℕ) → q ≡ length (enc_head h m) → 2 ≤ q
+  unfolding enc_head
+  head_long (head g x us) m q e =
+      omega (arith, number_length 2 g, length-append (enc_number 2 g) (enc_number (width (form_of g).layout) (number_of (form_of g).layout x (length us) m) ++ enc_tys us))
 
-    top_at : Spans s (get_or st k 0) (get_or st (k + 1) 0) top
-    unfolding top enc
-    top_at =
-        let v : Tree = node (head g x us) (cons a ks) in
+  module _ (k : ℕ) (Γ : Ctx) (h : Head) (q : ℕ) (inside : k + 1 < n → q ≡ get_or st (k + 1) 0) (last : n ≤ k + 1 → q ≡ length s) where
+    head_alone : find t [] k ≡ found Γ (node h nil) → Spans s (get_or st k 0) q (enc_head h 0)
+    unfolding enc nodes
+    head_alone f =
+        let v : Tree = node h nil in
+        let w = span_left (enc_head h 0) [] (span_at k Γ v f (get_or st k 0 + length (enc v)) refl) in
+        let l : length (enc v) ≡ length (enc_head h 0) = ap length (append-nil (enc_head h 0)) in
+        let e = (place_end t [] k Γ v f).0 in
+        let z : get_or st k 0 + length (enc_head h 0) ≡ q = go (ltb (k + 1) n) refl l e in
+        subst (λ (j : ℕ). Spans s (get_or st k 0) j (enc_head h 0)) z w
+      where
+        go : (b : Bool) → ltb (k + 1) n ≡ b → length (enc (node h nil)) ≡ length (enc_head h 0) → k + 1 ≤ nodes t
+            → get_or st k 0 + length (enc_head h 0) ≡ q
+        go true y l e = let i = ltb-true (k + 1) n y in
+            omega (arith, inside i, fr.size, ends_inside s t st n fr k Γ (node h nil) f (omega (arith, fr.size)), l)
+        go false y l e = let i = ltb-false (k + 1) n y in
+            omega (arith, last i, fr.size, ends_last s t st n fr k Γ (node h nil) f (omega (arith, fr.size)), l)
+
+    head_over : (a : Tree) (ks : Forest) → find t [] k ≡ found Γ (node h (cons a ks)) → Spans s (get_or st k 0) q (enc_head h (count (cons a ks)))
+    unfolding enc
+    head_over a ks f =
+        let v : Tree = node h (cons a ks) in
         let w = span_at k Γ v f (get_or st k 0 + length (enc v)) refl in
         let z : k + 1 ≡ suc k = omega arith in
         let b = fr.begins k (find_lt t [] k Γ v f) in
-        let c = fr.begins (suc k) (two_places t [] k Γ (head g x us) a ks f) in
-        let e : get_or st k 0 + length (enc_head (head g x us) (count (cons a ks))) ≡ get_or st (k + 1) 0 =
-        ap (λ (m : ℕ). m + length (enc_head (head g x us) (count (cons a ks)))) b ∙ sym
-        (first_start t [] k Γ (head g x us) a ks f 0) ∙ sym c ∙ ap (λ (m : ℕ). get_or st m 0) (sym z) in
-        subst (λ (j : ℕ). Spans s (get_or st k 0) j (enc_head (head g x us) (count (cons a ks)))) e
-        (span_left (enc_head (head g x us) (count (cons a ks))) (encs (cons a ks)) w)
+        let y = two_places t [] k Γ h a ks f in
+        let c = fr.begins (suc k) y in
+        let e : get_or st k 0 + length (enc_head h (count (cons a ks))) ≡ q =
+        ap (λ (m : ℕ). m + length (enc_head h (count (cons a ks)))) b ∙ sym (first_start t [] k Γ h a ks f 0) ∙ sym c
+        ∙ ap (λ (m : ℕ). get_or st m 0) (sym z) ∙ sym (inside (omega (arith, fr.size))) in
+        subst (λ (j : ℕ). Spans s (get_or st k 0) j (enc_head h (count (cons a ks)))) e (span_left (enc_head h (count (cons a ks))) (encs (cons a ks)) w)
 
-    bytes_by : Layout → List ℕ
-    bytes_by l = enc_number (width l) (number_of l x (length us) (count (cons a ks))) ++ enc_tys us
+    head_at : (ks : Forest) → find t [] k ≡ found Γ (node h ks) → Spans s (get_or st k 0) q (enc_head h (count ks))
+    head_at nil f = head_alone f
+    head_at (cons a ks) f = head_over a ks f
 
-    bytes_is : (l : Layout) → has_binders l ≡ true → bytes_by l ≡ length us ∷ enc_tys us
-    unfolding bytes_by enc_number
-    bytes_is (these es) h = true_not h
-    bytes_is (payload w) h = true_not h
-    bytes_is (counted lo hi e) h = true_not h
-    bytes_is (binding lo hi []) h = true_not h
-    bytes_is (binding lo hi (e ∷ es)) h = let z : length us / 1 ≡ length us = omega arith in ap (λ (i : ℕ). i ∷ enc_tys us) z
+    -- it has a tag of two bytes
+    pub head_room : (ks : Forest) → find t [] k ≡ found Γ (node h ks) → (get_or st k 0 + 2 ≤ q) × (q ≤ length s)
+    head_room ks f = let w = head_at ks f in (omega (arith, w.long, head_long h (count ks) _ refl), w.within)
 
-    pub binders_at : has_binders (form_of g).layout ≡ true → Spans s (get_or st k 0 + 2) (get_or st (k + 1) 0) (length us ∷ enc_tys us)
-    unfolding top bytes_by enc_head
-    binders_at h =
-        let w = span_right (enc_number 2 g) (bytes_by (form_of g).layout) top_at in
-        let z : get_or st k 0 + length (enc_number 2 g) ≡ get_or st k 0 + 2 = omega (arith, number_length 2 g) in
-        subst (λ (j : ℕ). Spans s j (get_or st (k + 1) 0) (length us ∷ enc_tys us)) z
-        (subst (λ (l : List ℕ). Spans s (get_or st k 0 + length (enc_number 2 g)) (get_or st (k + 1) 0) l) (bytes_is (form_of g).layout h) w)
+  -- the binders of a node stand behind its tag
+  bytes_by : Layout → ℕ → ℕ → List Ty → List ℕ
+  bytes_by l x m us = enc_number (width l) (number_of l x (length us) m) ++ enc_tys us
+
+  bytes_is : (l : Layout) (x m : ℕ) (us : List Ty) → has_binders l ≡ true → bytes_by l x m us ≡ length us ∷ enc_tys us
+  unfolding bytes_by enc_number
+  bytes_is (these es) x m us h = true_not h
+  bytes_is (payload w) x m us h = true_not h
+  bytes_is (counted lo hi e) x m us h = true_not h
+  bytes_is (binding lo hi []) x m us h = true_not h
+  bytes_is (binding lo hi (e ∷ es)) x m us h = let z : length us / 1 ≡ length us = omega arith in ap (λ (i : ℕ). i ∷ enc_tys us) z
+
+  pub binders_at : (k : ℕ) (Γ : Ctx) (g x : ℕ) (us : List Ty) (ks : Forest) (q : ℕ) → (k + 1 < n → q ≡ get_or st (k + 1) 0)
+      → (n ≤ k + 1 → q ≡ length s) → find t [] k ≡ found Γ (node (head g x us) ks) → has_binders (form_of g).layout ≡ true
+      → Spans s (get_or st k 0 + 2) q (length us ∷ enc_tys us)
+  unfolding bytes_by enc_head
+  binders_at k Γ g x us ks q inside last f h =
+      let w = span_right (enc_number 2 g) (bytes_by (form_of g).layout x (count ks) us) (head_at k Γ (head g x us) q inside last ks f) in
+      let z : get_or st k 0 + length (enc_number 2 g) ≡ get_or st k 0 + 2 = omega (arith, number_length 2 g) in
+      subst (λ (j : ℕ). Spans s j q (length us ∷ enc_tys us)) z
+      (subst (λ (l : List ℕ). Spans s (get_or st k 0 + length (enc_number 2 g)) q l) (bytes_is (form_of g).layout x (count ks) us h) w)

@@ -1,155 +1,117 @@
 // What a pattern is filled with: the operands and binders as they stand in the frame, and the operands' types.
 #![tactic(auto)]
 
-ghost use Rattle.std.specs.Prelude.{◌≡◌, ◌+◌, ◌<◌, get_or};
+mod type_bytes; // type_bytes.rt: the bytes of one type
+
+ghost use Rattle.std.specs.Prelude.{◌≡◌, ◌<◌, true};
+ghost use Rattle.nav.specs.AtPlaces.{InTables};
 ghost use Rattle.templates.specs.Programs.{template};
-ghost use Rattle.filling.specs.Operands.{asks_types, TypeOfPre, WorkFor, TypeOfPost, TypesPre, TypesPost, RangesPre, RangesPost, FillPre, FillPost};
+ghost use Rattle.filling.specs.Operands.{asks_types, TypeOfPre, WorkFor, TypeOfPost, SubtreePost, BindersPost, FillPre, FillPost};
 
-use copies::copy_in;
-use nav::{arity_at, end_at, start_at};
-use parts::Ranges;
-use patterns::Typed;
+use nav::Places;
+use parts::Operands;
+use programs::program_of;
+use put::Writer;
 use synthesis::type_tree;
+use type_bytes::TypeBytes;
 
-// By place, one bit: whether the right side has a type that is made from an operand's. No place from 64 on has one.
-const ASKS_TYPES: usize = 0xfeeba8ff7006110;
-
+// Whether the right side has a type that is made from an operand's.
 fn asks_types(pattern: usize) -> bool
     requires { pattern < 88 }
     ensures { result ≡ asks_types (template pattern) }
 {
-    if 64 <= pattern {
-        return false;
+    // Kept: with `iter().any(..)` what it answers was not proved from its contract.
+    let program = program_of(pattern);
+    for part in program {
+        if part.asks_type() {
+            return true;
+        }
     }
-    (ASKS_TYPES >> pattern) % 2 == 1
+    false
 }
 
-// The type of the subtree at place k, into the buffer from `to` on; `work` has room for a type of 64 bytes for each of its nodes.
-fn type_with(
-    s: &[u8],
-    starts: &[u16; 2048],
-    leaves: &[u16; 2048],
-    k: usize,
-    work: &mut [u8],
-    types: &mut [u8],
-    to: usize,
-)
-    requires { TypeOfPre s.now starts.now leaves.now k types.old to × WorkFor s.now starts.now leaves.now k work.old }
-    ensures { TypeOfPost s.now starts.now leaves.now k types.old types.new to }
+// The type of the subtree at place k; `work` has room for a type of 64 bytes for each of its nodes.
+fn type_with(places: &Places<'_>, k: usize, work: &mut [u8]) -> TypeBytes
+    requires { TypeOfPre places.now k × WorkFor places.now k work.old }
+    ensures { TypeOfPost places.now k result }
 {
-    let at = start_at(starts, k);
-    let a = type_tree(s, at, k, leaves, work);
-    match a {
-        Typed::Is(m) => copy_in(work, 0, m, types, to),
-        Typed::Bad => {}
+    match type_tree(places.bytes, places.start_at(k), k, places.leaves, work) {
+        Some(m) => TypeBytes::of(&work[..m]),
+        None => TypeBytes::none(),
     }
 }
 
 // The same, with room for 2,048 nodes; most operands have no operands, a short frame has few nodes, and a buffer takes time to clear.
-fn type_of_place(
-    s: &[u8],
-    starts: &[u16; 2048],
-    leaves: &[u16; 2048],
-    k: usize,
-    types: &mut [u8],
-    to: usize,
-)
-    requires { TypeOfPre s.now starts.now leaves.now k types.old to }
-    ensures { TypeOfPost s.now starts.now leaves.now k types.old types.new to }
+fn type_of_place(places: &Places<'_>, k: usize) -> TypeBytes
+    requires { TypeOfPre places.now k }
+    ensures { TypeOfPost places.now k result }
 {
-    if arity_at(s, starts, k) == 0 {
-        let mut own = [0u8; 128];
-        type_with(s, starts, leaves, k, &mut own, types, to);
-        return;
+    // Kept: a buffer of each size, since a larger one takes longer to clear; each is one call.
+    if places.arity_at(k) == 0 {
+        return type_with(places, k, &mut [0; 128]);
     }
-    if s.len() <= 254 {
-        let mut small = [0u8; 8192];
-        type_with(s, starts, leaves, k, &mut small, types, to);
-        return;
+    if places.bytes.len() <= 254 {
+        return type_with(places, k, &mut [0; 8192]);
     }
-    if s.len() <= 1022 {
-        let mut medium = [0u8; 32768];
-        type_with(s, starts, leaves, k, &mut medium, types, to);
-        return;
+    if places.bytes.len() <= 1022 {
+        return type_with(places, k, &mut [0; 32768]);
     }
-    let mut work = [0u8; 131136];
-    type_with(s, starts, leaves, k, &mut work, types, to)
+    type_with(places, k, &mut [0; 131136])
 }
 
-// The types of the operands at two places, where the pattern asks for types.
-fn operand_types(
-    s: &[u8],
-    starts: &[u16; 2048],
-    leaves: &[u16; 2048],
-    pattern: usize,
-    first: usize,
-    second: usize,
-    types: &mut [u8],
-)
-    requires { TypesPre s.now starts.now leaves.now pattern first second types.old }
-    ensures { TypesPost s.now starts.now leaves.now pattern first second types.new }
+// The same where it is asked for.
+fn type_if(asked: bool, places: &Places<'_>, k: usize) -> TypeBytes
+    requires { TypeOfPre places.now k }
+    ensures { asked ≡ true → TypeOfPost places.now k result }
 {
-    if asks_types(pattern) {
-        type_of_place(s, starts, leaves, first, types, 0);
-        type_of_place(s, starts, leaves, second, types, 64);
+    if asked {
+        return type_of_place(places, k);
     }
+    TypeBytes::none()
 }
 
-// Where the node behind place k starts: for a node with binders that is where their types end.
-fn start_after(starts: &[u16; 2048], k: usize) -> usize
-    requires { k < 2048 }
-    ensures { k + 1 < 2048 → result ≡ get_or starts.now (k + 1) 0 }
+// The bytes of the subtree at place k.
+pub fn subtree_at<'a>(places: &Places<'a>, k: usize) -> &'a [u8]
+    requires { InTables places.now k }
+    ensures { SubtreePost places.now k result.now }
 {
-    if k < 2047 {
-        return start_at(starts, k + 1);
-    }
-    0
+    &places.bytes[places.start_at(k)..places.end_at(k)]
 }
 
-// Where the operands and the binders stand in the frame, and the types in their buffer.
-fn ranges(
-    s: &[u8],
-    n: usize,
-    starts: &[u16; 2048],
-    nexts: &[u16; 2048],
-    first: usize,
-    second: usize,
-    binder: usize,
-) -> Ranges
-    requires { RangesPre s.now n starts.now nexts.now first second binder }
-    ensures { RangesPost s.now n starts.now nexts.now first second binder result }
+// What stands behind the tag in the head of the node at place k: of a node with binders their count and types. The head ends where
+// the next node starts.
+fn behind_tag<'a>(places: &Places<'a>, k: usize) -> &'a [u8]
+    requires { InTables places.now k }
+    ensures { BindersPost places.now k result.now }
 {
-    Ranges {
-        first: start_at(starts, first),
-        first_end: end_at(s, n, starts, nexts, first),
-        second: start_at(starts, second),
-        second_end: end_at(s, n, starts, nexts, second),
-        first_type: 0,
-        second_type: 64,
-        binders: start_at(starts, binder) + 2,
-        binders_end: start_after(starts, binder),
+    let from = places.start_at(k) + 2;
+    if k + 1 < places.count {
+        return &places.bytes[from..places.start_at(k + 1)];
     }
+    &places.bytes[from..]
 }
 
 // The pattern, filled with the operands at two places and the binders of the node at a third.
 pub fn fill(
-    s: &[u8],
-    n: usize,
-    starts: &[u16; 2048],
-    nexts: &[u16; 2048],
-    leaves: &[u16; 2048],
+    places: &Places<'_>,
     pattern: usize,
     first: usize,
     second: usize,
     binder: usize,
-    out: &mut [u8; 4096],
-    at: usize,
-) -> usize
-    requires { FillPre s.now n starts.now nexts.now leaves.now pattern first second binder }
-    ensures { FillPost s.now n starts.now nexts.now leaves.now pattern first second binder out.old at out.new result }
+    out: &mut Writer,
+)
+    requires { FillPre places.now pattern first second binder }
+    ensures { FillPost places.now pattern first second binder out.old out.new }
 {
-    let mut types = [0u8; 129];
-    operand_types(s, starts, leaves, pattern, first, second, &mut types);
-    let r = ranges(s, n, starts, nexts, first, second, binder);
-    parts::fill_template(pattern, s, &types, r, out, at)
+    let asked = asks_types(pattern);
+    let first_type = type_if(asked, places, first);
+    let second_type = type_if(asked, places, second);
+    let operands = Operands {
+        first: subtree_at(places, first),
+        second: subtree_at(places, second),
+        first_type: first_type.as_slice(),
+        second_type: second_type.as_slice(),
+        binders: behind_tag(places, binder),
+    };
+    parts::fill_template(pattern, &operands, out);
 }

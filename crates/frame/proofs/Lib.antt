@@ -15,3 +15,5 @@ pub mod EveryTag
 pub mod AtPlace
 pub mod Splices
 pub mod Within
+pub mod RefusalNumbers
+pub mod BadNumbers

@@ -12,3 +12,4 @@ pub mod Sameness
 pub mod WellFormed
 pub mod Spans
 pub mod Cases
+pub mod Refusals

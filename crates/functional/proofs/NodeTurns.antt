@@ -1,6 +1,5 @@
--- The ways out of is_binder, binders_at, own_at and kids_at of src/lib.rt: what one node says.
--- Main results: binder_kind (the tags with binders are those of the table's layout with binders); room_binders, room_own;
--- binders_none, binders_some; own_other, own_inner, own_outer, own_bit; kids_all, kids_maplet, kids_none.
+-- The ways out of is_binder, binders_at and own_at of src/lib.rt: what one node says.
+-- Main results: room_binders, room_own; binders_none, binders_some; own_other, own_inner, own_outer, own_bit.
 use mathlib.Core.Path.{◌≡◌, refl, sym, ap, ◌∙◌, subst}
 use mathlib.Core.Bool.{Bool, true, false, ◌&&◌, and-false}
 use mathlib.Core.List.{List, []}
@@ -13,31 +12,52 @@ use borrow.Author.Tests.{eqb-true, eqb-false, eq-eqb, ne_eqb, ltb-true, ltb-fals
 use Rattle.frame.specs.Types.{Ty}
 use Rattle.frame.specs.Trees.{head, Tree, node, Forest, count}
 use Rattle.frame.specs.Tags.{Layout, these, payload, counted, binding, Form, lookup, class_of, form_at, form_of, width, in_range, number_of, binders_of}
-use Rattle.tags.specs.TagCodes.{form_at_code, form_code, layout_kind, high_of}
+use Rattle.tags.specs.TagCodes.{meant}
+use Rattle.tags.specs.declared.forms.Form.TheVariants.{Unlisted}
 use Rattle.frame.specs.Reading.{number_at}
 use Rattle.frame.specs.WellFormed.{number_in}
 use Rattle.frame.specs.Places.{Ctx, found, find}
 use Rattle.frame.proofs.Booleans.{both_true}
+use Rattle.frame.proofs.Inversion.{true_not}
 use Rattle.frame.proofs.Splices.{find_some}
 use Rattle.frame.proofs.Tables.{all_below, below, same_bool, flag}
-use Rattle.tags.proofs.TagTables.{form_code_lem, code_small, beyond}
-use Rattle.nav.specs.PlaceTables.{Framed, Placed, TagPost, ArityPost}
+use Rattle.tags.proofs.TagTables.{form_code_lem, beyond}
+use Rattle.nav.specs.PlaceTables.{Framed, Placed, TagPost}
 use Rattle.nav.proofs.Hops.{place_sorted, place_stands}
 use Rattle.nav.proofs.PlaceTurns.{Numbers, numbers}
-use Rattle.functional.specs.Functional.{bit, is_binder, BindersPost, OwnPost, KidsPost}
+use Rattle.functional.specs.Functional.{bit, is_binder, BindersPost, OwnPost}
 use Rattle.functional.proofs.Bits.{bit_none, bit_one}
 
 -- ---- the tags with binders
--- every tag below 950, by one evaluation
-below_950 : all_below 950 (λ g. same_bool (eqb (layout_kind (form_of g).layout) 3) (is_binder g)) ≡ true
-unfolding lookup class_of form_at
-below_950 = refl
+has_binders : Layout → Bool
+has_binders (these es) = false
+has_binders (payload w) = false
+has_binders (counted lo hi e) = false
+has_binders (binding lo hi es) = true
 
-past_950 : (g : ℕ) → 950 ≤ g → eqb (layout_kind (form_of g).layout) 3 ≡ is_binder g
-unfolding form_at_code
-past_950 g h =
-    let z : form_of g ≡ form_at_code 0 = sym (form_code_lem (class_of g)) ∙ ap form_at_code (beyond g (omega arith)) in
-    ap (λ (f : Form). eqb (layout_kind f.layout) 3) z
+-- "binder count 1 to 32"
+few : Layout → Bool
+few (these es) = true
+few (payload w) = true
+few (counted lo hi e) = true
+few (binding lo hi es) = leb hi 32
+
+-- every tag below 950, by one evaluation each
+kinds_below : all_below 950 (λ g. same_bool (has_binders (form_of g).layout) (is_binder g)) ≡ true
+unfolding lookup class_of form_at has_binders
+kinds_below = refl
+
+few_below : all_below 950 (λ g. few (form_of g).layout) ≡ true
+unfolding lookup class_of form_at few
+few_below = refl
+
+past : (g : ℕ) → 950 ≤ g → form_of g ≡ meant Unlisted
+past g h = sym (form_code_lem (class_of g)) ∙ ap meant (beyond g (omega arith))
+
+kind_past : (g : ℕ) → 950 ≤ g → has_binders (form_of g).layout ≡ is_binder g
+unfolding has_binders
+kind_past g h =
+    ap (λ (f : Form). has_binders f.layout) (past g h)
     ∙ sym (simp (
       ne_eqb g 801 (λ e. omega arith),
       ne_eqb g 802 (λ e. omega arith),
@@ -47,48 +67,47 @@ past_950 g h =
       ne_eqb g 852 (λ e. omega arith),
     ))
 
-pub binder_kind : (g : ℕ) → eqb (layout_kind (form_of g).layout) 3 ≡ is_binder g
+binder_kind : (g : ℕ) → has_binders (form_of g).layout ≡ is_binder g
 binder_kind g = go (ltb g 950) refl
   where
-    go : (b : Bool) → ltb g 950 ≡ b → eqb (layout_kind (form_of g).layout) 3 ≡ is_binder g
-    go true e = flag (λ g. eqb (layout_kind (form_of g).layout) 3) is_binder 950 below_950 g (ltb-true g 950 e)
-    go false e = past_950 g (ltb-false g 950 e)
+    go : (b : Bool) → ltb g 950 ≡ b → has_binders (form_of g).layout ≡ is_binder g
+    go true e = flag (λ g. has_binders (form_of g).layout) is_binder 950 kinds_below g (ltb-true g 950 e)
+    go false e = kind_past g (ltb-false g 950 e)
 
--- a layout with binders: its number says how many
+few_binders : (g : ℕ) → few (form_of g).layout ≡ true
+unfolding few
+few_binders g = go (ltb g 950) refl
+  where
+    go : (b : Bool) → ltb g 950 ≡ b → few (form_of g).layout ≡ true
+    go true e = below 950 (λ g. few (form_of g).layout) few_below g (ltb-true g 950 e)
+    go false e = ap (λ (f : Form). few f.layout) (past g (ltb-false g 950 e))
+
+-- a layout with few binders: its number says how many
 record Binding (l : Layout) : Type 0 where
   wide : width l ≡ 1
   number : (n m k : ℕ) → number_of l n m k ≡ m
   all : (us : List Ty) → binders_of l us ≡ us
-  range : (x : ℕ) → in_range l x ≡ true → x ≤ high_of l
+  range : (x : ℕ) → in_range l x ≡ true → x ≤ 32
 
-is_binding : (l : Layout) → layout_kind l ≡ 3 → Binding l
-is_binding (these es) h = absurd (omega arith)
-is_binding (payload w) h = absurd (omega arith)
-is_binding (counted lo hi e) h = absurd (omega arith)
-is_binding (binding lo hi es) h =
-    record { wide = refl; number = λ n m k. refl; all = λ us. refl; range = λ x e. leb-true x hi (both_true (leb lo x) (leb x hi) e).1 }
+is_binding : (l : Layout) → has_binders l ≡ true → few l ≡ true → Binding l
+unfolding has_binders few
+is_binding (these es) h w = true_not h
+is_binding (payload n) h w = true_not h
+is_binding (counted lo hi e) h w = true_not h
+is_binding (binding lo hi es) h w =
+    record {
+      wide = refl;
+      number = λ n m k. refl;
+      all = λ us. refl;
+      range = λ x e. omega (arith, leb-true hi 32 w, leb-true x hi (both_true (leb lo x) (leb x hi) e).1);
+    }
 
-no_binding : (l : Layout) (us : List Ty) → (layout_kind l ≡ 3 → ⊥) → binders_of l us ≡ []
+no_binding : (l : Layout) (us : List Ty) → has_binders l ≡ false → binders_of l us ≡ []
+unfolding has_binders
 no_binding (these es) us h = refl
 no_binding (payload w) us h = refl
 no_binding (counted lo hi e) us h = refl
-no_binding (binding lo hi es) us h = absurd (h refl)
-
--- "binder count 1 to 32"
-implies : Bool → Bool → Bool
-implies true b = b
-implies false b = true
-
-few_in_code : (k : ℕ) → k < 20 → layout_kind (form_at_code k).layout ≡ 3 → high_of (form_at_code k).layout ≤ 32
-unfolding form_at_code implies
-few_in_code k h e =
-    let z = below 20 (λ k. implies (eqb (layout_kind (form_at_code k).layout) 3) (leb (high_of (form_at_code k).layout) 32)) refl k h in
-    leb-true _ _ (rw (eq-eqb (layout_kind (form_at_code k).layout) 3 e) at z)
-
-few_binders : (g : ℕ) → layout_kind (form_of g).layout ≡ 3 → high_of (form_of g).layout ≤ 32
-few_binders g e =
-    let z = form_code_lem (class_of g) in
-    subst (λ (f : Form). high_of f.layout ≤ 32) z (few_in_code (form_code (class_of g)) (code_small (class_of g)) (rw z e))
+no_binding (binding lo hi es) us h = true_not (sym h)
 
 -- ---- the number of a node
 module _ (s st : List ℕ) (k : ℕ) where
@@ -144,15 +163,14 @@ module _ (s st : List ℕ) (k : ℕ) where
             → 0 ≡ length (binders_of (form_of g).layout us)
         go t N Γ g x us ks fr f =
             let z : tag ≡ g = pt.tag t N Γ (node (head g x us) ks) fr f in
-            let d = eqb-false (layout_kind (form_of g).layout) 3 (binder_kind g ∙ (sym (ap is_binder z) ∙ e)) in
-            rw (no_binding (form_of g).layout us d)
+            rw (no_binding (form_of g).layout us (binder_kind g ∙ (sym (ap is_binder z) ∙ e)))
 
     module _ (e : is_binder tag ≡ true) (at : ℕ) (ea : at ≡ get_or st k 0) where
-      kind : layout_kind (form_of tag).layout ≡ 3
-      kind = eqb-true _ _ (binder_kind tag ∙ e)
+      binding_of : (g : ℕ) → tag ≡ g → Binding (form_of g).layout
+      binding_of g z = is_binding (form_of g).layout (binder_kind g ∙ (sym (ap is_binder z) ∙ e)) (few_binders g)
 
       pub room_binders : Placed s st k → at + 2 + 1 ≤ length s
-      room_binders p = room tag pt at ea (is_binding (form_of tag).layout kind).wide p
+      room_binders p = room tag pt at ea (binding_of tag refl).wide p
 
       pub binders_some : Placed s st k → (r : ℕ) → r ≡ number_at 1 s (at + 2) → BindersPost s st k r × (r ≤ 32)
       binders_some p r er = (record { binders = λ t N Γ g x us ks fr f. (go t N Γ g x us ks fr f).0 }, few)
@@ -161,11 +179,10 @@ module _ (s st : List ℕ) (k : ℕ) where
               → (r ≡ length (binders_of (form_of g).layout us)) × (r ≤ 32)
           go t N Γ g x us ks fr f =
               let z : tag ≡ g = pt.tag t N Γ (node (head g x us) ks) fr f in
-              let d : layout_kind (form_of g).layout ≡ 3 = subst (λ (i : ℕ). layout_kind (form_of i).layout ≡ 3) z kind in
-              let b = is_binding (form_of g).layout d in
+              let b = binding_of g z in
               let y = read tag pt at ea t N Γ g x us ks fr f b.wide r er in (
                 y ∙ b.number x (length us) (count ks) ∙ sym (ap (λ (l : List Ty). length l) (b.all us)),
-                omega (arith, y, b.range (number_in g x us (count ks)) (range_at t N Γ g x us ks fr f), few_binders g d),
+                omega (arith, y, b.range (number_in g x us (count ks)) (range_at t N Γ g x us ks fr f)),
               )
 
           few : r ≤ 32
@@ -223,22 +240,3 @@ module _ (s st : List ℕ) (k : ℕ) where
               go : (i : ℕ) (b : Bool) → eqb i (x - d) ≡ b → b ≡ (ltb i n && eqb x (i + d))
               go i true e = let z = eqb-true i (x - d) e in rw (lt-ltb i n (omega arith), eq-eqb x (i + d) (omega arith)) refl
               go i false e = let z = eqb-false i (x - d) e in rw (ne_eqb x (i + d) (λ q. z (omega arith))) (sym (and-false (ltb i n)))
-
-  -- ---- children
-  module _ (all : Bool) (r : ℕ) where
-    pub kids_all : all ≡ true → ArityPost s st k r → KidsPost s st k all r
-    kids_all h p = record { many = λ t N Γ g x us ks fr f. rw h (p.many t N Γ (node (head g x us) ks) fr f) }
-
-    pub kids_maplet : all ≡ false → (tag : ℕ) → TagPost s st k tag → tag ≡ 201 → ArityPost s st k r → KidsPost s st k all r
-    kids_maplet h tag pt key p = record {
-      many = λ t N Γ g x us ks fr f.
-          let z : g ≡ 201 = sym (pt.tag t N Γ (node (head g x us) ks) fr f) ∙ key in
-          rw (h, eq-eqb g 201 z) (p.many t N Γ (node (head g x us) ks) fr f);
-    }
-
-  pub kids_none : (all : Bool) → all ≡ false → (tag : ℕ) → TagPost s st k tag → (tag ≡ 201 → ⊥) → KidsPost s st k all 0
-  kids_none all h tag pt d = record {
-    many = λ t N Γ g x us ks fr f.
-        let z : eqb g 201 ≡ false = ne_eqb g 201 (λ e. d (pt.tag t N Γ (node (head g x us) ks) fr f ∙ e)) in
-        rw (h, z) refl;
-  }

@@ -2,12 +2,13 @@
 -- indices becomes a 32-bit mask."
 use Rattle.std.specs.Prelude.{◌≡◌, Bool, true, false, ◌&&◌, ◌||◌, List, [], ℕ, zero, suc, ◌+◌, ◌/◌, ◌%◌, length, eqb, ltb}
 use Rattle.frame.specs.Types.{Ty}
-use Rattle.frame.specs.Trees.{head, Tree, node, Forest, nil, count}
-use Rattle.frame.specs.Tags.{pick, form_of, binders_of}
+use Rattle.frame.specs.Trees.{head, Tree, node, Forest}
+use Rattle.frame.specs.Tags.{form_of, binders_of}
 use Rattle.frame.specs.Operators.{#BoundIdent, #Mapsto, #QUnion, #QInter, #CSet, #Forall, #Exists}
-use Rattle.frame.specs.Places.{Ctx, found, find, find_in}
+use Rattle.frame.specs.Places.{Ctx, found, find}
+use Rattle.nav.specs.declared.Places.{Places}
 use Rattle.nav.specs.PlaceTables.{Framed, Table}
-use Rattle.rules.specs.Finite.{uses_in, recovers_in, functional_check}
+use Rattle.rules.specs.Finite.{uses, recovers, functional_check}
 
 -- whether bit i of a mask is set: its binary digits, the lowest first
 unfoldable pub bit : ℕ → ℕ → Bool
@@ -28,37 +29,20 @@ pub record OwnPost (s st : List ℕ) (k d n r : ℕ) : Type 0 where
   pub own : (t : Tree) (N : ℕ) (Γ : Ctx) (g x : ℕ) (us : List Ty) (ks : Forest) → Framed s t st N
       → find t [] k ≡ found Γ (node (head g x us) ks) → (i : ℕ) → bit r i ≡ (ltb i n && (eqb g #BoundIdent && eqb x (i + d)))
 
--- the children that are looked at, of a node with the tag g: all of them, or those of a maplet only
-abbrev pub looked : Bool → ℕ → Forest → Forest
-looked all g ks = pick (all || eqb g #Mapsto) ks nil
+-- of which nodes a naming goes on to the children: of all, or of maplets only
+abbrev pub goes_on : Bool → ℕ → Bool
+goes_on all g = all || eqb g #Mapsto
 
-pub record KidsPost (s st : List ℕ) (k : ℕ) (all : Bool) (r : ℕ) : Type 0 where
-  pub many : (t : Tree) (N : ℕ) (Γ : Ctx) (g x : ℕ) (us : List Ty) (ks : Forest) → Framed s t st N
-      → find t [] k ≡ found Γ (node (head g x us) ks) → r ≡ count (looked all g ks)
+-- the tree names the binder i: it uses it, or recovers it
+abbrev pub names : Bool → Tree → ℕ → Bool
+names true v i = uses v i
+names false v i = recovers v i
 
--- the trees name the binder i: they use it, or recover it
-abbrev pub named : Bool → Forest → ℕ → Bool
-named true ks i = uses_in ks i
-named false ks i = recovers_in ks i
-
--- the trees ks stand in a row from place c on, in the context Γ of the tree t
-abbrev pub InRow : Tree → Ctx → ℕ → Forest → Type 0
-InRow t Γ c ks = (i : ℕ) (Ξ : Ctx) (w : Tree) → find_in ks Γ i ≡ found Ξ w → find t [] (c + i) ≡ found Ξ w
-
--- m trees stand in a row from place c on, of some tree with these tables
-pub record Row (s st nx : List ℕ) (c m : ℕ) : Type 0 where
-  pub t : Tree
-  pub N : ℕ
-  pub table : Table s t st nx N
-  pub Γ : Ctx
-  pub ks : Forest
-  pub kids : InRow t Γ c ks
-  pub many : m ≡ count ks
-
--- the mask r: which of n binders they name, with d others in between
-pub record NamedPost (s st nx : List ℕ) (c m d n : ℕ) (all : Bool) (r : ℕ) : Type 0 where
-  pub bits : (t : Tree) (N : ℕ) (Γ : Ctx) (ks : Forest) → Table s t st nx N → InRow t Γ c ks → m ≡ count ks
-      → (i : ℕ) → bit r i ≡ (ltb i n && named all ks (i + d))
+-- the mask r: which of n binders the tree at place k names, with d others in between; `gives` is what the test answers of a tag
+pub record NamedPost (gives : ℕ → Bool → Type 0) (s st nx : List ℕ) (k d n r : ℕ) : Type 0 where
+  pub bits : (all : Bool) → ((g : ℕ) (e : Bool) → gives g e → e ≡ goes_on all g)
+      → (t : Tree) (N : ℕ) (Γ : Ctx) (v : Tree) → Table s t st nx N → find t [] k ≡ found Γ v
+      → (i : ℕ) → bit r i ≡ (ltb i n && names all v (i + d))
 
 -- both places are those of some tree with these tables, in one context
 pub record Both (s st nx : List ℕ) (left right : ℕ) : Type 0 where
@@ -74,3 +58,19 @@ pub record Both (s st nx : List ℕ) (left right : ℕ) : Type 0 where
 pub record FunctionalPost (s st nx : List ℕ) (left right n : ℕ) (r : Bool) : Type 0 where
   pub says : (t : Tree) (N : ℕ) (Γ : Ctx) (v w : Tree) → Table s t st nx N → find t [] left ≡ found Γ v → find t [] right ≡ found Γ w
       → r ≡ functional_check v w n
+
+-- ---- the same of a `Places`: over its bytes and its tables
+abbrev pub BindersAt : Places → ℕ → ℕ → Type 0
+BindersAt p k r = BindersPost p.bytes.now p.starts.now k r
+
+abbrev pub OwnAt : Places → ℕ → ℕ → ℕ → ℕ → Type 0
+OwnAt p k d n r = OwnPost p.bytes.now p.starts.now k d n r
+
+abbrev pub NamedAt : (ℕ → Bool → Type 0) → Places → ℕ → ℕ → ℕ → ℕ → Type 0
+NamedAt gives p k d n r = NamedPost gives p.bytes.now p.starts.now p.nexts.now k d n r
+
+abbrev pub AtTwo : Places → ℕ → ℕ → Type 0
+AtTwo p left right = Both p.bytes.now p.starts.now p.nexts.now left right
+
+abbrev pub FunctionalAt : Places → ℕ → ℕ → ℕ → Bool → Type 0
+FunctionalAt p left right n r = FunctionalPost p.bytes.now p.starts.now p.nexts.now left right n r

@@ -1,28 +1,31 @@
 -- The ways out of `skip_types` and `known_head`, on plain values.
--- Main results: stand_room, after_first_lem (types in a row, by the first byte), skip_end, hand_on, hand_back; head_at, known_two, known_types, known_room,
--- known_range, known_found, known_end (a head that stands there).
+-- Main results: stand_room, after_first_lem (types in a row, by the first byte), skip_end, hand_on, hand_back; head_at, known_two, known_room
+-- (a head that stands there), known_types, known_found, known_end (by how it begins).
 use mathlib.Core.Path.{◌≡◌, refl, sym, ap, ap₂, ◌∙◌, subst}
 use mathlib.Core.Bool.{Bool, true, false}
 use mathlib.Core.List.{List, [], ◌∷◌, ◌++◌, append_assoc}
 use Prim.Native.Nat.{ℕ, zero, suc, ◌+◌, ◌-◌, ◌≤◌, ◌<◌}
 use native.Mathlib.Omega.{arith}
 use lib.ListN.{length, get_or}
+use Rattle.std.proofs.Common.{Ok}
 use lib.Dec.{eqb}
 use Rattle.frame.specs.Types.{Ty, bool, int, given, pow, prod}
 use Rattle.frame.specs.Trees.{Head, Tree}
-use Rattle.frame.specs.Tags.{pick, Sort, Form, width, in_range, types_of, sorts_of, class_of, form_of}
-use Rattle.tags.specs.TagCodes.{form_at_code, form_code}
+use Rattle.frame.specs.Tags as T
+use Rattle.frame.specs.Tags.{pick, width, in_range, types_of, class_of, form_of}
+use Rattle.tags.specs.declared.forms.Form.{Form}
+use Rattle.tags.specs.TagCodes.{meant, form_code}
 use Rattle.frame.specs.Encoding.{enc_number, enc_ty, enc_tys}
 use Rattle.frame.specs.Reading.{number_at, ok_ts, with_tys, ok_h, read_head, ok, read_node}
 use Rattle.frame.specs.Spans.{Bytes, Spans}
 use Rattle.frame.specs.At.{types_at, IsAt}
-use Rattle.heads.specs.HeadPost.{head_answer, head_there, head_known, TypesStand, SkipPost, lead_of, parts_of, HeadStands, HeadEnd, KnownPost}
+use Rattle.heads.specs.declared.Opening.{Opening}
+use Rattle.heads.specs.HeadPost.{head_answer, head_there, said, headed, TypesStand, SkipPost, lead_of, parts_of, HeadStands, HeadEnd, OpeningPost, KnownPost}
 use Rattle.frame.proofs.Inversion.{no_not, tag_at, behind, HeadInv, head_inv, node_inv}
 use Rattle.frame.proofs.Spans.{span_first, span_right}
 use Rattle.frame.proofs.Numbers.{number_length}
 use Rattle.frame.proofs.ReadTypes.{tys_long, tys_read}
 use Rattle.tags.proofs.TagTables.{code_form}
-use Rattle.tags.proofs.FormTables.{layout_at}
 use Rattle.heads.proofs.HeadTurns.{head_is}
 
 -- ---- types in a row
@@ -128,14 +131,14 @@ pub skip_done : (s : List ℕ) (at m p left : ℕ) → Skipping s at m p left �
 skip_done s at m p left w z = w.back p (skip_end s p left (omega arith))
 
 -- ---- the head of a tree that stands somewhere
-pub record Head_at (s : List ℕ) (at : ℕ) (e : Sort) : Type 0 where
+pub record Head_at (s : List ℕ) (at : ℕ) (e : T.Sort) : Type 0 where
   pub h : Head
   pub p : ℕ
-  pub es : List Sort
+  pub es : List T.Sort
   pub headed : read_head s at e ≡ ok_h h p es
   pub inv : HeadInv s at e h p es
 
-pub head_at : (s : List ℕ) (at : ℕ) (e : Sort) (t : Tree) (q : ℕ) → IsAt s e at t q → Head_at s at e
+pub head_at : (s : List ℕ) (at : ℕ) (e : T.Sort) (t : Tree) (q : ℕ) → IsAt s e at t q → Head_at s at e
 unfolding read_node
 head_at s at e t q a = go a.0 a.1
   where
@@ -152,74 +155,82 @@ head_at s at e t q a = go a.0 a.1
 pub known_two : (s : List ℕ) (at : ℕ) → HeadStands s at → at + 2 ≤ length s
 known_two s at k = (head_at s at k.0 k.1 k.2 k.3).inv.two_ok
 
--- the tag, its form, the width of its number, and the number
-module _ (s : List ℕ) (at tag : ℕ) (et : tag ≡ number_at 2 s at) (form : ℕ) (ef : form ≡ form_code (class_of tag)) (w : ℕ)
-    (ew : w ≡ width (layout_at form)) where
-  is_form : form_at_code form ≡ form_of (tag_at s at)
+-- the tag and its form
+module _ (s : List ℕ) (at tag : ℕ) (et : tag ≡ number_at 2 s at) (form : Form) (ef : form ≡ form_code (class_of tag)) where
+  is_form : meant form ≡ form_of (tag_at s at)
   is_form = code_form tag form ef ∙ ap form_of et
 
-  is_width : w ≡ width (form_of (tag_at s at)).layout
-  is_width = ew ∙ ap (λ (fm : Form). width fm.layout) is_form
-
-  pub known_room : HeadStands s at → at + 2 + w ≤ length s
+  pub known_room : HeadStands s at → at + 2 + width (meant form).layout ≤ length s
   known_room k =
       let v = (head_at s at k.0 k.1 k.2 k.3).inv in
-      omega (arith, is_width, v.room)
+      omega (arith, ap (λ (fm : T.Form). width fm.layout) is_form, v.room)
 
-  module _ (x : ℕ) (ex : x ≡ number_at w s (at + 2)) where
-    is_behind : x ≡ behind s at
-    is_behind = ex ∙ ap (λ (i : ℕ). number_at i s (at + 2)) is_width
+  pub known_opened : (w : ℕ) → w ≡ width (meant form).layout → (x : ℕ) → x ≡ number_at w s (at + 2) → HeadStands s at
+      → OpeningPost s at (record { tag = tag; form = form; number = x; types = at + 2 + w })
+  known_opened w ew x ex k = record {
+    tag = et;
+    form = ef;
+    number = ex ∙ ap (λ (i : ℕ). number_at i s (at + 2)) ew;
+    types = ap (λ (i : ℕ). at + 2 + i) ew;
+    within = omega (arith, known_room k);
+  }
 
-    pub known_range : HeadStands s at → in_range (layout_at form) x ≡ true
-    known_range k =
-        ap₂ (λ (fm : Form) (i : ℕ). in_range fm.layout i) is_form is_behind
-        ∙ (head_at s at k.0 k.1 k.2 k.3).inv.range
+-- how the head begins
+module _ (s : List ℕ) (at : ℕ) (o : Opening) (post : OpeningPost s at o) where
+  opened : meant o.form ≡ form_of (tag_at s at)
+  opened = is_form s at o.tag post.tag o.form post.form
 
-    module _ (m : ℕ) (em : m ≡ types_of (layout_at form) (form_at_code form).carried x) where
-      is_many : m ≡ types_of (form_of (tag_at s at)).layout (form_of (tag_at s at)).carried (behind s at)
-      is_many = em ∙ ap₂ (λ (fm : Form) (i : ℕ). types_of fm.layout fm.carried i) is_form is_behind
+  is_behind : o.number ≡ behind s at
+  is_behind = post.number ∙ ap (λ (fm : T.Form). number_at (width fm.layout) s (at + 2)) opened
 
-      tys_of : Bytes s → (e : Sort) (t : Tree) (q : ℕ) → IsAt s e at t q
-          → (us : List Ty) × (p : ℕ) × (length us ≡ m) × Spans s (at + 2 + w) p (enc_tys us)
-      tys_of bs e t q a =
-          let k = head_at s at e t q a in
-          let v = k.inv in
-          let z : at + 2 + w ≡ types_at s at = ap (λ (i : ℕ). at + 2 + i) is_width in
-          let y = tys_read _ s bs (types_at s at) v.ts k.p v.room v.types in
-          (v.ts, k.p, y.many ∙ sym is_many, subst (λ (i : ℕ). Spans s i k.p (enc_tys v.ts)) (sym z) y.span)
+  is_types : o.types ≡ types_at s at
+  is_types = post.types ∙ ap (λ (fm : T.Form). at + 2 + width fm.layout) opened
 
-      pub known_types : Bytes s → HeadStands s at → TypesStand s (at + 2 + w) m
-      known_types bs k = tys_of bs k.0 k.1 k.2 k.3
+  known_range : HeadStands s at → in_range (meant o.form).layout o.number ≡ true
+  known_range k =
+      ap₂ (λ (fm : T.Form) (i : ℕ). in_range fm.layout i) opened is_behind
+      ∙ (head_at s at k.0 k.1 k.2 k.3).inv.range
 
-      pub known_found : Bytes s → HeadStands s at → form < 20 → (to : ℕ) → SkipPost s (at + 2 + w) m to
-          → (c : ℕ) → c ≡ length (sorts_of (layout_at form) x)
-          → KnownPost s at (record { tag = tag; form = form; number = x; types = at + 2 + w; children = to; count = c })
-      unfolding head_at tys_of
-      known_found bs hs low to sk c ec = record { form = ef; low = low; by = λ e t q a. found e t q a }
-        where
-          found : (e : Sort) (t : Tree) (q : ℕ) → IsAt s e at t q
-              → head_known (record { tag = tag; form = form; number = x; types = at + 2 + w; children = to; count = c }) ≡ head_there s at e
-          found e t q a =
-              let k = head_at s at e t q a in
-              let v = k.inv in
-              let ty = tys_of bs e t q a in
-              let z : to ≡ k.p = sk.ends ty.0 ty.1 ty.2 ty.3 in
-              let y : at + 2 + w ≡ types_at s at = ap (λ (i : ℕ). at + 2 + i) is_width in
-              head_is form tag x (at + 2 + w) to low (known_range hs) _ c _ _ refl ec refl refl v.ts
-              ∙ ap₂ (λ (fm : Form) (i : ℕ). head_answer (at + 2 + w) (with_tys fm tag i (ok_ts v.ts to))) is_form is_behind
-              ∙ ap₂ (λ (g i : ℕ). head_answer i (with_tys (form_of (tag_at s at)) g (behind s at) (ok_ts v.ts to))) et y
-              ∙ ap (λ (i : ℕ). head_answer (types_at s at) (with_tys (form_of (tag_at s at)) (tag_at s at) (behind s at) (ok_ts v.ts i))) z
-              ∙ ap₂ (λ (h : Head) (es : List Sort). head_answer (types_at s at) (ok_h h k.p es)) (sym v.is) (sym v.sorts)
-              ∙ ap (head_answer (types_at s at)) (sym k.headed)
+  module _ (m : ℕ) (em : m ≡ types_of (meant o.form).layout (meant o.form).carried o.number) where
+    is_many : m ≡ types_of (form_of (tag_at s at)).layout (form_of (tag_at s at)).carried (behind s at)
+    is_many = em ∙ ap₂ (λ (fm : T.Form) (i : ℕ). types_of fm.layout fm.carried i) opened is_behind
 
-      pub known_end : Bytes s → (to : ℕ) → SkipPost s (at + 2 + w) m to → HeadEnd s at to
-      unfolding head_at tys_of
-      known_end bs to sk = record { by = λ e t q a. at_end_lem e t q a }
-        where
-          at_end_lem : (e : Sort) (t : Tree) (q : ℕ) → IsAt s e at t q → (h : Head) (p : ℕ) (es : List Sort) → read_head s at e ≡ ok_h h p es → to ≡ p
-          at_end_lem e t q a h p es eq =
-              let k = head_at s at e t q a in
-              let ty = tys_of bs e t q a in
-              let z : to ≡ k.p = sk.ends ty.0 ty.1 ty.2 ty.3 in
-              let y = k.headed in
-              cc
+    tys_of : Bytes s → (e : T.Sort) (t : Tree) (q : ℕ) → IsAt s e at t q
+        → (us : List Ty) × (p : ℕ) × (length us ≡ m) × Spans s o.types p (enc_tys us)
+    tys_of bs e t q a =
+        let k = head_at s at e t q a in
+        let v = k.inv in
+        let y = tys_read _ s bs (types_at s at) v.ts k.p v.room v.types in
+        (v.ts, k.p, y.many ∙ sym is_many, subst (λ (i : ℕ). Spans s i k.p (enc_tys v.ts)) (sym is_types) y.span)
+
+    pub known_types : Bytes s → HeadStands s at → TypesStand s o.types m
+    known_types bs k = tys_of bs k.0 k.1 k.2 k.3
+
+    pub known_found : Bytes s → HeadStands s at → (to : ℕ) → SkipPost s o.types m to → KnownPost s at (headed o to)
+    unfolding head_at tys_of
+    known_found bs hs to sk = record { form = post.form; by = λ e t q a. found e t q a }
+      where
+        found : (e : T.Sort) (t : Tree) (q : ℕ) → IsAt s e at t q → Ok (said (headed o to)) ≡ head_there s at e
+        found e t q a =
+            let k = head_at s at e t q a in
+            let v = k.inv in
+            let ty = tys_of bs e t q a in
+            let z : to ≡ k.p = sk.ends ty.0 ty.1 ty.2 ty.3 in
+            head_is o to (known_range hs) v.ts
+            ∙ ap₂ (λ (fm : T.Form) (i : ℕ). head_answer o.types (with_tys fm o.tag i (ok_ts v.ts to))) opened is_behind
+            ∙ ap₂ (λ (g i : ℕ). head_answer i (with_tys (form_of (tag_at s at)) g (behind s at) (ok_ts v.ts to))) post.tag is_types
+            ∙ ap (λ (i : ℕ). head_answer (types_at s at) (with_tys (form_of (tag_at s at)) (tag_at s at) (behind s at) (ok_ts v.ts i))) z
+            ∙ ap₂ (λ (h : Head) (es : List T.Sort). head_answer (types_at s at) (ok_h h k.p es)) (sym v.is) (sym v.sorts)
+            ∙ ap (head_answer (types_at s at)) (sym k.headed)
+
+    pub known_end : Bytes s → (to : ℕ) → SkipPost s o.types m to → HeadEnd s at to
+    unfolding head_at tys_of
+    known_end bs to sk = record { by = λ e t q a. at_end_lem e t q a }
+      where
+        at_end_lem : (e : T.Sort) (t : Tree) (q : ℕ) → IsAt s e at t q → (h : Head) (p : ℕ) (es : List T.Sort) → read_head s at e ≡ ok_h h p es → to ≡ p
+        at_end_lem e t q a h p es eq =
+            let k = head_at s at e t q a in
+            let ty = tys_of bs e t q a in
+            let z : to ≡ k.p = sk.ends ty.0 ty.1 ty.2 ty.3 in
+            let y = k.headed in
+            cc

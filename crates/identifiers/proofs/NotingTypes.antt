@@ -8,6 +8,7 @@ use Prim.Native.Nat.{ℕ, ◌+◌, ◌-◌, ◌≤◌, ◌<◌}
 use native.Mathlib.Omega.{arith}
 use lib.ListN.{length, get_or}
 use lib.Dec.{eqb}
+use Rattle.std.proofs.Common.{Result, Ok, Err}
 use Rattle.frame.specs.Types.{Ty, bool, int, given, pow, prod}
 use Rattle.frame.specs.Tags.{pick}
 use Rattle.frame.specs.Reading.{number_at}
@@ -20,9 +21,9 @@ use Rattle.heads.proofs.KnownTurns.{after_first, after_first_lem}
 use Rattle.typing.specs.Members.{All}
 use Rattle.typing.specs.Identifiers.{Named, named, givens_ty, givens_tys}
 use Rattle.claims.specs.Table.{Held, GivenPost}
+use Rattle.identifiers.specs.declared.Stop.{Stop}
+use Rattle.identifiers.specs.declared.Stop.TheVariants.{Clashed, Beyond}
 use Rattle.identifiers.specs.Claims.{powers, TypesAt, NotedTo, TypesPost}
-use Rattle.identifiers.specs.declared.Noting.{Noting}
-use Rattle.identifiers.specs.declared.Noting.TheVariants.{Ends, Clashed, Beyond}
 use Rattle.identifiers.proofs.NotedClaims.{
   noted_nil,
   noted_then,
@@ -86,32 +87,32 @@ module _ (s t₀ t₁ : List ℕ) (n : ℕ) (us : List Ty) (q : ℕ) where
   abbrev with_given : List Named
   with_given = powers (givens_tys (given n ∷ us))
 
-  answer_given : (t₂ : List ℕ) → GivenPost s n t₀ t₁ true → (r : Noting) → NotedTo s t₁ t₂ (powers (givens_tys us)) q r
+  answer_given : (t₂ : List ℕ) → GivenPost s n t₀ t₁ true → (r : Result ℕ Stop) → NotedTo s t₁ t₂ (powers (givens_tys us)) q r
       → NotedTo s t₀ t₂ with_given q r
   unfolding powers givens_tys givens_ty
-  answer_given t₂ g (Ends p) a = (a.0, noted_then s t₀ t₁ t₂ (powers (n ∷ [])) (powers (givens_tys us)) true g a.1)
-  answer_given t₂ g Clashed a = noted_then s t₀ t₁ t₂ (powers (n ∷ [])) (powers (givens_tys us)) false g a
-  answer_given t₂ g Beyond a = unlisted_then t₀ t₁ (powers (n ∷ [])) (powers (givens_tys us)) g.size a
+  answer_given t₂ g (Ok p) a = (a.0, noted_then s t₀ t₁ t₂ (powers (n ∷ [])) (powers (givens_tys us)) true g a.1)
+  answer_given t₂ g (Err Clashed) a = noted_then s t₀ t₁ t₂ (powers (n ∷ [])) (powers (givens_tys us)) false g a
+  answer_given t₂ g (Err Beyond) a = unlisted_then t₀ t₁ (powers (n ∷ [])) (powers (givens_tys us)) g.size a
 
-  clash_given : GivenPost s n t₀ t₁ false → NotedTo s t₀ t₁ with_given q Clashed
+  clash_given : GivenPost s n t₀ t₁ false → NotedTo s t₀ t₁ with_given q (Err Clashed)
   unfolding powers givens_tys givens_ty
   clash_given g = noted_early s t₀ t₁ (powers (n ∷ [])) (powers (givens_tys us)) g
 
-  past_given : length t₀ ≤ n → n < 65536 → NotedTo s t₀ t₁ with_given q Beyond
+  past_given : length t₀ ≤ n → n < 65536 → NotedTo s t₀ t₁ with_given q (Err Beyond)
   unfolding powers givens_tys givens_ty
   past_given l w = unlisted_early t₀ (powers (n ∷ [])) (powers (givens_tys us)) (unlisted_one t₀ t₀ n (pow (given n)) refl l w)
 
 module _ (s : List ℕ) (at m : ℕ) (t₀ : List ℕ) where
-  types_end : m ≡ 0 → TypesPost s at m t₀ t₀ (Ends at)
+  types_end : m ≡ 0 → TypesPost s at m t₀ t₀ (Ok at)
   unfolding enc_tys givens_tys powers
   types_end z = record { by = go }
     where
-      go : (us : List Ty) (q : ℕ) → TypesAt s at m us q → NotedTo s t₀ t₀ (powers (givens_tys us)) q (Ends at)
+      go : (us : List Ty) (q : ℕ) → TypesAt s at m us q → NotedTo s t₀ t₀ (powers (givens_tys us)) q (Ok at)
       go [] q a = (omega (arith, a.span.long), noted_nil s t₀)
       go (u ∷ us) q a = absurd (omega (arith, a.many))
 
   module _ (z : m ≡ 0 → ⊥) (to n : ℕ) (et : to ≡ at + lead_of (get_or s at 0)) (en : n ≡ m - 1 + parts_of (get_or s at 0)) where
-    module _ (t₂ : List ℕ) (r : Noting) where
+    module _ (t₂ : List ℕ) (r : Result ℕ Stop) where
       -- by the given set that comes first
       by_given : get_or s at 0 ≡ 2 → ((k : ℕ) (rest : List Ty) (q : ℕ) → number_at 2 s (at + 1) ≡ k → k < 65536 → TypesAt s to n rest q
           → NotedTo s t₀ t₂ (powers (givens_tys (given k ∷ rest))) q r) → TypesPost s at m t₀ t₂ r
@@ -139,15 +140,15 @@ pub record Going (s : List ℕ) (at m : ℕ) (t₀ : List ℕ) (p left : ℕ) (t
   pub held : Held s t₁
   pub size : length t₁ ≡ length t₀
   pub some : Some s p left
-  pub back : (t₂ : List ℕ) (r : Noting) → TypesPost s p left t₁ t₂ r → TypesPost s at m t₀ t₂ r
+  pub back : (t₂ : List ℕ) (r : Result ℕ Stop) → TypesPost s p left t₁ t₂ r → TypesPost s at m t₀ t₂ r
 
 module _ (s : List ℕ) (at m : ℕ) (t₀ : List ℕ) where
   pub going_begins : Held s t₀ → Some s at m → Going s at m t₀ at m t₀
   going_begins h a = record { held = h; size = refl; some = a; back = λ t₂ r x. x }
 
   module _ (p left : ℕ) (t₁ : List ℕ) (g : Going s at m t₀ p left t₁) where
-    pub going_done : left ≡ 0 → TypesPost s at m t₀ t₁ (Ends p)
-    going_done z = g.back t₁ (Ends p) (types_end s p left t₁ z)
+    pub going_done : left ≡ 0 → TypesPost s at m t₀ t₁ (Ok p)
+    going_done z = g.back t₁ (Ok p) (types_end s p left t₁ z)
 
     pub going_room : p + left ≤ length s
     going_room = some_room s p left g.some
@@ -163,12 +164,12 @@ module _ (s : List ℕ) (at m : ℕ) (t₀ : List ℕ) where
           go us q (other_first e c a) = absurd (c b)
 
       module _ (b : get_or s p 0 ≡ 2) (k : ℕ) (ek : k ≡ number_at 2 s (p + 1)) where
-        pub going_beyond : length t₁ ≤ k → TypesPost s at m t₀ t₁ Beyond
-        going_beyond l = g.back t₁ Beyond (by_given s p left t₁ z _ _ refl refl t₁ Beyond b
+        pub going_beyond : length t₁ ≤ k → TypesPost s at m t₀ t₁ (Err Beyond)
+        going_beyond l = g.back t₁ (Err Beyond) (by_given s p left t₁ z _ _ refl refl t₁ (Err Beyond) b
             (λ i rest q x w a. past_given s t₁ t₁ i rest q (omega (arith, ek ∙ x)) w))
 
-        pub going_clash : (t₂ : List ℕ) (fits : Bool) → GivenPost s k t₁ t₂ fits → fits ≡ false → TypesPost s at m t₀ t₂ Clashed
-        going_clash t₂ fits o e = g.back t₂ Clashed (by_given s p left t₁ z _ _ refl refl t₂ Clashed b
+        pub going_clash : (t₂ : List ℕ) (fits : Bool) → GivenPost s k t₁ t₂ fits → fits ≡ false → TypesPost s at m t₀ t₂ (Err Clashed)
+        going_clash t₂ fits o e = g.back t₂ (Err Clashed) (by_given s p left t₁ z _ _ refl refl t₂ (Err Clashed) b
             (λ i rest q x w a. clash_given s t₁ t₂ i rest q (subst (λ (j : ℕ). GivenPost s j t₁ t₂ false) (ek ∙ x)
             (subst (λ (f : Bool). GivenPost s k t₁ t₂ f) e o))))
 

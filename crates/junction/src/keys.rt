@@ -1,24 +1,32 @@
 // A key for each child of an ∧ or an ∨: trees with different keys are neither the same nor opposite, so most children are told apart
 // by two numbers.
-ghost use Rattle.junction.specs.Keys.{KeyPre, KeyPost};
+ghost use Rattle.std.specs.Prelude.{◌≡◌, ◌≤◌, length, sum};
+ghost use Rattle.nav.specs.AtPlaces.{TreeAt};
+ghost use Rattle.junction.specs.Keys.{KeyAt};
 
-use octets::wide;
+use nav::Places;
 
 // The bytes of ¬, 02 and BD, come to this: so a tree and its opposite leave the same remainder.
 const NOT_SUM: usize = 191;
 
-// The key of the tree at place k: the sum of its bytes, by its remainder.
-pub fn key_at(s: &[u8], starts: &[u16; 2048], nexts: &[u16; 2048], k: usize) -> u8
-    requires { KeyPre s.now starts.now nexts.now k }
-    ensures { KeyPost s.now starts.now nexts.now k result }
+fn sum_of(bytes: &[u8]) -> usize
+    requires { length bytes.now ≤ 4096 }
+    ensures { result ≡ sum bytes.now }
 {
-    let n = nav::next_at(nexts, 0);
-    let end = nav::end_at(s, n, starts, nexts, k);
-    let mut i = nav::start_at(starts, k);
-    let mut sum = 0;
-    while i < end {
-        sum += wide(s[i]);
-        i += 1;
-    }
-    (sum % NOT_SUM) as u8
+    bytes.iter().map(|&b| usize::from(b)).sum()
+}
+
+// The key of the tree at place k: the sum of its bytes, by its remainder.
+pub fn key_at(places: &Places<'_>, k: usize) -> u8
+    requires { TreeAt places.now k }
+    ensures { KeyAt places.now k result }
+{
+    // the tree at place 0 is the whole: the place that follows it says how many there are
+    let whole = Places {
+        count: places.next_at(0),
+        ..*places
+    };
+    let from = places.start_at(k);
+    let to = whole.end_at(k);
+    (sum_of(&places.bytes[from..to]) % NOT_SUM) as u8
 }

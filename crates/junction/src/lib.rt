@@ -4,127 +4,128 @@
 
 mod keys; // keys.rt: keys that tell most children apart
 
-ghost use Rattle.std.specs.Prelude.{◌≡◌, ◌<◌, false};
-ghost use Rattle.frame.specs.Tags.{pick};
-ghost use Rattle.junction.specs.Junction.{JunctionPre, AbsorbPost, settled, JunctionPost};
+ghost use Rattle.std.specs.Prelude.{◌≡◌};
+ghost use Rattle.junction.specs.Junction.{literals_of, settled, CanDiffer, DifferAt, CanBeNew, NewAt, JunctionAt, AbsorbAt, JunctionDone};
 
 use crate::keys::key_at;
 use decision::Decision;
+use decision::contains::opposite;
+use decision::kept::{Kept, KeptChild};
 use decision::operands::patterned;
 use frame::operators::{BFALSE, BTRUE, LAND};
-use octets::wide16;
+use nav::Places;
 
-// What a look at all children comes to: one of them decides, or the first entries of the lent list stay.
-#[derive(Drop)]
-enum Outcome {
-    Decided,
-    Stay(usize),
-}
-
-// The first kept one that a child is compared with: a neutral literal goes whatever was kept, so it passes by all m.
-fn compared_from(fresh: bool, m: usize) -> usize
-    ensures { result ≡ pick fresh 0 m }
-{
-    if fresh { 0 } else { m }
-}
-
-fn still(fresh: bool, repeated: bool) -> bool
-    ensures { result ≡ pick repeated false fresh }
-{
-    if repeated { false } else { fresh }
-}
-
-// The places of the children that stay go into the lent list. A child is compared with all that are kept even after it was
-// found to be a repeat: an opposite decides all the same.
-fn absorb(
-    s: &[u8],
-    starts: &[u16; 2048],
-    nexts: &[u16; 2048],
-    k: usize,
+// What an operator drops, what decides it, and the patterns of both: 1 and 2 are those of ⊤ and ⊥.
+#[derive(Clone, Copy, Debug, PartialEq, Eq)]
+struct Literals {
     neutral: usize,
+    neutral_pattern: usize,
     determinant: usize,
-    kept: &mut [u16; 256],
-) -> Outcome
-    requires { JunctionPre s.now starts.now nexts.now k kept.old }
-    ensures { AbsorbPost s.now starts.now nexts.now k neutral determinant kept.new result }
+    determinant_pattern: usize,
+}
+
+// Those of ∧ and of ∨, by the operator's tag.
+fn literals_of(tag: usize) -> Literals
+    ensures { result ≡ literals_of tag }
 {
-    let n = nav::arity_at(s, starts, k);
-    // the keys of those kept
-    let mut keys = [0u8; 256];
-    let mut c = k + 1;
-    let mut i = 0;
-    let mut m = 0;
-    'all: while i < n {
-        let tag = nav::tag_at(s, starts, c);
-        if tag == determinant {
-            break 'all;
-        }
-        let key = key_at(s, starts, nexts, c);
-        let mut fresh = tag != neutral;
-        let mut j = compared_from(fresh, m);
-        while j < m {
-            if keys[j] == key {
-                let p = wide16(kept[j]);
-                if decision::contains::opposite(s, starts, p, c) {
-                    break 'all;
-                }
-                fresh = still(fresh, nav::same_at(s, starts, p, c));
-            }
-            j += 1;
-        }
-        if fresh {
-            kept[m] = c as u16;
-            keys[m] = key;
-            m += 1;
-        }
-        c = nav::next_at(nexts, c);
-        i += 1;
+    if tag == LAND {
+        return Literals {
+            neutral: BTRUE,
+            neutral_pattern: 1,
+            determinant: BFALSE,
+            determinant_pattern: 2,
+        };
     }
-    if i < n {
-        Outcome::Decided
-    } else {
-        Outcome::Stay(m)
+    Literals {
+        neutral: BFALSE,
+        neutral_pattern: 2,
+        determinant: BTRUE,
+        determinant_pattern: 1,
     }
 }
 
-// What the outcome at place k comes to, of n children, where p is the place of the first that stays. The patterns are those of
-// the neutral literal and of the one that decides; the operand of neither is looked at.
-fn settle(x: Outcome, k: usize, n: usize, p: usize, neutral: usize, determinant: usize) -> Decision
-    ensures { result ≡ settled x k n p neutral determinant }
+// Whether a child is another tree than one that is kept; nothing where that is its opposite.
+fn differs(places: &Places<'_>, one: KeptChild, child: KeptChild) -> Option<bool>
+    requires { CanDiffer places.now one child }
+    ensures { DifferAt places.now one child result }
 {
-    match x {
-        Outcome::Decided => patterned(62, determinant, k, k),
-        Outcome::Stay(m) => {
-            if m == 0 {
-                return patterned(63, neutral, k, k);
+    if one.key != child.key {
+        return Some(true);
+    }
+    let p = usize::from(one.place);
+    let c = usize::from(child.place);
+    if opposite(places, p, c) {
+        return None;
+    }
+    Some(!places.same_at(p, c))
+}
+
+// Whether a child is new beside those kept; nothing where one of them is its opposite, which decides. It is compared with all of
+// them even after it was found to be a repeat: an opposite decides all the same.
+fn is_new(places: &Places<'_>, kept: &Kept, child: KeptChild) -> Option<bool>
+    requires { CanBeNew places.now kept.now child }
+    ensures { NewAt places.now kept.now child result }
+{
+    let mut new = true;
+    for &one in kept.as_slice() {
+        new &= differs(places, one, child)?;
+    }
+    Some(new)
+}
+
+// The children that stay go into the lent list; nothing where one of them decides.
+fn absorb(places: &Places<'_>, k: usize, literals: Literals, kept: &mut Kept) -> Option<()>
+    requires { JunctionAt places.now k }
+    ensures { AbsorbAt places.now k literals kept.new result }
+{
+    kept.clear();
+    for c in places.children(k) {
+        let tag = places.tag_at(c);
+        if tag == literals.determinant {
+            return None;
+        }
+        if tag != literals.neutral {
+            let child = KeptChild {
+                place: c as u16,
+                key: key_at(places, c),
+            };
+            if is_new(places, kept, child)? {
+                kept.push(child);
             }
-            if m == 1 {
-                return patterned(64, 64, p, k);
+        }
+    }
+    Some(())
+}
+
+// What comes of those kept, of n children of the node at place k. The operand of a literal is not looked at.
+fn settle(kept: &[KeptChild], k: usize, n: usize, neutral_pattern: usize) -> Option<Decision>
+    ensures { result ≡ settled kept.now k n neutral_pattern }
+{
+    match kept {
+        [] => patterned(63, neutral_pattern, k, k),
+        [only] => patterned(64, 64, usize::from(only.place), k),
+        _ => {
+            if kept.len() == n {
+                return None;
             }
-            if m == n {
-                return Decision::Rests;
-            }
-            Decision::Kept(m)
+            Some(Decision::Kept)
         }
     }
 }
 
-// The rule at an ∧ or an ∨. Patterns 1 and 2 are those of ⊤ and ⊥.
-pub fn simplify_assoc_pred(
-    s: &[u8],
-    starts: &[u16; 2048],
-    nexts: &[u16; 2048],
-    k: usize,
-    kept: &mut [u16; 256],
-) -> Decision
-    requires { JunctionPre s.now starts.now nexts.now k kept.old }
-    ensures { JunctionPost s.now starts.now nexts.now k kept.new result }
+// The rule at an ∧ or an ∨.
+pub fn simplify_assoc_pred(places: &Places<'_>, k: usize, kept: &mut Kept) -> Option<Decision>
+    requires { JunctionAt places.now k }
+    ensures { JunctionDone places.now k kept.new result }
 {
-    let n = nav::arity_at(s, starts, k);
-    if nav::tag_at(s, starts, k) == LAND {
-        let x = absorb(s, starts, nexts, k, BTRUE, BFALSE, kept);
-        return settle(x, k, n, wide16(kept[0]), 1, 2);
+    let literals = literals_of(places.tag_at(k));
+    if absorb(places, k, literals, kept).is_none() {
+        return patterned(62, literals.determinant_pattern, k, k);
     }
-    let y = absorb(s, starts, nexts, k, BFALSE, BTRUE, kept);
-    settle(y, k, n, wide16(kept[0]), 2, 1)
+    settle(
+        kept.as_slice(),
+        k,
+        places.arity_at(k),
+        literals.neutral_pattern,
+    )
 }

@@ -1,2 +1,2 @@
-pub mod LineTurns
 pub mod LineWrites
+pub mod LineReading

@@ -1,15 +1,15 @@
--- Lines of text: what is written, and the digits by the ways out of the code.
--- Main results: write_none, write_more, write_all; value_below .. value_above.
+-- Lines of text that are written.
+-- Main results: write_length; write_none, write_more, write_all.
 use mathlib.Core.Path.{◌≡◌, refl, sym, ap, ap₂, ◌∙◌}
 use mathlib.Core.List.{List, [], ◌∷◌, ◌++◌}
-use Prim.Native.Nat.{ℕ, suc, ◌+◌, ◌*◌, ◌-◌, ◌/◌, ◌%◌, ◌≤◌, ◌<◌}
+use Prim.Native.Nat.{ℕ, suc, ◌+◌, ◌*◌, ◌/◌, ◌%◌, ◌≤◌, ◌<◌}
 use native.Mathlib.Omega.{arith}
 use native.Mathlib.Numerals.{add-one}
 use lib.ListN.{length, take, drop, get_or, set, length-take}
-use lib.Seq.{sets, sets-eq, take-suc, take-length}
-use borrow.Author.Tests.{le-leb, lt-leb}
-use Rattle.frame.specs.Lines.{digit_of, digit_for, write_line}
-use Rattle.lines.specs.LineState.{WritePost}
+use lib.Seq.{sets, sets-eq, take-suc}
+use Rattle.std.specs.Prelude.{Some, None}
+use Rattle.frame.specs.Lines.{digit_for, write_line}
+use Rattle.lines.specs.LineReads.{WritePost}
 use Rattle.frame.proofs.Tables.{sets_append}
 
 -- ---- a line's text
@@ -40,43 +40,14 @@ write_more s o i h x y ex ey =
     ∙ ap₂ (λ (u v : ℕ). set (set (sets o 0 (write_line t)) (2 * i) u) (suc (2 * i)) v) (sym ex) (sym ey)
     ∙ ap (λ (k : ℕ). set (set (sets o 0 (write_line t)) (2 * i) x) k y) m)
 
-pub write_none : (s o : List ℕ) → length o / 2 < length s → WritePost s o o 0
+pub write_none : (s o : List ℕ) → length o / 2 < length s → WritePost s o o None
 write_none s o h = record { wrote = λ l. absurd (omega (arith, write_length s)); short = λ l. (refl, refl) }
 
-pub write_all : (s o o' : List ℕ) (i r : ℕ) → length s ≤ length o / 2 → i ≡ length s → r ≡ 2 * i
-    → o' ≡ sets o 0 (write_line (take i s)) → WritePost s o o' r
-write_all s o o' i r h ei er eo =
+pub write_all : (s o o' : List ℕ) → length s ≤ length o / 2 → o' ≡ sets o 0 (write_line s) → WritePost s o o' (Some (2 * length s))
+write_all s o o' h eo =
     let n = write_length s in
     let z : 0 + length (write_line s) ≡ length (write_line s) = omega arith in
     record {
-      wrote = λ l. (
-        omega arith,
-        eo
-            ∙ ap (λ (k : ℕ). sets o 0 (write_line (take k s))) ei
-            ∙ ap (λ (x : List ℕ). sets o 0 (write_line x)) (take-length s)
-            ∙ sets-eq (write_line s) o 0 (omega arith)
-            ∙ ap (λ (k : ℕ). write_line s ++ drop k o) z,
-      );
+      wrote = λ l. (ap Some (sym n), eo ∙ sets-eq (write_line s) o 0 (omega arith) ∙ ap (λ (k : ℕ). write_line s ++ drop k o) z);
       short = λ l. absurd (omega arith);
     }
-
--- ---- digits and their characters, by the ways out of the code
-pub value_below : (c : ℕ) → c < 48 → 16 ≡ digit_of c
-unfolding digit_of
-value_below c h = rw (lt-leb 48 c h, lt-leb 65 c (omega arith))
-
-pub value_figure : (c : ℕ) → 48 ≤ c → c ≤ 57 → c - 48 ≡ digit_of c
-unfolding digit_of
-value_figure c h k = rw (le-leb 48 c h, le-leb c 57 k)
-
-pub value_between : (c : ℕ) → 48 ≤ c → 57 < c → c < 65 → 16 ≡ digit_of c
-unfolding digit_of
-value_between c h k l = rw (le-leb 48 c h, lt-leb c 57 k, lt-leb 65 c l)
-
-pub value_letter : (c : ℕ) → 57 < c → 65 ≤ c → c ≤ 70 → c - 55 ≡ digit_of c
-unfolding digit_of
-value_letter c k l m = rw (le-leb 48 c (omega arith), lt-leb c 57 k, le-leb 65 c l, le-leb c 70 m)
-
-pub value_above : (c : ℕ) → 57 < c → 65 ≤ c → 70 < c → 16 ≡ digit_of c
-unfolding digit_of
-value_above c k l m = rw (le-leb 48 c (omega arith), lt-leb c 57 k, le-leb 65 c l, lt-leb c 70 m)

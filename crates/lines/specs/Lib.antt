@@ -1,1 +1,1 @@
-pub mod LineState
+pub mod LineReads

@@ -1,160 +1,136 @@
 // Text: one frame a line in capital hexadecimal (document 01, "The frame record"). A line comes in pieces of any size.
 #![tactic(auto)]
 
-ghost use Rattle.std.specs.Prelude.{◌≡◌, ℕ, ◌+◌, ◌≤◌, ◌<◌, List, [], ◌∷◌};
+ghost use Rattle.std.specs.Prelude.{◌≡◌, ℕ, ◌≤◌, ◌<◌, ◌↔◌, List, [], ◌∷◌, ◌++◌, MatchOption, MatchResult, Ok, Err, IsTrue};
 ghost use Rattle.frame.specs.Lines.{digit_of, digit_for, read_line};
-ghost use Rattle.lines.specs.LineState.{shortened, line_state, LineGoes, line_answer, WritePost};
+ghost use Rattle.lines.specs.LineReads.{Reads, line_answer, WritePost};
 
-use frame::refusals::{BAD_LENGTH, BAD_LINE};
+use frame::refusals::Refusal;
+use put::Writer;
 
-// The digits of the longest frame.
-const DIGIT_LIMIT: usize = 8192;
-
-// What is kept of a line's characters. `count` is how many there were; past 8,192 only whether that is odd, as 8,193 or 8,194, so
-// that a line may have any length. `high` is the digit that waits for its second, and 16 for good once a character was no digit.
-#[derive(Clone, Copy)]
-pub struct LineState {
-    pub count: usize,
-    pub high: u8,
+// What the characters of a line so far leave for the next.
+#[derive(Clone, Copy, Debug, PartialEq, Eq)]
+enum Pending {
+    // the next is a byte's first digit
+    Nothing,
+    // the byte's first digit
+    High(u8),
+    // a character was none of 0-9, A-F
+    Malformed,
 }
 
+// A line that is read, a piece at a time. `bytes` has those that its digits so far made; they may be too many for a frame, so a line may
+// have any length.
 #[derive(Drop)]
-pub enum LineAnswer {
-    // how many bytes the frame has; they stand at the buffer's start
-    Frame(usize),
-    // a number of document 01
-    Refused(u8),
+pub struct LineReader {
+    pending: Pending,
+    bytes: Writer,
 }
 
-// The value of a character 0-9, A-F; 16 for any other.
-fn digit_of(c: u8) -> u8
-    ensures { (result ≡ digit_of c) × (result ≤ 16) }
+// The value of a character 0-9, A-F.
+#[tactic(auto, unfolding(frame::specs::Lines::digit_of))]
+fn digit_of(c: u8) -> Option<u8>
+    ensures { MatchOption result (15 < digit_of c) (λ d. (d ≡ digit_of c) × (d ≤ 15)) }
 {
-    if c < 48 {
-        return 16;
+    match c {
+        b'0'..=b'9' => Some(c - b'0'),
+        b'A'..=b'F' => Some(c - b'A' + 10),
+        _ => None,
     }
-    if c <= 57 {
-        return c - 48;
-    }
-    if c < 65 {
-        return 16;
-    }
-    if c <= 70 {
-        return c - 55;
-    }
-    16
 }
 
-// The count after one character more.
-fn count_next(count: usize) -> usize
-    ensures { (n : ℕ) → count ≡ shortened n → result ≡ shortened (n + 1) }
-{
-    if count <= DIGIT_LIMIT + 1 {
-        return count + 1;
+impl LineReader {
+    // A line of which nothing is read.
+    #[tactic(auto, using(crate::proofs::LineReading::reads_none))]
+    pub fn new() -> LineReader
+        ensures { Reads result [] }
+    {
+        LineReader {
+            pending: Pending::Nothing,
+            bytes: Writer::new(),
+        }
     }
-    DIGIT_LIMIT + 1
-}
 
-pub fn line_start() -> LineState
-    ensures { result ≡ line_state [] }
-{
-    LineState { count: 0, high: 0 }
-}
+    // Begins another line.
+    #[tactic(auto, using(crate::proofs::LineReading::reads_none))]
+    pub fn clear(&mut self)
+        ensures { Reads self.new [] }
+    {
+        self.pending = Pending::Nothing;
+        self.bytes.clear();
+    }
 
-// One character more.
-fn line_digit(state: LineState, c: u8, buf: &mut [u8; 4096]) -> LineState
-    ensures { LineGoes state buf.old (c ∷ []) result buf.new }
-{
-    let count = state.count;
-    let high = state.high;
-    let next = count_next(count);
-    let low = digit_of(c);
-    if 15 < high {
-        return LineState {
-            count: next,
-            high: 16,
+    // One character more.
+    pub fn push(&mut self, c: u8)
+        ensures { (cs : List ℕ) → Reads self.old cs → Reads self.new (cs ++ c ∷ []) }
+    {
+        let Some(digit) = digit_of(c) else {
+            self.pending = Pending::Malformed;
+            return;
         };
+        match self.pending {
+            Pending::Nothing => self.pending = Pending::High(digit),
+            Pending::High(high) => {
+                self.bytes.put_byte(high << 4 | digit);
+                self.pending = Pending::Nothing;
+            }
+            Pending::Malformed => {}
+        }
     }
-    if 15 < low {
-        return LineState {
-            count: next,
-            high: 16,
-        };
-    }
-    if count % 2 == 0 {
-        return LineState {
-            count: next,
-            high: low,
-        };
-    }
-    if count < DIGIT_LIMIT {
-        buf[count / 2] = high * 16 + low;
-        return LineState {
-            count: next,
-            high: 0,
-        };
-    }
-    LineState {
-        count: next,
-        high: 0,
-    }
-}
 
-// A piece of a line: the bytes of its pairs go into the buffer.
-pub fn line_piece(state: LineState, piece: &[u8], buf: &mut [u8; 4096]) -> LineState
-    ensures { LineGoes state buf.old piece.now result buf.new }
-{
-    let mut line = state;
-    let mut i: usize = 0;
-    while i < piece.len() {
-        line = line_digit(line, piece[i], buf);
-        i += 1;
+    // More characters of the line.
+    pub fn read(&mut self, piece: &[u8])
+        ensures { (cs : List ℕ) → Reads self.old cs → Reads self.new (cs ++ piece.now) }
+    {
+        for &c in piece {
+            self.push(c);
+        }
     }
-    line
-}
 
-// The line ends: the length of its frame, or its number.
-pub fn line_end(state: LineState) -> LineAnswer
-    ensures { (cs : List ℕ) → state ≡ line_state cs → result ≡ line_answer (read_line cs) }
-{
-    let count = state.count;
-    let high = state.high;
-    if 15 < high {
-        return LineAnswer::Refused(BAD_LINE);
+    // Whether the line has no character yet.
+    pub fn is_empty(&self) -> bool
+        ensures { (cs : List ℕ) → Reads self.now cs → (IsTrue result ↔ (cs ≡ [])) }
+    {
+        match self.frame() {
+            Ok(frame) => frame.is_empty(),
+            Err(_) => false,
+        }
     }
-    if count % 2 == 1 {
-        return LineAnswer::Refused(BAD_LINE);
+
+    // The line ends: its frame.
+    pub fn frame(&self) -> Result<&[u8], Refusal>
+        ensures { (cs : List ℕ) → Reads self.now cs → MatchResult result
+            (λ f. line_answer (read_line cs) ≡ Ok f.now) (λ r. line_answer (read_line cs) ≡ Err r) }
+    {
+        match self.pending {
+            Pending::Nothing => self.bytes.frame().ok_or(Refusal::BadLength),
+            _ => Err(Refusal::BadLine),
+        }
     }
-    if DIGIT_LIMIT < count {
-        return LineAnswer::Refused(BAD_LENGTH);
-    }
-    LineAnswer::Frame(count / 2)
 }
 
 // The character of a value below 16.
+#[tactic(auto, unfolding(frame::specs::Lines::digit_for))]
 fn digit_for(v: u8) -> u8
     requires { v < 16 }
     ensures { result ≡ digit_for v }
 {
-    if v <= 9 {
-        return v + 48;
+    match v {
+        0..=9 => b'0' + v,
+        _ => b'A' + (v - 10),
     }
-    v + 55
 }
 
-// Writes the frame's text to the start of out and answers its length; where out is too short, writes nothing and answers 0.
-pub fn write_line(frame: &[u8], out: &mut [u8]) -> usize
+// Writes the frame's text to the start of out and answers its length; where out is too short, writes nothing.
+pub fn write_line(frame: &[u8], out: &mut [u8]) -> Option<usize>
     ensures { WritePost frame.now out.old out.new result }
 {
     if out.len() / 2 < frame.len() {
-        return 0;
+        return None;
     }
-    let mut i: usize = 0;
-    while i < frame.len() {
-        let b = frame[i];
+    for (i, &b) in frame.iter().enumerate() {
         out[2 * i] = digit_for(b / 16);
         out[2 * i + 1] = digit_for(b % 16);
-        i += 1;
     }
-    2 * i
+    Some(2 * frame.len())
 }

@@ -1,4 +1,5 @@
 -- The ways out of implication_first_at and implication_last_at of src/implication.rt, and how they make up simplify_imp.
+use Rattle.std.proofs.Common.{Option, Some, None}
 use mathlib.Core.Path.{◌≡◌, refl, sym, ap, ◌∙◌}
 use mathlib.Core.Bool.{Bool, true, false}
 use mathlib.Core.List.{List, [], ◌∷◌}
@@ -57,18 +58,18 @@ module _ (v w : Tree) where
       imp_first_none z = rw (ne_eqb (tag_of v) 610 n1, ne_eqb (tag_of v) 611 n2, ne_eqb (tag_of w) 610 n3, ne_eqb (tag_of w) 611 n4, z)
 
 module _ (s st nx : List ℕ) (a b left right : ℕ) (pl : TagPost s st a left) (pr : TagPost s st b right) where
-  pub out_66 : left ≡ 610 → (r : Decision) → r ≡ D.Fixed 66 66 b b b → DecidesTwo imp_first s st nx a b r
+  pub out_66 : left ≡ 610 → (r : Option Decision) → r ≡ Some (D.Fixed 66 66 b b b) → DecidesTwo imp_first s st nx a b r
   unfolding side
   out_66 z =
       on_right imp_first s st nx a b 66 refl refl (λ t n Γ v w tb fa fb. imp_66 v w (sym (pl.tag t n Γ v tb.framed fa) ∙ z))
 
-  pub out_67 : left ≡ 611 → (r : Decision) → r ≡ D.Fixed 67 67 a a a → DecidesTwo imp_first s st nx a b r
+  pub out_67 : left ≡ 611 → (r : Option Decision) → r ≡ Some (D.Fixed 67 67 a a a) → DecidesTwo imp_first s st nx a b r
   unfolding side
   out_67 z =
       on_left imp_first s st nx a b 67 refl refl (λ t n Γ v w tb fa fb. imp_67 v w (sym (pl.tag t n Γ v tb.framed fa) ∙ z))
 
   module _ (n1 : left ≡ 610 → ⊥) (n2 : left ≡ 611 → ⊥) where
-    pub out_68 : right ≡ 610 → (r : Decision) → r ≡ D.Fixed 68 68 a a a → DecidesTwo imp_first s st nx a b r
+    pub out_68 : right ≡ 610 → (r : Option Decision) → r ≡ Some (D.Fixed 68 68 a a a) → DecidesTwo imp_first s st nx a b r
     unfolding side
     out_68 z =
         on_left imp_first s st nx a b 68 refl refl
@@ -77,7 +78,7 @@ module _ (s st nx : List ℕ) (a b left right : ℕ) (pl : TagPost s st a left) 
         let zr : tag_of w ≡ 610 = sym (pr.tag t n Γ w tb.framed fb) ∙ z in
         imp_68 v w (λ q. n1 (zl ∙ q)) (λ q. n2 (zl ∙ q)) zr ∙ ap (to 68) (is_true_lem w (place_sorted s t st n tb.framed b Γ w fb) zr))
 
-    pub out_69 : right ≡ 611 → (r : Decision) → r ≡ negated_at 69 left a → DecidesTwo imp_first s st nx a b r
+    pub out_69 : right ≡ 611 → (r : Option Decision) → r ≡ negated_at 69 left a → DecidesTwo imp_first s st nx a b r
     unfolding side
     out_69 z =
         negated_left imp_first s st nx a b 69 refl refl (λ Γ u us. refl) left pl
@@ -86,7 +87,7 @@ module _ (s st nx : List ℕ) (a b left right : ℕ) (pl : TagPost s st a left) 
         imp_69 v w (λ q. n1 (zl ∙ q)) (λ q. n2 (zl ∙ q)) (sym (pr.tag t n Γ w tb.framed fb) ∙ z))
 
     module _ (n3 : right ≡ 610 → ⊥) (n4 : right ≡ 611 → ⊥) (e : Bool) (pe : SameAtPost s st a b e) where
-      pub out_70 : e ≡ true → (r : Decision) → r ≡ D.Fixed 70 70 a a a → DecidesTwo imp_first s st nx a b r
+      pub out_70 : e ≡ true → (r : Option Decision) → r ≡ Some (D.Fixed 70 70 a a a) → DecidesTwo imp_first s st nx a b r
       unfolding side
       out_70 z =
           on_left imp_first s st nx a b 70 refl refl
@@ -95,7 +96,7 @@ module _ (s st nx : List ℕ) (a b left right : ℕ) (pl : TagPost s st a left) 
           let zr = pr.tag t n Γ w tb.framed fb in
           imp_70 v w (λ q. n1 (zl ∙ q)) (λ q. n2 (zl ∙ q)) (λ q. n3 (zr ∙ q)) (λ q. n4 (zr ∙ q)) (sym (pe.same t n Γ Γ v w tb.framed fa fb) ∙ z))
 
-      pub first_none : e ≡ false → DecidesTwo imp_first s st nx a b D.Rests
+      pub first_none : e ≡ false → DecidesTwo imp_first s st nx a b None
       first_none z =
           record {
             means = λ t n Γ v w tb fa fb x Ξ kept.
@@ -117,17 +118,17 @@ module _ (s st nx : List ℕ) (a b : ℕ) (o : Bool) (po : Compared (one #Not) s
       last_form v w (place_sorted s t st n tb.framed a Γ v fa) (place_sorted s t st n tb.framed b Γ w fb)
       ∙ ap (λ (x : Bool). when x (to 73 w) or_else when (same_tree w (one #Not v)) (to 74 w)) (sym (po.says t n Γ Γ v w tb.framed fa fb))
 
-  pub out_73 : o ≡ true → (r : Decision) → r ≡ D.Fixed 73 73 b b b → DecidesTwo imp_last s st nx a b r
+  pub out_73 : o ≡ true → (r : Option Decision) → r ≡ Some (D.Fixed 73 73 b b b) → DecidesTwo imp_last s st nx a b r
   unfolding side
   out_73 z = on_right imp_last s st nx a b 73 refl refl (λ t n Γ v w tb fa fb. last t n Γ v w tb fa fb ∙ rw z)
 
   module _ (n1 : o ≡ false) (u : Bool) (pu : Compared (one #Not) s st b a u) where
-    pub out_74 : u ≡ true → (r : Decision) → r ≡ D.Fixed 74 74 b b b → DecidesTwo imp_last s st nx a b r
+    pub out_74 : u ≡ true → (r : Option Decision) → r ≡ Some (D.Fixed 74 74 b b b) → DecidesTwo imp_last s st nx a b r
     unfolding side
     out_74 z =
         on_right imp_last s st nx a b 74 refl refl
         (λ t n Γ v w tb fa fb. last t n Γ v w tb fa fb ∙ rw (n1, sym (pu.says t n Γ Γ w v tb.framed fb fa) ∙ z))
 
-    pub last_none : u ≡ false → DecidesTwo imp_last s st nx a b D.Rests
+    pub last_none : u ≡ false → DecidesTwo imp_last s st nx a b None
     last_none z =
         record { means = λ t n Γ v w tb fa fb x Ξ kept. last t n Γ v w tb fa fb ∙ rw (n1, sym (pu.says t n Γ Γ w v tb.framed fb fa) ∙ z) }

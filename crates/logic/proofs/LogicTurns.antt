@@ -1,4 +1,5 @@
 -- The ways out of src/lib.rt.
+use Rattle.std.proofs.Common.{Option, Some, None}
 use mathlib.Core.Path.{◌≡◌, refl, sym, ◌∙◌}
 use mathlib.Core.Bool.{Bool, true, false}
 use mathlib.Core.List.{List, []}
@@ -50,20 +51,20 @@ module _ (v w : Tree) where
                 (rw (unary_when w v (to 80 (leaf #BFalse)) ow, unary_when v w (to 81 (leaf #BFalse)) ov))
 
 module _ (s st nx : List ℕ) (a b left right : ℕ) (pl : TagPost s st a left) (pr : TagPost s st b right) where
-  pub out_75 : right ≡ 610 → (r : Decision) → r ≡ D.Fixed 75 75 a a a → DecidesTwo simplify_eqv s st nx a b r
+  pub out_75 : right ≡ 610 → (r : Option Decision) → r ≡ Some (D.Fixed 75 75 a a a) → DecidesTwo simplify_eqv s st nx a b r
   unfolding side
   out_75 z =
       on_left simplify_eqv s st nx a b 75 refl refl (λ t n Γ v w tb fa fb. eqv_75 v w (sym (pr.tag t n Γ w tb.framed fb) ∙ z))
 
   module _ (n1 : right ≡ 610 → ⊥) where
-    pub out_76 : left ≡ 610 → (r : Decision) → r ≡ D.Fixed 76 76 b b b → DecidesTwo simplify_eqv s st nx a b r
+    pub out_76 : left ≡ 610 → (r : Option Decision) → r ≡ Some (D.Fixed 76 76 b b b) → DecidesTwo simplify_eqv s st nx a b r
     unfolding side
     out_76 z =
         on_right simplify_eqv s st nx a b 76 refl refl
         (λ t n Γ v w tb fa fb. eqv_76 v w (λ q. n1 (pr.tag t n Γ w tb.framed fb ∙ q)) (sym (pl.tag t n Γ v tb.framed fa) ∙ z))
 
     module _ (n2 : left ≡ 610 → ⊥) (e : Bool) (pe : SameAtPost s st a b e) where
-      pub out_77 : e ≡ true → (r : Decision) → r ≡ D.Fixed 77 77 a a a → DecidesTwo simplify_eqv s st nx a b r
+      pub out_77 : e ≡ true → (r : Option Decision) → r ≡ Some (D.Fixed 77 77 a a a) → DecidesTwo simplify_eqv s st nx a b r
       unfolding side
       out_77 z =
           on_left simplify_eqv s st nx a b 77 refl refl
@@ -71,7 +72,7 @@ module _ (s st nx : List ℕ) (a b left right : ℕ) (pl : TagPost s st a left) 
           (sym (pe.same t n Γ Γ v w tb.framed fa fb) ∙ z))
 
       module _ (n3 : e ≡ false) where
-        pub out_78 : right ≡ 611 → (r : Decision) → r ≡ negated_at 78 left a → DecidesTwo simplify_eqv s st nx a b r
+        pub out_78 : right ≡ 611 → (r : Option Decision) → r ≡ negated_at 78 left a → DecidesTwo simplify_eqv s st nx a b r
         unfolding side
         out_78 z =
             negated_left simplify_eqv s st nx a b 78 refl refl (λ Γ u us. refl) left pl
@@ -81,7 +82,7 @@ module _ (s st nx : List ℕ) (a b left right : ℕ) (pl : TagPost s st a left) 
             eqv_78 v w (λ q. n1 (zr ∙ q)) (λ q. n2 (zl ∙ q)) (sym (pe.same t n Γ Γ v w tb.framed fa fb) ∙ n3) (sym zr ∙ z))
 
         module _ (n4 : right ≡ 611 → ⊥) where
-          pub out_79 : left ≡ 611 → (r : Decision) → r ≡ negated_at 79 right b → DecidesTwo simplify_eqv s st nx a b r
+          pub out_79 : left ≡ 611 → (r : Option Decision) → r ≡ negated_at 79 right b → DecidesTwo simplify_eqv s st nx a b r
           unfolding side
           out_79 z =
               negated_right simplify_eqv s st nx a b 79 refl refl (λ Γ u us. refl) right pr
@@ -102,21 +103,21 @@ module _ (s st nx : List ℕ) (a b left right : ℕ) (pl : TagPost s st a left) 
                 (place_sorted s t st n tb.framed a Γ v fa) (place_sorted s t st n tb.framed b Γ w fb)
 
             module _ (o : Bool) (po : Compared (one #Not) s st b a o) where
-              pub out_80 : o ≡ true → (r : Decision) → r ≡ D.Fixed 80 80 a a a → DecidesTwo simplify_eqv s st nx a b r
+              pub out_80 : o ≡ true → (r : Option Decision) → r ≡ Some (D.Fixed 80 80 a a a) → DecidesTwo simplify_eqv s st nx a b r
               unfolding side
               out_80 z =
                   on_left simplify_eqv s st nx a b 80 refl refl
                   (λ t n Γ v w tb fa fb. last t n Γ v w tb fa fb ∙ rw (sym (po.says t n Γ Γ w v tb.framed fb fa) ∙ z))
 
               module _ (n6 : o ≡ false) (u : Bool) (pu : Compared (one #Not) s st a b u) where
-                pub out_81 : u ≡ true → (r : Decision) → r ≡ D.Fixed 81 81 a a a → DecidesTwo simplify_eqv s st nx a b r
+                pub out_81 : u ≡ true → (r : Option Decision) → r ≡ Some (D.Fixed 81 81 a a a) → DecidesTwo simplify_eqv s st nx a b r
                 unfolding side
                 out_81 z =
                     on_left simplify_eqv s st nx a b 81 refl refl
                     (λ t n Γ v w tb fa fb. last t n Γ v w tb fa fb ∙ rw
                     (sym (po.says t n Γ Γ w v tb.framed fb fa) ∙ n6, sym (pu.says t n Γ Γ v w tb.framed fa fb) ∙ z))
 
-                pub eqv_none : u ≡ false → DecidesTwo simplify_eqv s st nx a b D.Rests
+                pub eqv_none : u ≡ false → DecidesTwo simplify_eqv s st nx a b None
                 eqv_none z =
                     record {
                       means = λ t n Γ v w tb fa fb x Ξ kept.
@@ -141,9 +142,9 @@ module _ (s st nx : List ℕ) (k tag : ℕ) (pt : TagPost s st k tag) where
   unfolding on_tag lookup class_of form_at side
   out_84 = by_single (λ Γ. simplify_not) s st nx k tag pt 701 84 refl refl predicate (λ x. refl) (λ Γ n us a. refl)
 
-  pub not_none : (tag ≡ 610 → ⊥) → (tag ≡ 611 → ⊥) → (tag ≡ 701 → ⊥) → DecidesOne simplify_not s st nx k D.Rests
+  pub not_none : (tag ≡ 610 → ⊥) → (tag ≡ 611 → ⊥) → (tag ≡ 701 → ⊥) → DecidesOne simplify_not s st nx k None
   unfolding on_tag
-  not_none a b c = by_rest (λ Γ. simplify_not) s st nx k tag pt (λ Γ v. rest v) D.Rests refl
+  not_none a b c = by_rest (λ Γ. simplify_not) s st nx k tag pt (λ Γ v. rest v) None refl
     where
       rest : (v : Tree) → tag_of v ≡ tag → simplify_not v ≡ same
       rest (node (head o n us) ks) z = rw z (simp (ne_eqb tag 610 a, ne_eqb tag 611 b, ne_eqb tag 701 c))

@@ -1,5 +1,6 @@
 -- The ways out of src/quantified.rt.
 -- Main results: out_85, forall_none, forall_other; out_86, out_87, exists_none, exists_other.
+use Rattle.std.proofs.Common.{Option, Some, None}
 use mathlib.Core.Path.{◌≡◌, refl, sym, ap, ◌∙◌}
 use mathlib.Core.List.{List, [], ◌∷◌}
 use Prim.Native.Nat.{ℕ, ◌+◌, ◌<◌}
@@ -30,10 +31,10 @@ use Rattle.decision.proofs.Descents.{here_child}
 
 -- ---- ∀ over ∧, ∃ over ∨ and over ⇒
 module _ (s st nx : List ℕ) (k tag : ℕ) (pt : TagPost s st k tag) where
-  pub forall_other : (tag ≡ 851 → ⊥) → Decides forall_of s st nx k D.Rests
+  pub forall_other : (tag ≡ 851 → ⊥) → Decides forall_of s st nx k None
   forall_other = by_other forall_of s st nx k tag pt 851 (λ Γ us ks. with1 ks (simplify_forall us)) (λ Γ v. refl)
 
-  pub exists_other : (tag ≡ 852 → ⊥) → Decides exists_of s st nx k D.Rests
+  pub exists_other : (tag ≡ 852 → ⊥) → Decides exists_of s st nx k None
   exists_other = by_other exists_of s st nx k tag pt 852 (λ Γ us ks. with1 ks (simplify_exists us)) (λ Γ v. refl)
 
   -- the body's place
@@ -47,7 +48,7 @@ module _ (s st nx : List ℕ) (k tag : ℕ) (pt : TagPost s st k tag) where
 
   -- a rule for a quantifier g, by its body
   module _ (body : ℕ) (pb : TagPost s st (k + 1) body) (g : ℕ) (key : tag ≡ g) (tk : Takes g (predicate ∷ [])) (rule : Ctx → Tree → Change) where
-    of_body : (r : Decision)
+    of_body : (r : Option Decision)
         → ((t : Tree) (n : ℕ) (Γ : Ctx) (i : ℕ) (us : List Ty) (a : Tree) → Table s t st nx n
         → find t [] k ≡ found Γ (node (head g i us) (cons a nil))
         → find t [] (k + 1) ≡ found (under g us Γ) a → tag_of a ≡ body
@@ -64,15 +65,15 @@ module _ (s st nx : List ℕ) (k tag : ℕ) (pt : TagPost s st k tag) where
 
     -- no place answers
     none_of_body : ((Γ : Ctx) (i : ℕ) (us : List Ty) (a : Tree) → tag_of a ≡ body → rule Γ (node (head g i us) (cons a nil)) ≡ same)
-        → Decides rule s st nx k D.Rests
-    none_of_body go = of_body D.Rests (λ t n Γ i us a tb fx fa z w Ξ kept. go Γ i us a z)
+        → Decides rule s st nx k None
+    none_of_body go = of_body None (λ t n Γ i us a tb fx fa z w Ξ kept. go Γ i us a z)
 
     -- the quantifier goes to each operand of the body
     each_of_body : (h place : ℕ) → body ≡ h → Counts h → Joins (joint place) → Bound place g
         → ((Γ : Ctx) (i : ℕ) (us : List Ty) (j : ℕ) (vs : List Ty) (ks : Forest)
         → rule Γ (node (head g i us) (cons (node (head h j vs) ks) nil)) ≡ to place (many (joint place) (map_f (quantified g us) ks)))
         → ((Δ : Ctx) (us : List Ty) (a : Tree) → enc (quantified g us a) ≡ filled (template place) (filling Δ a a us))
-        → (r : Decision) → r ≡ D.Each place (k + 1) k → Decides rule s st nx k r
+        → (r : Option Decision) → r ≡ Some (D.Each place (k + 1) k) → Decides rule s st nx k r
     each_of_body h place z cs jo bd ans bytes r er =
         of_body r (λ t n Γ i us a tb fx fa e w Ξ kept.
         let y = any h a (e ∙ z) in
@@ -87,27 +88,27 @@ module _ (s st nx : List ℕ) (k tag : ℕ) (pt : TagPost s st k tag) where
         Δ h y.n y.us fy few Γ b fx bd (λ q. bytes (under h y.us Δ) us q)))
 
   module _ (body : ℕ) (pb : TagPost s st (k + 1) body) where
-    pub out_85 : tag ≡ 851 → body ≡ 351 → (r : Decision) → r ≡ D.Each 85 (k + 1) k → Decides forall_of s st nx k r
+    pub out_85 : tag ≡ 851 → body ≡ 351 → (r : Option Decision) → r ≡ Some (D.Each 85 (k + 1) k) → Decides forall_of s st nx k r
     unfolding on_tag lookup class_of form_at side
     out_85 key z =
         each_of_body body pb 851 key (λ x. refl) forall_of 351 85 z (λ n us m. refl) and_bytes refl (λ Γ i us j vs ks. refl)
         (λ Δ us a. sym (right_side 85 refl Δ a a us))
 
-    pub forall_none : tag ≡ 851 → (body ≡ 351 → ⊥) → Decides forall_of s st nx k D.Rests
+    pub forall_none : tag ≡ 851 → (body ≡ 351 → ⊥) → Decides forall_of s st nx k None
     unfolding on_tag lookup class_of form_at
     forall_none key z = none_of_body body pb 851 key (λ x. refl) forall_of go
       where
         go : (Γ : Ctx) (i : ℕ) (us : List Ty) (a : Tree) → tag_of a ≡ body → forall_of Γ (node (head 851 i us) (cons a nil)) ≡ same
         go Γ i us (node (head g n vs) ks) e = rw e (rw (ne_eqb body 351 z))
 
-    pub out_86 : tag ≡ 852 → body ≡ 352 → (r : Decision) → r ≡ D.Each 86 (k + 1) k → Decides exists_of s st nx k r
+    pub out_86 : tag ≡ 852 → body ≡ 352 → (r : Option Decision) → r ≡ Some (D.Each 86 (k + 1) k) → Decides exists_of s st nx k r
     unfolding on_tag lookup class_of form_at side
     out_86 key z =
         each_of_body body pb 852 key (λ x. refl) exists_of 352 86 z (λ n us m. refl) or_bytes refl (λ Γ i us j vs ks. refl)
         (λ Δ us a. sym (right_side 86 refl Δ a a us))
 
-    pub out_87 : tag ≡ 852 → body ≡ 251 → (j : ℕ) → (k + 1 + 1 < 2048 → j ≡ get_or nx (k + 1 + 1) 0) → (r : Decision)
-        → r ≡ D.Fixed 87 87 (k + 1 + 1) j k → Decides exists_of s st nx k r
+    pub out_87 : tag ≡ 852 → body ≡ 251 → (j : ℕ) → (k + 1 + 1 < 2048 → j ≡ get_or nx (k + 1 + 1) 0) → (r : Option Decision)
+        → r ≡ Some (D.Fixed 87 87 (k + 1 + 1) j k) → Decides exists_of s st nx k r
     unfolding on_tag lookup class_of form_at side
     out_87 key z j ej r er =
         of_body body pb 852 key (λ x. refl) exists_of r (λ t n Γ i us a tb fx fa e w Ξ kept.
@@ -121,7 +122,7 @@ module _ (s st nx : List ℕ) (k tag : ℕ) (pt : TagPost s st k tag) where
         (fixed_at t 87 87 (exists_of Γ b) new (ap (λ (q : Tree). exists_of Γ (node (head 852 i us) (cons q nil))) y.is) (k + 1 + 1)
         (get_or nx (k + 1 + 1) 0) k Δ Γ y.a y.b b fs.0 fs.1 fx refl (sym (right_side 87 refl Δ y.a y.b us))))
 
-    pub exists_none : tag ≡ 852 → (body ≡ 352 → ⊥) → (body ≡ 251 → ⊥) → Decides exists_of s st nx k D.Rests
+    pub exists_none : tag ≡ 852 → (body ≡ 352 → ⊥) → (body ≡ 251 → ⊥) → Decides exists_of s st nx k None
     unfolding on_tag lookup class_of form_at
     exists_none key p q = none_of_body body pb 852 key (λ x. refl) exists_of go
       where

@@ -1,26 +1,21 @@
 // ⇒ (66 to 74), on two operands.
 ghost use Rattle.rules.specs.Simplify.{simplify_imp};
 ghost use Rattle.decision.specs.RulesAt.{imp_first, imp_and, imp_last};
-ghost use Rattle.decision.specs.Decides.{HereTwo, DecidesTwo};
+ghost use Rattle.decision.specs.AtPlaces.{HereBoth, DecidesTwoAt};
 
-use decision::contains::{contains_in, negates};
+use decision::Decision;
+use decision::contains::{negates, opposite};
 use decision::operands::fixed;
-use decision::{Decision, rests};
 use frame::operators::{BFALSE, BTRUE, LAND};
+use nav::Places;
 
 // The predicates at places a and b: ⊤, ⊥ and sameness.
-fn implication_first_at(
-    s: &[u8],
-    starts: &[u16; 2048],
-    nexts: &[u16; 2048],
-    a: usize,
-    b: usize,
-) -> Decision
-    requires { HereTwo s.now starts.now nexts.now a b }
-    ensures { DecidesTwo imp_first s.now starts.now nexts.now a b result }
+fn implication_first_at(places: &Places<'_>, a: usize, b: usize) -> Option<Decision>
+    requires { HereBoth places.now a b }
+    ensures { DecidesTwoAt imp_first places.now a b result }
 {
-    let left = nav::tag_at(s, starts, a);
-    let right = nav::tag_at(s, starts, b);
+    let left = places.tag_at(a);
+    let right = places.tag_at(b);
     if left == BTRUE {
         return fixed(66, b, b, b);
     }
@@ -33,76 +28,57 @@ fn implication_first_at(
     if right == BFALSE {
         return crate::make_neg(69, left, a);
     }
-    if nav::same_at(s, starts, a, b) {
+    if places.same_at(a, b) {
         return fixed(70, a, a, a);
     }
-    Decision::Rests
+    None
 }
 
 // The first is ∧: the second, or its negation, is among its operands.
-fn implication_and_at(
-    s: &[u8],
-    starts: &[u16; 2048],
-    nexts: &[u16; 2048],
-    a: usize,
-    b: usize,
-) -> Decision
-    requires { HereTwo s.now starts.now nexts.now a b }
-    ensures { DecidesTwo imp_and s.now starts.now nexts.now a b result }
+fn implication_and_at(places: &Places<'_>, a: usize, b: usize) -> Option<Decision>
+    requires { HereBoth places.now a b }
+    ensures { DecidesTwoAt imp_and places.now a b result }
 {
-    let left = nav::tag_at(s, starts, a);
+    let left = places.tag_at(a);
     if left != LAND {
-        return Decision::Rests;
+        return None;
     }
-    let m = nav::arity_at(s, starts, a);
-    let c = a + 1;
-    if contains_in(s, starts, nexts, c, m, b, false) {
+    if places.children(a).any(|c| places.same_at(c, b)) {
         return fixed(71, a, a, a);
     }
-    if contains_in(s, starts, nexts, c, m, b, true) {
+    if places.children(a).any(|c| opposite(places, c, b)) {
         return fixed(72, a, a, a);
     }
-    Decision::Rests
+    None
 }
 
 // One is ¬ of the other.
-fn implication_last_at(
-    s: &[u8],
-    starts: &[u16; 2048],
-    nexts: &[u16; 2048],
-    a: usize,
-    b: usize,
-) -> Decision
-    requires { HereTwo s.now starts.now nexts.now a b }
-    ensures { DecidesTwo imp_last s.now starts.now nexts.now a b result }
+fn implication_last_at(places: &Places<'_>, a: usize, b: usize) -> Option<Decision>
+    requires { HereBoth places.now a b }
+    ensures { DecidesTwoAt imp_last places.now a b result }
 {
-    if negates(s, starts, a, b) {
+    if negates(places, a, b) {
         return fixed(73, b, b, b);
     }
-    if negates(s, starts, b, a) {
+    if negates(places, b, a) {
         return fixed(74, b, b, b);
     }
-    Decision::Rests
+    None
 }
 
 // ⇒ of the predicates at places a and b: the tests in the source's order.
-pub fn implication_at(
-    s: &[u8],
-    starts: &[u16; 2048],
-    nexts: &[u16; 2048],
-    a: usize,
-    b: usize,
-) -> Decision
-    requires { HereTwo s.now starts.now nexts.now a b }
-    ensures { DecidesTwo simplify_imp s.now starts.now nexts.now a b result }
+// Kept: tests by `is_some`, since after `or_else` (tried) the proof knows nothing of what its closure answered.
+pub fn implication_at(places: &Places<'_>, a: usize, b: usize) -> Option<Decision>
+    requires { HereBoth places.now a b }
+    ensures { DecidesTwoAt simplify_imp places.now a b result }
 {
-    let first = implication_first_at(s, starts, nexts, a, b);
-    if !rests(first) {
+    let first = implication_first_at(places, a, b);
+    if first.is_some() {
         return first;
     }
-    let within = implication_and_at(s, starts, nexts, a, b);
-    if !rests(within) {
+    let within = implication_and_at(places, a, b);
+    if within.is_some() {
         return within;
     }
-    implication_last_at(s, starts, nexts, a, b)
+    implication_last_at(places, a, b)
 }

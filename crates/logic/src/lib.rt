@@ -6,16 +6,17 @@ pub mod quantified; // quantified.rt: ∀ and ∃
 
 ghost use Rattle.std.specs.Prelude.{◌≡◌, ◌<◌};
 ghost use Rattle.rules.specs.Simplify.{simplify_eqv, simplify_not};
-ghost use Rattle.decision.specs.Decides.{Here, HereTwo, DecidesOne, DecidesTwo, negated_at};
+ghost use Rattle.decision.specs.Decides.{negated_at};
+ghost use Rattle.decision.specs.AtPlaces.{HereAt, HereBoth, DecidesOneAt, DecidesTwoAt};
 
 use decision::Decision;
 use decision::contains::negates;
 use decision::operands::{fixed, patterned};
 use frame::operators::{BFALSE, BTRUE, NOT};
-use nav::{same_at, tag_at};
+use nav::Places;
 
 // ¬ of the tree at place p, whose tag is given: what a negation negates, or a new negation.
-pub fn make_neg(place: usize, tag: usize, p: usize) -> Decision
+pub fn make_neg(place: usize, tag: usize, p: usize) -> Option<Decision>
     requires { p < 2048 }
     ensures { result ≡ negated_at place tag p }
 {
@@ -26,25 +27,19 @@ pub fn make_neg(place: usize, tag: usize, p: usize) -> Decision
 }
 
 // ⇔ of the predicates at places a and b.
-pub fn equivalence_at(
-    s: &[u8],
-    starts: &[u16; 2048],
-    nexts: &[u16; 2048],
-    a: usize,
-    b: usize,
-) -> Decision
-    requires { HereTwo s.now starts.now nexts.now a b }
-    ensures { DecidesTwo simplify_eqv s.now starts.now nexts.now a b result }
+pub fn equivalence_at(places: &Places<'_>, a: usize, b: usize) -> Option<Decision>
+    requires { HereBoth places.now a b }
+    ensures { DecidesTwoAt simplify_eqv places.now a b result }
 {
-    let left = tag_at(s, starts, a);
-    let right = tag_at(s, starts, b);
+    let left = places.tag_at(a);
+    let right = places.tag_at(b);
     if right == BTRUE {
         return fixed(75, a, a, a);
     }
     if left == BTRUE {
         return fixed(76, b, b, b);
     }
-    if same_at(s, starts, a, b) {
+    if places.same_at(a, b) {
         return fixed(77, a, a, a);
     }
     if right == BFALSE {
@@ -53,26 +48,26 @@ pub fn equivalence_at(
     if left == BFALSE {
         return make_neg(79, right, b);
     }
-    if negates(s, starts, b, a) {
+    if negates(places, b, a) {
         return fixed(80, a, a, a);
     }
-    if negates(s, starts, a, b) {
+    if negates(places, a, b) {
         return fixed(81, a, a, a);
     }
-    Decision::Rests
+    None
 }
 
 // ¬ of the predicate at place k.
-pub fn negation_at(s: &[u8], starts: &[u16; 2048], nexts: &[u16; 2048], k: usize) -> Decision
-    requires { Here s.now starts.now nexts.now k }
-    ensures { DecidesOne simplify_not s.now starts.now nexts.now k result }
+pub fn negation_at(places: &Places<'_>, k: usize) -> Option<Decision>
+    requires { HereAt places.now k }
+    ensures { DecidesOneAt simplify_not places.now k result }
 {
-    let tag = tag_at(s, starts, k);
+    let tag = places.tag_at(k);
     let nested = k + 1;
     match tag {
         BTRUE => fixed(82, k, k, k),
         BFALSE => fixed(83, k, k, k),
         NOT => fixed(84, nested, nested, k),
-        _ => Decision::Rests,
+        _ => None,
     }
 }

@@ -1,46 +1,46 @@
 // Quantifiers over ∧, ∨ and ⇒ (85 to 87).
-ghost use Rattle.decision.specs.Decides.{Here, Decides};
+ghost use Rattle.decision.specs.AtPlaces.{HereAt, DecidesAt};
 ghost use Rattle.decision.specs.RulesAt.{forall_of, exists_of};
 
 use decision::Decision;
 use decision::operands::fixed;
 use frame::operators::{EXISTS, FORALL, LAND, LIMP, LOR};
-use nav::tag_at;
+use nav::Places;
 
 // ∀ at place k.
-pub fn forall_at(s: &[u8], starts: &[u16; 2048], nexts: &[u16; 2048], k: usize) -> Decision
-    requires { Here s.now starts.now nexts.now k }
-    ensures { Decides forall_of s.now starts.now nexts.now k result }
+pub fn forall_at(places: &Places<'_>, k: usize) -> Option<Decision>
+    requires { HereAt places.now k }
+    ensures { DecidesAt forall_of places.now k result }
 {
-    let tag = tag_at(s, starts, k);
+    let tag = places.tag_at(k);
     if tag != FORALL {
-        return Decision::Rests;
+        return None;
     }
     let a = k + 1;
-    let body = tag_at(s, starts, a);
+    let body = places.tag_at(a);
     if body == LAND {
         return decision::operands::each_under(85, a, k);
     }
-    Decision::Rests
+    None
 }
 
 // ∃ at place k.
-pub fn exists_at(s: &[u8], starts: &[u16; 2048], nexts: &[u16; 2048], k: usize) -> Decision
-    requires { Here s.now starts.now nexts.now k }
-    ensures { Decides exists_of s.now starts.now nexts.now k result }
+pub fn exists_at(places: &Places<'_>, k: usize) -> Option<Decision>
+    requires { HereAt places.now k }
+    ensures { DecidesAt exists_of places.now k result }
 {
-    let tag = tag_at(s, starts, k);
+    let tag = places.tag_at(k);
     if tag != EXISTS {
-        return Decision::Rests;
+        return None;
     }
     let a = k + 1;
-    let body = tag_at(s, starts, a);
+    let body = places.tag_at(a);
     if body == LOR {
         return decision::operands::each_under(86, a, k);
     }
     if body == LIMP {
-        let b = decision::operands::second_of(nexts, a);
+        let b = places.second_of(a);
         return fixed(87, a + 1, b, k);
     }
-    Decision::Rests
+    None
 }

@@ -3,32 +3,37 @@
 #![tactic(auto)]
 
 ghost use Rattle.std.specs.Prelude.{◌≡◌, length};
-ghost use Rattle.typing.specs.Check.{check as checked, check_answer};
-ghost use Rattle.step.specs.Step.{step as stepped, step_answer, step_output};
-ghost use Rattle.run.specs.Run.{run as ran, run_answer, run_output};
+ghost use Rattle.typing.specs.Check.{check as checked};
+ghost use Rattle.step.specs.Step.{step as stepped, step_output};
+ghost use Rattle.run.specs.Run.{run as ran, run_output};
 ghost use Rattle.words.specs.Words.{check_word, step_word, run_word};
 
 use words::{check_word, run_word, step_word};
 
 // Whether the frame is accepted: 0, else the number, 2 to 10.
+#[tactic(auto, using(words::proofs::Numbers::check_word_lem))]
 pub fn lustrejasper_check(frame: &[u8]) -> u64
-    ensures { result ≡ check_word (check_answer (checked frame.now)) }
+    ensures { result ≡ check_word (checked frame.now) }
 {
     let a = checking::check(frame);
     check_word(a)
 }
 
 // The step at a place of the frame.
+#[tactic(auto, using(words::proofs::Numbers::step_word_lem, words::proofs::Short::step_short))]
 pub fn lustrejasper_step(frame: &[u8], place: u64, out: &mut [u8]) -> u64
-    ensures { (result ≡ step_word (step_answer (stepped frame.now place (length out.old)))) × (out.new ≡ step_output (stepped frame.now place (length out.old)) out.old) }
+    ensures word { result ≡ step_word (stepped frame.now place (length out.old)) }
+    ensures output { out.new ≡ step_output (stepped frame.now place (length out.old)) out.old }
 {
     let a = stepping::step(frame, place as usize, out);
     step_word(a)
 }
 
 // The run of the frame, of at most `budget` steps.
+#[tactic(auto, using(words::proofs::Numbers::run_word_lem, words::proofs::Short::run_short))]
 pub fn lustrejasper_run(frame: &[u8], budget: u32, out: &mut [u8]) -> u64
-    ensures { (result ≡ run_word (run_answer (ran frame.now budget (length out.old)))) × (out.new ≡ run_output (ran frame.now budget (length out.old)) out.old) }
+    ensures word { result ≡ run_word (ran frame.now budget (length out.old)) }
+    ensures output { out.new ≡ run_output (ran frame.now budget (length out.old)) out.old }
 {
     let a = running::run(frame, budget, out);
     run_word(a)

@@ -3,15 +3,15 @@
 #![tactic(auto)]
 
 ghost use Rattle.std.specs.Prelude.{◌≡◌, length};
-ghost use Rattle.typing.specs.Check.{check as checked, check_answer};
-ghost use Rattle.step.specs.Step.{step as stepped, step_answer, step_output};
-ghost use Rattle.run.specs.Run.{run as ran, run_answer, run_output};
+ghost use Rattle.typing.specs.Check.{check as checked};
+ghost use Rattle.step.specs.Step.{step as stepped, step_output};
+ghost use Rattle.run.specs.Run.{run as ran, run_output};
 ghost use Rattle.words.specs.Words.{check_word, step_word, run_word};
 
 // Whether the frame is accepted: 0, else the number, 2 to 10.
 #[unsafe(no_mangle)]
 pub extern "C" fn lustrejasper_check(frame: &[u8]) -> u64
-    ensures { result ≡ check_word (check_answer (checked frame.now)) }
+    ensures { result ≡ check_word (checked frame.now) }
 {
     lustrejasper::lustrejasper_check(frame)
 }
@@ -19,7 +19,8 @@ pub extern "C" fn lustrejasper_check(frame: &[u8]) -> u64
 // The step at a place of the frame.
 #[unsafe(no_mangle)]
 pub extern "C" fn lustrejasper_step(frame: &[u8], place: u64, out: &mut [u8]) -> u64
-    ensures { (result ≡ step_word (step_answer (stepped frame.now place (length out.old)))) × (out.new ≡ step_output (stepped frame.now place (length out.old)) out.old) }
+    ensures word { result ≡ step_word (stepped frame.now place (length out.old)) }
+    ensures output { out.new ≡ step_output (stepped frame.now place (length out.old)) out.old }
 {
     lustrejasper::lustrejasper_step(frame, place, out)
 }
@@ -27,7 +28,8 @@ pub extern "C" fn lustrejasper_step(frame: &[u8], place: u64, out: &mut [u8]) ->
 // The run of the frame, of at most `budget` steps.
 #[unsafe(no_mangle)]
 pub extern "C" fn lustrejasper_run(frame: &[u8], budget: u32, out: &mut [u8]) -> u64
-    ensures { (result ≡ run_word (run_answer (ran frame.now budget (length out.old)))) × (out.new ≡ run_output (ran frame.now budget (length out.old)) out.old) }
+    ensures word { result ≡ run_word (ran frame.now budget (length out.old)) }
+    ensures output { out.new ≡ run_output (ran frame.now budget (length out.old)) out.old }
 {
     lustrejasper::lustrejasper_run(frame, budget, out)
 }

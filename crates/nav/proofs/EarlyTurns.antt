@@ -1,19 +1,23 @@
 -- Trees with one tag that differ in their first six bytes: the ways out of `differ_early`.
--- Main results: early_room, early_none, early_bytes.
+-- Main results: two_operands, early_room, early_none, early_bytes.
 use mathlib.Core.Path.{◌≡◌, refl, sym, ap, ◌∙◌}
 use mathlib.Core.Bool.{Bool, true, false, not, ◌&&◌, ◌||◌}
 use mathlib.Core.List.{List, [], ◌∷◌, ◌++◌}
-use Prim.Native.Nat.{ℕ, ◌+◌, ◌≤◌, ◌<◌}
+use Prim.Native.Nat.{ℕ, ◌+◌, ◌-◌, ◌≤◌, ◌<◌}
 use native.Mathlib.Omega.{arith}
-use lib.ListN.{length, get_or, length-append}
-use lib.Dec.{leb}
+use lib.ListN.{length, get_or, take, drop, length-append, length-take, length-drop}
+use lib.Seq.{ext_get_or, get_or-drop, get_or-take}
+use lib.Dec.{leb, eqb}
+use lib.Pointwise.{pointwise}
+use Rattle.std.proofs.Common.{is_le, nat_cmp}
+use Rattle.std.proofs.lemmas.Map.Keys.{le_from_is_le}
+use Rattle.std.specs.Cmp.Lexicographic.{other_text}
 use borrow.Author.Tests.{le-leb, not-true}
 use Rattle.frame.specs.Trees.{head, Tree, node, Forest, nil, cons, count, tag_of}
 use Rattle.frame.specs.Tags.{Sort, Layout, these, payload, counted, binding, Class, table, class_of, form_at, form_of, sorts_of}
 use Rattle.frame.specs.Encoding.{enc_head, enc, encs}
 use Rattle.frame.specs.Reading.{number_at}
 use Rattle.frame.specs.WellFormed.{Wf, Wfs}
-use Rattle.octets.specs.Bytes.{SameBytes}
 use Rattle.frame.proofs.Inversion.{true_not}
 use Rattle.frame.proofs.ReadBack.{head_long, enc_long}
 use Rattle.frame.proofs.EveryTag.{along_rows, every_tag}
@@ -73,28 +77,54 @@ six (node (head g n us) ks) e w a b =
     omega (arith, head_long (head g n us) (count ks), two_long ks _ w.1 l, length-append (enc_head (head g n us) (count ks)) (encs ks))
 
 -- ---- the ways out
+
+-- what the code's test of the range from a to b says of the tag
+pub two_operands : (tag a b : ℕ) → a ≡ 101 → b ≡ 252 → (is_le (nat_cmp a tag) ≡ true) × (is_le (nat_cmp tag b) ≡ true) → (101 ≤ tag) × (tag ≤ 252)
+two_operands tag a b ea eb t = (le_from_is_le 101 tag (rw ea at t.0), le_from_is_le tag 252 (rw eb at t.1))
+
 module _ (s : List ℕ) (x y tag : ℕ) where
   pub early_none : EarlyPost s x y false
   early_none = record { differ = λ e. true_not e }
 
-  module _ (a : 101 ≤ tag) (b : tag ≤ 252) where
+  module _ (in_range : (101 ≤ tag) × (tag ≤ 252)) where
     long_at : (at : ℕ) → tag ≡ number_at 2 s at → (e : Sort) (t : Tree) → Stands s at e t → 6 ≤ length (enc t)
-    long_at at z e t st = let y = z ∙ tag_there s at e t st in six t e st.formed (omega arith) (omega arith)
+    long_at at z e t st = let y = z ∙ tag_there s at e t st in six t e st.formed (rw (← y) in_range.0) (rw (← y) in_range.1)
 
-    pub early_room : EarlyPre s x y tag → (x + 2 + 4 ≤ length s) × (y + 2 + 4 ≤ length s)
+    pub early_room : EarlyPre s x y tag → (x + 6 ≤ length s) × (y + 6 ≤ length s)
     early_room p = (
       omega (arith, long_at x p.of_left p.left.e p.left.t p.left.there, p.left.there.bytes.within),
       omega (arith, long_at y p.of_right p.right.e p.right.t p.right.there, p.right.there.bytes.within),
     )
 
-    pub early_bytes : EarlyPre s x y tag → (r : Bool) → SameBytes s (x + 2) (y + 2) 4 r → EarlyPost s x y (not r)
-    early_bytes p r q = record { differ = λ z e d t u st su eq. q.differ (not-true r z) (λ j l. alike e d t u st su eq j l) }
+    -- bytes 2 to 5 of a tree, where it stands
+    part_at : (at : ℕ) → tag ≡ number_at 2 s at → (e : Sort) (t : Tree) → Stands s at e t → take 4 (drop (at + 2) s) ≡ take 4 (drop 2 (enc t))
+    part_at at z e t st =
+        let l = long_at at z e t st in
+        let w = st.bytes.within in
+        let n : length (take 4 (drop (at + 2) s)) ≡ 4 = omega (arith, length-take 4 (drop (at + 2) s), length-drop (at + 2) s) in
+        let m : length (take 4 (drop 2 (enc t))) ≡ 4 = omega (arith, length-take 4 (drop 2 (enc t)), length-drop 2 (enc t)) in
+        ext_get_or 0 (take 4 (drop (at + 2) s)) (take 4 (drop 2 (enc t))) (n ∙ sym m) (λ k h. byte k (rw n at h) l)
       where
-        alike : (e d : Sort) (t u : Tree) → Stands s x e t → Stands s y d u → t ≡ u → (j : ℕ) → j < 4 → get_or s (x + 2 + j) 0 ≡ get_or s (y + 2 + j) 0
-        alike e d t u st su eq j l =
-            let n = long_at x p.of_left e t st in
-            let m = long_at y p.of_right d u su in
-            let zx : x + (2 + j) ≡ x + 2 + j = omega arith in
-            let zy : y + (2 + j) ≡ y + 2 + j = omega arith in
-            ap (λ (i : ℕ). get_or s i 0) (sym zx) ∙ stand_byte st (2 + j) (omega arith) ∙ ap (λ (v : Tree). get_or (enc v) (2 + j) 0) eq ∙ sym
-            (stand_byte su (2 + j) (omega arith)) ∙ ap (λ (i : ℕ). get_or s i 0) zy
+        byte : (k : ℕ) → k < 4 → 6 ≤ length (enc t) → get_or (take 4 (drop (at + 2) s)) k 0 ≡ get_or (take 4 (drop 2 (enc t))) k 0
+        byte k h l =
+            let a : at + 2 + k ≡ at + (2 + k) = omega arith in
+            get_or-take 4 (drop (at + 2) s) k 0 h
+            ∙ get_or-drop (at + 2) s k 0
+            ∙ ap (λ (i : ℕ). get_or s i 0) a
+            ∙ stand_byte st (2 + k) (omega arith)
+            ∙ sym (get_or-take 4 (drop 2 (enc t)) k 0 h ∙ get_or-drop 2 (enc t) k 0)
+
+    pub early_bytes : EarlyPre s x y tag → (r : Bool)
+        → r ≡ not (pointwise eqb (take (x + 6 - (x + 2)) (drop (x + 2) s)) (take (y + 6 - (y + 2)) (drop (y + 2) s))) → EarlyPost s x y r
+    early_bytes p r q = record { differ = λ z e d t u st su eq. told z (same e d t u st su eq) }
+      where
+        same : (e d : Sort) (t u : Tree) → Stands s x e t → Stands s y d u → t ≡ u
+            → take (x + 6 - (x + 2)) (drop (x + 2) s) ≡ take (y + 6 - (y + 2)) (drop (y + 2) s)
+        same e d t u st su eq =
+            let n : x + 6 - (x + 2) ≡ 4 = omega arith in
+            let m : y + 6 - (y + 2) ≡ 4 = omega arith in
+            rw (n, m)
+            (part_at x p.of_left e t st ∙ ap (λ (v : Tree). take 4 (drop 2 (enc v))) eq ∙ sym (part_at y p.of_right d u su))
+
+        told : r ≡ true → take (x + 6 - (x + 2)) (drop (x + 2) s) ≡ take (y + 6 - (y + 2)) (drop (y + 2) s) → ⊥
+        told z w = other_text _ _ (sym (not-true _ (sym q ∙ z))) w

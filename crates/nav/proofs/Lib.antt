@@ -2,3 +2,4 @@ pub mod Hops
 pub mod PlaceTurns
 mod EarlyTurns
 pub mod SamePlaces
+pub mod ChildPlaces

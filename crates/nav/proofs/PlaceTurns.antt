@@ -15,7 +15,8 @@ use borrow.Author.Tests.{eqb-true, eqb-false}
 use Rattle.frame.specs.Types.{Ty}
 use Rattle.frame.specs.Trees.{head, Tree, node, Forest, count, tag_of, nodes}
 use Rattle.frame.specs.Tags.{Sort, Form, class_of, form_of, width, sorts_of}
-use Rattle.tags.specs.TagCodes.{form_at_code, form_code}
+use Rattle.tags.specs.TagCodes.{meant, form_code}
+use Rattle.tags.specs.declared.forms.Form as C
 use Rattle.frame.specs.Encoding.{enc_number, enc_tys, enc_head, enc, encs}
 use Rattle.frame.specs.Reading.{number_at}
 use Rattle.frame.specs.WellFormed.{number_in}
@@ -67,9 +68,9 @@ pub tag_there : (s : List ℕ) (at : ℕ) (e : Sort) (t : Tree) → Stands s at 
 tag_there s at e (node (head g n us) ks) st = (numbers s at e g n us ks st).tag
 
 -- what the code reads: the tag, its form, the number behind it
-module _ (s : List ℕ) (at tag form w : ℕ) (et : tag ≡ number_at 2 s at) (ef : form ≡ form_code (class_of tag))
-    (ew : w ≡ width (form_at_code form).layout) where
-  same_form : (g : ℕ) → number_at 2 s at ≡ g → form_at_code form ≡ form_of g
+module _ (s : List ℕ) (at tag : ℕ) (form : C.Form) (w : ℕ) (et : tag ≡ number_at 2 s at) (ef : form ≡ form_code (class_of tag))
+    (ew : w ≡ width (meant form).layout) where
+  same_form : (g : ℕ) → number_at 2 s at ≡ g → meant form ≡ form_of g
   same_form g z = code_form tag form ef ∙ ap form_of (et ∙ z)
 
   wide : (g : ℕ) → number_at 2 s at ≡ g → w ≡ width (form_of g).layout
@@ -78,7 +79,7 @@ module _ (s : List ℕ) (at tag form w : ℕ) (et : tag ≡ number_at 2 s at) (e
   pub arity_room : (e : Sort) (t : Tree) → Stands s at e t → at + 2 + w ≤ length s
   arity_room e (node (head g n us) ks) st = let v = numbers s at e g n us ks st in omega (arith, v.within, wide g v.tag)
 
-  pub arity_read : (x : ℕ) → x ≡ number_at w s (at + 2) → (r : ℕ) → r ≡ length (sorts_of (form_at_code form).layout x) → ChildrenPost s at r
+  pub arity_read : (x : ℕ) → x ≡ number_at w s (at + 2) → (r : ℕ) → r ≡ length (sorts_of (meant form).layout x) → ChildrenPost s at r
   arity_read x ex r er = record { many = many }
     where
       many : (e : Sort) (t : Tree) → Stands s at e t → r ≡ arity t

@@ -9,8 +9,14 @@ use native.Mathlib.Omega.{arith}
 use lib.ListN.{get_or, replicate, get_or-append}
 use Rattle.frame.specs.Types.{Ty}
 use Rattle.frame.specs.Trees.{head, Tree, node, nil, cons, tag_of, nodes}
-use Rattle.frame.specs.Tags.{Sort, predicate, expression, same_sort, Form, class_of, form_of}
-use Rattle.tags.specs.TagCodes.{form_at_code, form_code, is_expression, sort_for}
+use Rattle.frame.specs.Tags.{Sort, Form, class_of, form_of}
+use Rattle.std.specs.Prelude.{Option, Some, None, is_some}
+use Rattle.tags.specs.TagCodes.{meant, form_code, is_expression, sort_for}
+use Rattle.tags.specs.declared.forms.Form as C
+use Rattle.tags.specs.declared.forms.Sort as K
+use Rattle.tags.specs.declared.forms.Sort.TheVariants.{Predicate, Expression}
+use Rattle.tags.specs.contracts.forms.Sort.{the_type}
+use denote.Enum.Bare.{sameb}
 use Rattle.frame.specs.Encoding.{starts}
 use Rattle.frame.specs.Reading.{number_at, tree, parse}
 use Rattle.frame.specs.WellFormed.{Wf}
@@ -25,9 +31,7 @@ use Rattle.frame.proofs.SameTrees.{same_tree_lem, same_tree_refl}
 use Rattle.frame.proofs.Splices.{find_some}
 use Rattle.sameness.specs.Stands.{Stands}
 use Rattle.sameness.specs.Compared.{BothStand, SamePost}
-use Rattle.nav.specs.PlaceTables.{Framed, NextsFrom, TagPost, sort_of, SortPost, BothPlaced, EarlyPost, SameAtPost, is_yes}
-use Rattle.sameness.specs.declared.Same.{Same}
-use Rattle.sameness.specs.declared.Same.TheVariants.{Yes, No}
+use Rattle.nav.specs.PlaceTables.{Framed, NextsFrom, TagPost, sort_of, SortPost, BothPlaced, EarlyPost, SameAtPost}
 use Rattle.nav.proofs.Hops.{Sorted, place_stands, place_sorted, child_first, child_next}
 use Rattle.nav.proofs.PlaceTurns.{tag_there}
 
@@ -40,21 +44,17 @@ sort_said (node (head g n us) ks) e w = w.0.sort
 pub place_sort : (v : Tree) → Sorted v → Wf v (sort_of v)
 place_sort v o = rw (sort_said v o.0 o.1) o.1
 
-is_expression_lem : (q : Sort) → same_sort q expression ≡ is_expression q
-is_expression_lem predicate = refl
-is_expression_lem expression = refl
+-- the code's test of a sort
+is_expression_lem : (q : K.Sort) → sameb the_type q Expression ≡ is_expression (sort_for q)
+is_expression_lem Predicate = refl
+is_expression_lem Expression = refl
 
-sort_flag : (q : Sort) (e : Bool) → e ≡ same_sort q expression → q ≡ sort_for e
-sort_flag predicate e z = ap sort_for (sym z)
-sort_flag expression e z = ap sort_for (sym z)
-
-module _ (tag form : ℕ) (ef : form ≡ form_code (class_of tag)) (e : Bool) (ee : e ≡ same_sort (form_at_code form).sort expression) where
-  flag_of : (g : ℕ) → tag ≡ g → e ≡ same_sort (form_of g).sort expression
-  flag_of g z = ee ∙ ap (λ (fm : Form). same_sort fm.sort expression) (code_form tag form ef ∙ ap form_of z)
-
-  pub sort_done : (s st : List ℕ) (k : ℕ) → TagPost s st k tag → SortPost s st k e
-  sort_done s st k post =
-      record { sort = λ t n Γ v fr f. flag_of (tag_of v) (post.tag t n Γ v fr f) ∙ is_expression_lem (sort_of v) }
+module _ (tag : ℕ) (form : C.Form) (ef : form ≡ form_code (class_of tag)) (q : K.Sort) (eq : sort_for q ≡ (meant form).sort) where
+  pub sort_done : (s st : List ℕ) (k : ℕ) → TagPost s st k tag → (r : Bool) → r ≡ sameb the_type q Expression → SortPost s st k r
+  sort_done s st k post r er = record {
+    sort = λ t n Γ v fr f.
+        er ∙ is_expression_lem q ∙ ap is_expression (eq ∙ ap (λ (fm : Form). fm.sort) (code_form tag form ef ∙ ap form_of (post.tag t n Γ v fr f)));
+  }
 
 -- ---- sameness by places
 
@@ -93,34 +93,39 @@ module _ (s st : List ℕ) (a b x y : ℕ) (ex : x ≡ get_or st a 0) (ey : y �
         same_no v w (λ q. post.differ z l.0 m.0 v w l.1 m.1 q));
   }
 
-  module _ (tag form : ℕ) (ta : tag ≡ number_at 2 s x) (tb : tag ≡ number_at 2 s y) (ef : form ≡ form_code (class_of tag)) (e : Bool)
-      (ee : e ≡ same_sort (form_at_code form).sort expression) where
+  module _ (tag : ℕ) (ta : tag ≡ number_at 2 s x) (tb : tag ≡ number_at 2 s y) where
     there : (k i : ℕ) → i ≡ get_or st k 0 → tag ≡ number_at 2 s i → (t : Tree) (n : ℕ) (Γ : Ctx) (v : Tree) → Framed s t st n → find t [] k ≡ found Γ v
-        → Stands s i (sort_for e) v
+        → Stands s i (form_of tag).sort v
     there k i ei ti t n Γ v fr f =
-        let q = sort_flag (sort_of v) e (flag_of tag form ef e ee (tag_of v) (ti ∙ tag_at k i ei t n Γ v fr f)) in
-        let w : Wf v (sort_for e) = rw q at (place_sort v (place_sorted s t st n fr k Γ v f)) in
-        rw ei (place_stands s t st n fr k Γ v f (sort_for e) w)
+        let q : sort_of v ≡ (form_of tag).sort = ap (λ (g : ℕ). (form_of g).sort) (sym (ti ∙ tag_at k i ei t n Γ v fr f)) in
+        let w : Wf v (form_of tag).sort = rw q at (place_sort v (place_sorted s t st n fr k Γ v f)) in
+        rw ei (place_stands s t st n fr k Γ v f (form_of tag).sort w)
 
-    pub both_there : BothPlaced s st a b → BothStand s (sort_for e) x y
+    -- trees with one tag are of one sort
+    pub both_there : BothPlaced s st a b → (e : Sort) × BothStand s e x y
     both_there p =
         let l = p.left in
         let r = p.right in
         let v = find_some l.t [] a l.below in
-        let w = find_some r.t [] b r.below in
-        record {
-          t = v.1;
-          u = w.1;
-          left = there a x ex ta l.t l.n v.0 v.1 l.framed v.2;
-          right = there b y ey tb r.t r.n w.0 w.1 r.framed w.2;
-        }
+        let w = find_some r.t [] b r.below in (
+          (form_of tag).sort,
+          record {
+            t = v.1;
+            u = w.1;
+            left = there a x ex ta l.t l.n v.0 v.1 l.framed v.2;
+            right = there b y ey tb r.t r.n w.0 w.1 r.framed w.2;
+          },
+        )
 
-    pub same_done : (r : Same) → SamePost s (sort_for e) x y r → SameAtPost s st a b (is_yes r)
-    same_done r post = record { same = λ t n Γ Δ v w fr f g. go v w (there a x ex ta t n Γ v fr f) (there b y ey tb t n Δ w fr g) r refl }
+    pub same_done : (r : Option (ℕ × ℕ)) → ((e : Sort) → SamePost s e x y r) → SameAtPost s st a b (is_some r)
+    same_done r post = record {
+      same = λ t n Γ Δ v w fr f g. go v w (there a x ex ta t n Γ v fr f) (there b y ey tb t n Δ w fr g) r (post (form_of tag).sort);
+    }
       where
-        go : (v w : Tree) → Stands s x (sort_for e) v → Stands s y (sort_for e) w → (i : Same) → r ≡ i → is_yes i ≡ same_tree v w
-        go v w l m (Yes p q) er = same_yes v w (post.same v w p q l m er).0
-        go v w l m No er = same_no v w (post.differ v w l m er)
+        go : (v w : Tree) → Stands s x (form_of tag).sort v → Stands s y (form_of tag).sort w → (i : Option (ℕ × ℕ)) → SamePost s (form_of tag).sort x y i
+            → is_some i ≡ same_tree v w
+        go v w l m (Some (p, q)) o = same_yes v w (o.same v w p q l m refl).0
+        go v w l m None o = same_no v w (o.differ v w l m refl)
 
 -- ---- the reader's table
 

@@ -1,1 +1,2 @@
 pub mod PlaceTables
+pub mod AtPlaces

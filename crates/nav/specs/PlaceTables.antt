@@ -1,8 +1,8 @@
 -- Tables over the places of a frame's tree ("positions in the frame, with a fixed table of 2,048 node starts"): where each
 -- node starts, and which place follows each subtree. With both, code goes from place to place: the first child of place k is
 -- at k + 1, and the next sibling of place c at the place that follows c's subtree.
-use Rattle.std.specs.Prelude.{ℕ, zero, suc, ◌+◌, ◌≤◌, ◌<◌, ◌≡◌, Bool, true, false, List, [], length, get_or}
-use Rattle.frame.specs.Trees.{Tree, node, count, tag_of, nodes}
+use Rattle.std.specs.Prelude.{ℕ, zero, suc, ◌+◌, ◌≤◌, ◌<◌, ◌≡◌, Bool, true, List, [], ◌∷◌, length, get_or}
+use Rattle.frame.specs.Trees.{Tree, node, Forest, nil, cons, count, tag_of, nodes}
 use Rattle.frame.specs.Tags.{Sort, predicate, form_of}
 use Rattle.tags.specs.TagCodes.{is_expression}
 use Rattle.frame.specs.Encoding.{enc, starts}
@@ -12,8 +12,6 @@ use Rattle.frame.specs.Places.{Ctx, found, find}
 use Rattle.reading.specs.Post.{table_size}
 use Rattle.frame.specs.Sameness.{same_tree}
 use Rattle.sameness.specs.Stands.{Stands}
-use Rattle.sameness.specs.declared.Same.{Same}
-use Rattle.sameness.specs.declared.Same.TheVariants.{Yes, No}
 
 -- how many children the root has
 abbrev pub arity : Tree → ℕ
@@ -77,6 +75,13 @@ pub record PlacedIn (s : List ℕ) (n : ℕ) (st nx : List ℕ) (k : ℕ) : Type
   pub table : Table s t st nx n
   pub below : k < nodes t
 
+-- k is a place of some tree with these tables
+pub record InTree (s st nx : List ℕ) (k : ℕ) : Type 0 where
+  pub t : Tree
+  pub n : ℕ
+  pub table : Table s t st nx n
+  pub below : k < nodes t
+
 -- r is the tag, the number of children, the end of the subtree v at place k
 pub record TagPost (s st : List ℕ) (k r : ℕ) : Type 0 where
   pub tag : (t : Tree) (n : ℕ) (Γ : Ctx) (v : Tree) → Framed s t st n → find t [] k ≡ found Γ v → r ≡ tag_of v
@@ -86,6 +91,22 @@ pub record ArityPost (s st : List ℕ) (k r : ℕ) : Type 0 where
 
 pub record EndAtPost (s : List ℕ) (n : ℕ) (st nx : List ℕ) (k r : ℕ) : Type 0 where
   pub ends : (t : Tree) (Γ : Ctx) (v : Tree) → Table s t st nx n → find t [] k ≡ found Γ v → r ≡ get_or st k 0 + length (enc v)
+
+-- the places of the trees in a row from place c on, and of the children of the tree at place k
+abbrev pub places_from : Forest → ℕ → List ℕ
+places_from nil c = []
+places_from (cons t ts) c = c ∷ places_from ts (c + nodes t)
+
+abbrev pub child_places : Tree → ℕ → List ℕ
+child_places (node h ks) k = places_from ks (k + 1)
+
+pub record ChildrenOf (s st nx : List ℕ) (k : ℕ) (places : List ℕ) : Type 0 where
+  pub are : (t : Tree) (n : ℕ) (Γ : Ctx) (v : Tree) → Table s t st nx n → find t [] k ≡ found Γ v → places ≡ child_places v k
+
+-- the same by a table: m places from c on, each the one that follows
+abbrev pub walk : List ℕ → ℕ → ℕ → List ℕ
+walk l c zero = []
+walk l c (suc m) = c ∷ walk l (get_or l c 0) m
 
 -- the sort that the tag of a tree says, which is the tree's
 abbrev pub sort_of : Tree → Sort
@@ -112,7 +133,3 @@ pub record EarlyPost (s : List ℕ) (x y : ℕ) (r : Bool) : Type 0 where
 
 pub record SameAtPost (s st : List ℕ) (a b : ℕ) (r : Bool) : Type 0 where
   pub same : (t : Tree) (n : ℕ) (Γ Δ : Ctx) (v w : Tree) → Framed s t st n → find t [] a ≡ found Γ v → find t [] b ≡ found Δ w → r ≡ same_tree v w
-
-abbrev pub is_yes : Same → Bool
-is_yes (Yes x y) = true
-is_yes No = false

@@ -1,22 +1,19 @@
--- Runs of bytes that are the same: the ways out of `same_bytes`, and what it says of the parts of the list.
--- Main results: bytes_differ, bytes_same; parts.
-use mathlib.Core.Path.{◌≡◌, sym, ap, ◌∙◌}
-use mathlib.Core.Bool.{Bool, true, false}
+-- Runs of bytes that are the same, byte by byte and as parts of the list.
+-- Main results: compared (what `==` says of them); parts.
+use mathlib.Core.Path.{◌≡◌, sym, ap, ◌∙◌, subst₂}
+use mathlib.Core.Bool.{Bool}
 use mathlib.Core.List.{List}
-use Prim.Native.Nat.{ℕ, ◌+◌, ◌≤◌, ◌<◌}
+use Prim.Native.Nat.{ℕ, ◌+◌, ◌-◌, ◌≤◌, ◌<◌}
 use native.Mathlib.Omega.{arith}
 use lib.ListN.{length, get_or, take, drop, length-take, length-drop}
+use lib.Dec.{eqb}
+use lib.Pointwise.{pointwise}
 use lib.Seq.{ext_get_or, get_or-drop, get_or-take}
-use Rattle.octets.specs.Bytes.{Alike, SameBytes, SameParts}
 use Rattle.frame.proofs.Inversion.{true_not}
+use Rattle.std.proofs.lemmas.Bool.Decides.{Decides-eqb}
+use Rattle.std.proofs.lemmas.Slice.Eq.{slice_eq-Decides}
+use Rattle.octets.specs.Bytes.{Alike, SameBytes, SameParts}
 
-pub bytes_differ : (s : List ℕ) (a b n i : ℕ) → i < n → (get_or s (a + i) 0 ≡ get_or s (b + i) 0 → ⊥) → SameBytes s a b n false
-bytes_differ s a b n i h f = record { same = λ e. true_not e; differ = λ e g. f (g i h) }
-
-pub bytes_same : (s : List ℕ) (a b n i : ℕ) → n ≤ i → Alike s a b i → SameBytes s a b n true
-bytes_same s a b n i h f = record { same = λ e j k. f j (omega arith); differ = λ e g. true_not (sym e) }
-
--- ---- as parts of the list
 module _ (s : List ℕ) (a b n : ℕ) (ha : a + n ≤ length s) (hb : b + n ≤ length s) where
   in_part : (c k : ℕ) → k < n → get_or (take n (drop c s)) k 0 ≡ get_or s (c + k) 0
   in_part c k h = get_or-take n (drop c s) k 0 h ∙ get_or-drop c s k 0
@@ -34,3 +31,12 @@ module _ (s : List ℕ) (a b n : ℕ) (ha : a + n ≤ length s) (hb : b + n ≤ 
 
   pub parts : (r : Bool) → SameBytes s a b n r → SameParts s a b n r
   parts r p = record { same = λ e. equal (p.same e); differ = λ e w. p.differ e (alike w) }
+
+  -- what `==` answered of the parts
+  pub compared : (r : Bool) → r ≡ pointwise eqb (take (a + n - a) (drop a s)) (take (b + n - b) (drop b s)) → SameBytes s a b n r
+  compared r e =
+      let za : a + n - a ≡ n = omega arith in
+      let zb : b + n - b ≡ n = omega arith in
+      let z = subst₂ (λ (i j : ℕ). r ≡ pointwise eqb (take i (drop a s)) (take j (drop b s))) za zb e in
+      let d = slice_eq-Decides Decides-eqb _ _ r z in
+      record { same = λ q. alike (d.0 q); differ = λ q w. true_not (sym q ∙ d.1 (equal w)) }

@@ -1,190 +1,161 @@
--- Types made from an operand's type, by mode: where they stand, and the ways out of `inner_at`, `put_type` and `put_expression`.
+-- Types made from an operand's type: the ways out of `element`, `side`, `inner`, `put_type` and `put_expression`.
 use mathlib.Core.Path.{◌≡◌, refl, sym, ap, ◌∙◌, subst}
-use mathlib.Core.Bool.{Bool, true, false}
+use mathlib.Core.Bool.{true, false}
 use mathlib.Core.List.{List, [], ◌∷◌, ◌++◌}
-use Prim.Native.Nat.{ℕ, zero, suc, ◌+◌, ◌<◌}
+use Prim.Native.Nat.{ℕ, suc, ◌+◌, ◌-◌, ◌≤◌, ◌<◌}
 use native.Mathlib.Omega.{arith}
-use lib.ListN.{length, get_or}
+use lib.ListN.{length, get_or, take, drop, length-append}
+use lib.Seq.{take-append_seam, drop-append_seam, take-length}
+use Rattle.std.proofs.Common.{Option}
 use Rattle.frame.specs.Types.{Ty, bool, int, given, pow, prod}
 use Rattle.frame.specs.Encoding.{enc_number, enc_ty, enc}
 use Rattle.frame.specs.Spans.{Spans}
-use Rattle.heads.specs.TypeEnds.{TypeAt as Standing, EndOf}
-use Rattle.frame.proofs.Spans.{span_first, span_left, span_right}
+use Rattle.frame.proofs.Spans.{span_whole, span_first, span_left}
 use Rattle.frame.proofs.Inversion.{true_not}
+use Rattle.heads.specs.TypeEnds.{TypeAt as Standing, EndOf}
 use Rattle.typing.specs.Typing.{element, first, second}
 use Rattle.typing.specs.TypeExpression.{to_expression}
 use Rattle.put.specs.Out.{Puts}
-use Rattle.put.specs.Copied.{between}
-use Rattle.put.specs.Written.{TypeAt, HasType, TypeEnd, Expressed}
+use Rattle.put.specs.Written.{TypeAt, HasType, Expressed}
+use Rattle.put.proofs.Puts.{puts_then, puts_as}
+use Rattle.put.proofs.TypeBytes.{lead, type_at, pow_bytes}
 use Rattle.templates.specs.Template.{Mode, whole, of_dom, of_ran, of_element, of_elements, of_source, made}
-use Rattle.templates.specs.Programs.{mode_code}
-use Rattle.parts.specs.Holds.{bool_at, MadeFrom, HasParts, PartAt, CanMake, inner, powered, power_code, InnerAt, MadeType, MadeExpression}
-use Rattle.put.specs.declared.type_expression.Written.{Written}
-use Rattle.put.proofs.Puts.{puts_then, puts_as, between_span}
-use Rattle.put.proofs.TypeBytes.{lead, lead_is, type_at, pow_bytes}
+use Rattle.programs.specs.declared.Operand.{Operand}
+use Rattle.programs.specs.declared.Operand.TheVariants.{First, Second}
+use Rattle.parts.specs.Holds.{IsType, PartOf, side_of, inner, powered, MadeType, MadeExpression}
 
--- ---- what the end of a type asks and answers
-pub as_type_lem : (s : List ℕ) (at : ℕ) → HasType s at → Standing s at
-as_type_lem s at h = record { type = h.0; end = _; span = h.1 }
-
-pub as_end : (s : List ℕ) (at q : ℕ) → EndOf s at q → TypeEnd s at q
-as_end s at q p = record { end = λ t a. p.is t _ a }
-
--- ---- a power's type and a product's types, further on
-product_of_lem : (t : Ty) → lead t ≡ 4 → (u : Ty) × (v : Ty) × (t ≡ prod u v)
-product_of_lem bool z = absurd (omega arith)
-product_of_lem int z = absurd (omega arith)
-product_of_lem (given n) z = absurd (omega arith)
-product_of_lem (pow t) z = absurd (omega arith)
-product_of_lem (prod t u) z = (t, u, refl)
-
-pow_below : (s : List ℕ) (at : ℕ) (t : Ty) → TypeAt s at (pow t) → TypeAt s (at + 1) t
+-- ---- a type's first byte
+leads : (t : Ty) → (get_or (enc_ty t) 0 0 ≡ lead t) × (0 < length (enc_ty t))
 unfolding enc_ty
-pow_below s at t h = type_at t (span_first h).rest
+leads bool = (refl, omega arith)
+leads int = (refl, omega arith)
+leads (given n) = (refl, omega arith)
+leads (pow t) = (refl, omega arith)
+leads (prod t u) = (refl, omega arith)
 
-prod_first : (s : List ℕ) (at : ℕ) (t u : Ty) → TypeAt s at (prod t u) → TypeAt s (at + 1) t
+lead_of : (s : List ℕ) (t : Ty) → s ≡ enc_ty t → get_or s 0 0 ≡ lead t
+lead_of s t e = ap (λ (l : List ℕ). get_or l 0 0) e ∙ (leads t).0
+
+pub type_some : (s : List ℕ) → IsType s → 0 < length s
+type_some s h = omega (arith, ap length h.1, (leads h.0).1)
+
+-- ---- what stands behind a byte, in two parts
+part_left : (x : ℕ) (a b s : List ℕ) (end : ℕ) → s ≡ x ∷ (a ++ b) → end ≡ suc (length a) → take (end - 1) (drop 1 s) ≡ a
+part_left x a b s end e h = let z : end - 1 ≡ length a = omega arith in rw (e, z) (take-append_seam a b)
+
+part_right : (x : ℕ) (a b s : List ℕ) (end : ℕ) → s ≡ x ∷ (a ++ b) → end ≡ suc (length a) → take (length s - end) (drop end s) ≡ b
+part_right x a b s end e h =
+    let z : length s - end ≡ length b = omega (arith, ap length e, length-append a b) in
+    let y : drop end s ≡ b = rw (e, h) (drop-append_seam a b) in
+    rw (y, z) (take-length b)
+
+-- ---- a power's elements
+below : (s : List ℕ) (t : Ty) → s ≡ enc_ty (pow t) → take (length s - 1) (drop 1 s) ≡ enc_ty t
 unfolding enc_ty
-prod_first s at t u h = span_left (enc_ty t) (enc_ty u) (span_first h).rest
+below s t e = let z : suc (length (enc_ty t)) - 1 ≡ length (enc_ty t) = omega arith in rw e (rw z (take-length (enc_ty t)))
 
-prod_second : (s : List ℕ) (at : ℕ) (t u : Ty) → TypeAt s at (prod t u) → TypeAt s (at + 1 + length (enc_ty t)) u
+bool_bytes : 0 ∷ [] ≡ enc_ty bool
 unfolding enc_ty
-prod_second s at t u h = type_at u (span_right (enc_ty t) (enc_ty u) (span_first h).rest)
+bool_bytes = refl
 
--- ---- a type's parts: `element_at`, `first_at`, `second_at`
-module _ (s : List ℕ) (at : ℕ) where
-  pub parts_within : HasParts s at → at < length s
-  parts_within w = (lead_is w.0 w.1.1).1
-
-  pub element_below : get_or s at 0 ≡ 3 → PartAt element s at (at + 1)
-  element_below e = record { there = λ t h. go t h.1 (sym (lead_is t h.1).0 ∙ e) }
+module _ (s : List ℕ) where
+  pub element_below : get_or s 0 0 ≡ 3 → PartOf element s (take (length s - 1) (drop 1 s))
+  element_below z = record { is = λ t e. go t e (sym (lead_of s t e) ∙ z) }
     where
-      go : (t : Ty) → TypeAt s at t → lead t ≡ 3 → TypeAt s (at + 1) (element t)
-      go bool h z = absurd (omega arith)
-      go int h z = absurd (omega arith)
-      go (given n) h z = absurd (omega arith)
-      go (pow t) h z = pow_below s at t h
-      go (prod t u) h z = absurd (omega arith)
+      go : (t : Ty) → s ≡ enc_ty t → lead t ≡ 3 → take (length s - 1) (drop 1 s) ≡ enc_ty (element t)
+      go bool e y = absurd (omega arith)
+      go int e y = absurd (omega arith)
+      go (given n) e y = absurd (omega arith)
+      go (pow t) e y = below s t e
+      go (prod t u) e y = absurd (omega arith)
 
-  pub element_none : (get_or s at 0 ≡ 3 → ⊥) → PartAt element s at bool_at
-  element_none d = record { there = λ t h. go t h.0 (λ z. d ((lead_is t h.1).0 ∙ z)) }
+  pub element_none : (get_or s 0 0 ≡ 3 → ⊥) → PartOf element s (0 ∷ [])
+  element_none d = record { is = λ t e. bool_bytes ∙ ap enc_ty (go t (λ z. d (lead_of s t e ∙ z))) }
     where
-      go : (t : Ty) → TypeAt s bool_at bool → (lead t ≡ 3 → ⊥) → TypeAt s bool_at (element t)
-      go bool h z = h
-      go int h z = h
-      go (given n) h z = h
-      go (pow t) h z = absurd (z refl)
-      go (prod t u) h z = h
+      go : (t : Ty) → (lead t ≡ 3 → ⊥) → bool ≡ element t
+      go bool z = refl
+      go int z = refl
+      go (given n) z = refl
+      go (pow t) z = absurd (z refl)
+      go (prod t u) z = refl
 
-  module _ (e : get_or s at 0 ≡ 4) (t : Ty) (h : TypeAt s at t) where
-    is_product : (u : Ty) × (v : Ty) × (t ≡ prod u v) × TypeAt s at (prod u v)
-    is_product =
-        let o = product_of_lem t (sym (lead_is t h).0 ∙ e) in
-        (o.0, o.1, o.2, subst (TypeAt s at) o.2 h)
+  -- ---- a product's sides
+  first_none : (get_or s 0 0 ≡ 4 → ⊥) → PartOf first s (0 ∷ [])
+  first_none d = record { is = λ t e. bool_bytes ∙ ap enc_ty (go t (λ z. d (lead_of s t e ∙ z))) }
+    where
+      go : (t : Ty) → (lead t ≡ 4 → ⊥) → bool ≡ first t
+      go bool z = refl
+      go int z = refl
+      go (given n) z = refl
+      go (pow t) z = refl
+      go (prod t u) z = absurd (z refl)
 
-  pub first_below : get_or s at 0 ≡ 4 → PartAt first s at (at + 1)
-  first_below e = record { there = λ t h. let o = is_product e t h.1 in rw o.2 (prod_first s at o.0 o.1 o.3) }
+  second_none : (get_or s 0 0 ≡ 4 → ⊥) → PartOf second s (0 ∷ [])
+  second_none d = record { is = λ t e. bool_bytes ∙ ap enc_ty (go t (λ z. d (lead_of s t e ∙ z))) }
+    where
+      go : (t : Ty) → (lead t ≡ 4 → ⊥) → bool ≡ second t
+      go bool z = refl
+      go int z = refl
+      go (given n) z = refl
+      go (pow t) z = refl
+      go (prod t u) z = absurd (z refl)
 
-  -- a product has a first type, behind which the second stands
-  pub product_has : get_or s at 0 ≡ 4 → HasParts s at → HasType s (at + 1)
-  product_has e w = (first w.0, (first_below e).there w.0 w.1)
+  pub side_none : (get_or s 0 0 ≡ 4 → ⊥) → (which : Operand) → PartOf (side_of which) s (0 ∷ [])
+  side_none d First = first_none d
+  side_none d Second = second_none d
 
-  pub second_below : get_or s at 0 ≡ 4 → (p : ℕ) → TypeEnd s (at + 1) p → PartAt second s at p
-  second_below e p l = record {
-    there = λ t h. (let o = is_product e t h.1 in
-        rw (o.2, l.end o.0 (prod_first s at o.0 o.1 o.3)) (prod_second s at o.0 o.1 o.3));
-  }
+  record Product (t : Ty) : Type 0 where
+    left : Ty
+    right : Ty
+    is : t ≡ prod left right
+    bytes : s ≡ 4 ∷ (enc_ty left ++ enc_ty right)
 
-  module _ (d : get_or s at 0 ≡ 4 → ⊥) where
-    no_product : (t : Ty) → TypeAt s at t → (first t ≡ bool) × (second t ≡ bool)
-    no_product t h = go t (λ z. d ((lead_is t h).0 ∙ z))
-      where
-        go : (t : Ty) → (lead t ≡ 4 → ⊥) → (first t ≡ bool) × (second t ≡ bool)
-        go bool z = (refl, refl)
-        go int z = (refl, refl)
-        go (given n) z = (refl, refl)
-        go (pow t) z = (refl, refl)
-        go (prod t u) z = absurd (z refl)
+  product : (t : Ty) → s ≡ enc_ty t → get_or s 0 0 ≡ 4 → Product t
+  unfolding enc_ty
+  product bool e z = absurd (omega (arith, lead_of s bool e))
+  product int e z = absurd (omega (arith, lead_of s int e))
+  product (given n) e z = absurd (omega (arith, lead_of s (given n) e))
+  product (pow t) e z = absurd (omega (arith, lead_of s (pow t) e))
+  product (prod t u) e z = record { left = t; right = u; is = refl; bytes = e }
 
-    pub first_none : PartAt first s at bool_at
-    first_none = record { there = λ t h. subst (λ (u : Ty). TypeAt s bool_at u) (sym (no_product t h.1).0) h.0 }
+  left_span : (t u : Ty) → s ≡ 4 ∷ (enc_ty t ++ enc_ty u) → Spans s 1 (1 + length (enc_ty t)) (enc_ty t)
+  left_span t u e =
+      span_left (enc_ty t) (enc_ty u) (span_first (subst (λ (l : List ℕ). Spans s 0 (length s) l) e (span_whole s))).rest
 
-    pub second_none : PartAt second s at bool_at
-    second_none = record { there = λ t h. subst (λ (u : Ty). TypeAt s bool_at u) (sym (no_product t h.1).1) h.0 }
+  pub product_stands : get_or s 0 0 ≡ 4 → IsType s → Standing s 1
+  product_stands z h = let v = product h.0 h.1 z in record { type = v.left; end = _; span = left_span v.left v.right v.bytes }
 
--- ---- `inner_at`
--- a mode by its code
-abbrev mode_of : ℕ → Mode
-mode_of zero = whole
-mode_of (suc zero) = of_dom
-mode_of (suc (suc zero)) = of_ran
-mode_of (suc (suc (suc zero))) = of_element
-mode_of (suc (suc (suc (suc zero)))) = of_elements
-mode_of (suc (suc (suc (suc (suc k))))) = of_source
+  module _ (z : get_or s 0 0 ≡ 4) (end : ℕ) (ends : EndOf s 1 end) where
+    end_is : (t : Ty) (v : Product t) → end ≡ 1 + length (enc_ty v.left)
+    end_is t v = ends.is v.left _ (left_span v.left v.right v.bytes)
 
-mode_own : (m : Mode) → m ≡ mode_of (mode_code m)
-mode_own whole = refl
-mode_own of_dom = refl
-mode_own of_ran = refl
-mode_own of_element = refl
-mode_own of_elements = refl
-mode_own of_source = refl
+    pub end_within : IsType s → (1 ≤ end) × (end ≤ length s)
+    end_within h =
+        let v = product h.0 h.1 z in
+        (omega (arith, end_is h.0 v), omega (arith, end_is h.0 v, ap length v.bytes, length-append (enc_ty v.left) (enc_ty v.right)))
 
-mode_by : (m : Mode) (c k : ℕ) → c ≡ k → c ≡ mode_code m → m ≡ mode_of k
-mode_by m c k z e = mode_own m ∙ ap mode_of (sym e ∙ z)
+    pub first_below : PartOf first s (take (end - 1) (drop 1 s))
+    first_below = record {
+      is = λ t e. (let v = product t e z in
+          part_left 4 _ (enc_ty v.right) s end v.bytes (omega (arith, end_is t v)) ∙ ap (λ (u : Ty). enc_ty (first u)) (sym v.is));
+    }
 
-module _ (s : List ℕ) (at c : ℕ) where
-  pub make_has : CanMake s at c → HasParts s at
-  make_has w = (w.1, w.3)
+    pub second_below : PartOf second s (take (length s - end) (drop end s))
+    second_below = record {
+      is = λ t e. (let v = product t e z in
+          part_right 4 (enc_ty v.left) _ s end v.bytes (omega (arith, end_is t v)) ∙ ap (λ (u : Ty). enc_ty (second u)) (sym v.is));
+    }
 
-  pub inner_whole : c ≡ 0 → InnerAt s at c at
-  inner_whole e = record { there = λ m t k h. rw (mode_by m c 0 e k) h.1 }
+-- ---- the type behind a power, and all of it
+module _ (s r : List ℕ) (f : Ty → Ty) where
+  pub part_type : IsType s → PartOf f s r → IsType r
+  part_type h v = (f h.0, v.is h.0 h.1)
 
-  module _ (e : ℕ) (pe : PartAt element s at e) where
-    element_made : (t : Ty) → MadeFrom s at t → MadeFrom s e (element t)
-    element_made t h = (h.0, pe.there t h)
+  -- a part of a part
+  pub part_of_part : (g : Ty → Ty) (q : List ℕ) → PartOf f s r → PartOf g r q → PartOf (λ t. g (f t)) s q
+  part_of_part g q v w = record { is = λ t e. w.is (f t) (v.is t e) }
 
-    pub element_has : CanMake s at c → HasParts s e
-    element_has w = (element w.1, element_made w.1 w.3)
-
-    pub inner_ran : c ≡ 2 → (p : ℕ) → PartAt second s e p → InnerAt s at c p
-    inner_ran z p q = record { there = λ m t k h. rw (mode_by m c 2 z k) (q.there (element t) (element_made t h)) }
-
-    pub inner_element : c ≡ 3 → InnerAt s at c e
-    inner_element z = record { there = λ m t k h. rw (mode_by m c 3 z k) (pe.there t h) }
-
-    pub inner_elements : c ≡ 4 → (p : ℕ) → PartAt element s e p → InnerAt s at c p
-    inner_elements z p q = record { there = λ m t k h. rw (mode_by m c 4 z k) (q.there (element t) (element_made t h)) }
-
-    pub inner_rest : (c ≡ 0 → ⊥) → (c ≡ 2 → ⊥) → (c ≡ 3 → ⊥) → (c ≡ 4 → ⊥) → (p : ℕ) → PartAt first s e p → InnerAt s at c p
-    inner_rest x y z u p q = record { there = λ m t k h. go m t k h }
-      where
-        go : (m : Mode) (t : Ty) → c ≡ mode_code m → MadeFrom s at t → TypeAt s p (inner m t)
-        go whole t k h = absurd (x k)
-        go of_dom t k h = q.there (element t) (element_made t h)
-        go of_ran t k h = absurd (y k)
-        go of_element t k h = absurd (z k)
-        go of_elements t k h = absurd (u k)
-        go of_source t k h = q.there (element t) (element_made t h)
-
-  pub inner_has : (p : ℕ) → CanMake s at c → InnerAt s at c p → HasType s p
-  inner_has p w v = (inner w.0 w.1, v.there w.0 w.1 w.2 w.3)
-
--- ---- `put_type` and `put_expression`
-power_code_lem : (m : Mode) → power_code (mode_code m) ≡ powered m
-power_code_lem whole = refl
-power_code_lem of_dom = refl
-power_code_lem of_ran = refl
-power_code_lem of_element = refl
-power_code_lem of_elements = refl
-power_code_lem of_source = refl
-
-pub power_rest : (c : ℕ) → (c ≡ 1 → ⊥) → (c ≡ 2 → ⊥) → false ≡ power_code c
-power_rest zero a b = refl
-power_rest (suc zero) a b = absurd (a refl)
-power_rest (suc (suc zero)) a b = absurd (b refl)
-power_rest (suc (suc (suc c))) a b = refl
-
-made_power : (m : Mode) (t : Ty) → powered m ≡ true → made m t ≡ pow (inner m t)
+made_power : (m : Mode) (t : Ty) → powered m ≡ true → pow (inner m t) ≡ made m t
 made_power whole t e = true_not e
 made_power of_dom t e = refl
 made_power of_ran t e = refl
@@ -192,7 +163,7 @@ made_power of_element t e = true_not e
 made_power of_elements t e = true_not e
 made_power of_source t e = true_not e
 
-made_plain : (m : Mode) (t : Ty) → powered m ≡ false → made m t ≡ inner m t
+made_plain : (m : Mode) (t : Ty) → powered m ≡ false → inner m t ≡ made m t
 made_plain whole t e = refl
 made_plain of_dom t e = true_not (sym e)
 made_plain of_ran t e = true_not (sym e)
@@ -200,44 +171,35 @@ made_plain of_element t e = refl
 made_plain of_elements t e = refl
 made_plain of_source t e = refl
 
-between_type : (s : List ℕ) (p e : ℕ) (t : Ty) → TypeEnd s p e → TypeAt s p t → between s p e ≡ enc_ty t
-between_type s p e t l h = between_span s p e (enc_ty t) (subst (λ (q : ℕ). Spans s p q (enc_ty t)) (sym (l.end t h)) h)
-
 pow_type_bytes : (t : Ty) → (3 ∷ []) ++ enc_ty t ≡ enc_ty (pow t)
 unfolding enc_ty
 pow_type_bytes t = refl
 
-module _ (s : List ℕ) (at c p : ℕ) (b : Bool) (v : InnerAt s at c p) (says : b ≡ power_code c) (o : List ℕ) (n : ℕ) where
-  says_powered : (m : Mode) → c ≡ mode_code m → powered m ≡ b
-  says_powered m k = sym (says ∙ ap power_code k ∙ power_code_lem m)
+-- a type's bytes, as `to_expression` asks for them
+pub type_stands : (s : List ℕ) → IsType s → HasType s 0
+type_stands s h = (h.0, type_at h.0 (subst (λ (l : List ℕ). Spans s 0 (length s) l) h.1 (span_whole s)))
 
-  pub type_power : (e : ℕ) (q : List ℕ) (i : ℕ) (z : List ℕ) (j : ℕ) → TypeEnd s p e → b ≡ true → Puts o n q i (3 ∷ []) → Puts q i z j (between s p e)
-      → MadeType s at c o n z j
-  type_power e q i z j l is x y = record {
-    puts = λ m t k h. (let u = inner m t in
-        puts_as o n z j _ _
-        (ap (λ (ys : List ℕ). (3 ∷ []) ++ ys) (between_type s p e u l (v.there m t k h)) ∙ pow_type_bytes u ∙ ap enc_ty
-        (sym (made_power m t (says_powered m k ∙ is))))
-        (puts_then o n q i z j _ _ x y));
+module _ (s r : List ℕ) (m : Mode) (v : PartOf (inner m) s r) (o q : Option (List ℕ)) where
+  pub type_power : (p : Option (List ℕ)) → powered m ≡ true → Puts o p (3 ∷ []) → Puts p q r → MadeType s m o q
+  type_power p e a b = record {
+    puts = λ t h. puts_as o q _ _
+        (ap (λ (l : List ℕ). (3 ∷ []) ++ l) (v.is t h) ∙ pow_type_bytes (inner m t) ∙ ap enc_ty (made_power m t e)) (puts_then o p q _ _ a b);
   }
 
-  pub type_plain : (e : ℕ) (z : List ℕ) (j : ℕ) → TypeEnd s p e → b ≡ false → Puts o n z j (between s p e) → MadeType s at c o n z j
-  type_plain e z j l nope x = record {
-    puts = λ m t k h. puts_as o n z j _ _
-        (between_type s p e (inner m t) l (v.there m t k h) ∙ ap enc_ty (sym (made_plain m t (says_powered m k ∙ nope)))) x;
+  pub type_plain : powered m ≡ false → Puts o q r → MadeType s m o q
+  type_plain e a = record { puts = λ t h. puts_as o q _ _ (v.is t h ∙ ap enc_ty (made_plain m t e)) a }
+
+  stands_as : (t : Ty) → s ≡ enc_ty t → TypeAt r 0 (inner m t)
+  stands_as t h = type_at (inner m t) (subst (λ (l : List ℕ). Spans r 0 (length r) l) (v.is t h) (span_whole r))
+
+  pub expression_power : (p : Option (List ℕ)) (k : ℕ) → powered m ≡ true → Puts o p (enc_number 2 752) → Expressed r 0 p q k → MadeExpression s m o q
+  expression_power p k e a b = record {
+    puts = λ t h. (let u = inner m t in
+        puts_as o q _ _ (pow_bytes u ∙ ap (λ (x : Ty). enc (to_expression x)) (made_power m t e))
+        (puts_then o p q _ _ a (b.puts u (stands_as t h))));
   }
 
-  pub expression_power : (q : List ℕ) (i : ℕ) (z : List ℕ) (w : Written) → b ≡ true → Puts o n q i (enc_number 2 752) → Expressed s p q i z w
-      → MadeExpression s at c o n z w.cursor
-  expression_power q i z w is x y = record {
-    puts = λ m t k h. (let u = inner m t in
-        puts_as o n z w.cursor _ _
-        (pow_bytes u ∙ ap (λ (a : Ty). enc (to_expression a)) (sym (made_power m t (says_powered m k ∙ is))))
-        (puts_then o n q i z w.cursor _ _ x (y.puts u (v.there m t k h))));
-  }
-
-  pub expression_plain : (z : List ℕ) (w : Written) → b ≡ false → Expressed s p o n z w → MadeExpression s at c o n z w.cursor
-  expression_plain z w nope y = record {
-    puts = λ m t k h. puts_as o n z w.cursor _ _
-        (ap (λ (a : Ty). enc (to_expression a)) (sym (made_plain m t (says_powered m k ∙ nope)))) (y.puts (inner m t) (v.there m t k h));
+  pub expression_plain : (k : ℕ) → powered m ≡ false → Expressed r 0 o q k → MadeExpression s m o q
+  expression_plain k e b = record {
+    puts = λ t h. puts_as o q _ _ (ap (λ (x : Ty). enc (to_expression x)) (made_plain m t e)) (b.puts (inner m t) (stands_as t h));
   }

@@ -1,211 +1,159 @@
-// A right side's byte program is run over the operands, their types and the binders as they stand in the buffers: part by part.
+// A right side is put together from its parts: from the operands, their types and the binders.
 #![tactic(auto)]
 
-ghost use Rattle.std.specs.Prelude.{◌≡◌, ◌≤◌, ◌<◌, length};
-ghost use Rattle.typing.specs.Typing.{element, first, second};
+ghost use Rattle.std.specs.Prelude.{◌≡◌, ◌<◌};
+ghost use Rattle.typing.specs.Typing.{element};
 ghost use Rattle.put.specs.Out.{Puts};
-ghost use Rattle.put.specs.Copied.{between};
-ghost use Rattle.parts.specs.Holds.{from_of, end_of, type_of_operand, HasParts, PartAt, CanMake, power_code, InnerAt, MadeType, MadeExpression, PartReady, PartPut, size_of, Ready, Ran, Fillable, Filled};
+ghost use Rattle.programs.specs.Parts.{number_of, mode_of, parts_of};
 ghost use Rattle.templates.specs.Programs.{template};
+ghost use Rattle.parts.specs.Holds.{subtree_of, type_of, side_of, inner, powered, IsType, PartOf, MadeType, MadeExpression, PartReady, PartPut, Ready, Fillable, Filled};
 
+use frame::operators::{EMPTYSET, EQUAL, POW};
 use heads::type_end;
-use programs::program_of;
+use programs::{Made, Operand, Part, program_of};
+use put::Writer;
 use put::type_expression::to_expression;
-use put::{put_byte, put_copy, put_word};
 
-// Where the operands stand in the frame, where the bytes of their types stand, and where the binders' count and types stand.
+// What a right side is filled with: the operands' bytes and those of their types, and the binders' count and types.
 #[derive(Clone, Copy)]
-pub struct Ranges {
-    pub first: usize,
-    pub first_end: usize,
-    pub second: usize,
-    pub second_end: usize,
-    pub first_type: usize,
-    pub second_type: usize,
-    pub binders: usize,
-    pub binders_end: usize,
+pub struct Operands<'a> {
+    pub first: &'a [u8],
+    pub second: &'a [u8],
+    pub first_type: &'a [u8],
+    pub second_type: &'a [u8],
+    pub binders: &'a [u8],
 }
 
-// Where BOOL stands in the buffer of types.
-const BOOL_AT: usize = 128;
+impl Operands<'_> {
+    fn subtree(&self, which: Operand) -> &[u8]
+        ensures { result.now ≡ subtree_of self.now (number_of which) }
+    {
+        match which {
+            Operand::First => self.first,
+            Operand::Second => self.second,
+        }
+    }
 
-// The mode's types are powers: of dom(r) and of ran(r).
-fn is_power(m: u8) -> bool
-    ensures { result ≡ power_code m }
-{
-    match m {
-        1 => true,
-        2 => true,
-        _ => false,
+    fn type_of(&self, which: Operand) -> &[u8]
+        ensures { result.now ≡ type_of self.now (number_of which) }
+    {
+        match which {
+            Operand::First => self.first_type,
+            Operand::Second => self.second_type,
+        }
     }
 }
 
-// Where the elements' type stands of the type at `at`, and where the first and the second type of a product stand. Of a type
-// that has no such part it is BOOL, as in the definitions of typing.
-fn element_at(types: &[u8], at: usize) -> usize
-    requires { HasParts types.now at }
-    ensures { PartAt element types.now at result }
+// The bytes of BOOL, which is the part of a type that has no such part, as in the definitions of typing.
+const BOOL_TYPE: &[u8] = &[0];
+
+// The type of a type's elements.
+fn element(t: &[u8]) -> &[u8]
+    requires { IsType t.now }
+    ensures { PartOf element t.now result.now }
 {
-    if types[at] == 3 {
-        return at + 1;
+    // Kept: 3 and, below, 4 are the bytes that a frame has for ℙ and ×, as in `to_expression`.
+    if t[0] == 3 {
+        return &t[1..];
     }
-    BOOL_AT
+    BOOL_TYPE
 }
 
-fn first_at(types: &[u8], at: usize) -> usize
-    requires { HasParts types.now at }
-    ensures { PartAt first types.now at result }
+// The first or the second type of a product.
+fn side(t: &[u8], which: Operand) -> &[u8]
+    requires { IsType t.now }
+    ensures { PartOf (side_of which) t.now result.now }
 {
-    if types[at] == 4 {
-        return at + 1;
+    if t[0] != 4 {
+        return BOOL_TYPE;
     }
-    BOOL_AT
-}
-
-fn second_at(types: &[u8], at: usize) -> usize
-    requires { HasParts types.now at }
-    ensures { PartAt second types.now at result }
-{
-    if types[at] == 4 {
-        return type_end(types, at + 1);
-    }
-    BOOL_AT
-}
-
-// Where the type stands that is made from the type at `at`; for a power, the type of its elements.
-fn inner_at(types: &[u8], at: usize, m: u8) -> usize
-    requires { CanMake types.now at m }
-    ensures { InnerAt types.now at m result }
-{
-    let e = element_at(types, at);
-    match m {
-        0 => at,
-        2 => second_at(types, e),
-        3 => e,
-        4 => element_at(types, e),
-        _ => first_at(types, e),
+    let end = type_end(t, 1);
+    match which {
+        Operand::First => &t[1..end],
+        Operand::Second => &t[end..],
     }
 }
 
-fn put_type(types: &[u8], at: usize, m: u8, out: &mut [u8; 4096], n: usize) -> usize
-    requires { CanMake types.now at m }
-    ensures { MadeType types.now at m out.old n out.new result }
+// The type that is made from an operand's; where that is a power, the type of its elements.
+fn inner(t: &[u8], made: Made) -> &[u8]
+    requires { IsType t.now }
+    ensures { PartOf (inner (mode_of made)) t.now result.now }
 {
-    let p = inner_at(types, at, m);
-    let e = type_end(types, p);
-    if is_power(m) {
-        let k = put_byte(out, n, 3);
-        return put_copy(out, k, types, p, e);
-    }
-    put_copy(out, n, types, p, e)
-}
-
-fn put_expression(types: &[u8], at: usize, m: u8, out: &mut [u8; 4096], n: usize) -> usize
-    requires { CanMake types.now at m }
-    ensures { MadeExpression types.now at m out.old n out.new result }
-{
-    let p = inner_at(types, at, m);
-    if is_power(m) {
-        let k = put_word(out, n, 752);
-        let w = to_expression(types, p, out, k);
-        return w.cursor;
-    }
-    let w = to_expression(types, p, out, n);
-    w.cursor
-}
-
-fn put_operand(s: &[u8], r: Ranges, i: u8, out: &mut [u8; 4096], n: usize) -> usize
-    requires { (from_of r i ≤ end_of r i) × (end_of r i ≤ length s.now) }
-    ensures { Puts out.old n out.new result (between s.now (from_of r i) (end_of r i)) }
-{
-    if i == 0 {
-        return put_copy(out, n, s, r.first, r.first_end);
-    }
-    put_copy(out, n, s, r.second, r.second_end)
-}
-
-fn type_of(r: Ranges, i: u8) -> usize
-    ensures { result ≡ type_of_operand r i }
-{
-    if i == 0 {
-        return r.first_type;
-    }
-    r.second_type
-}
-
-// The step of the program g at `at`.
-fn put_part(
-    g: &[u8],
-    at: usize,
-    s: &[u8],
-    types: &[u8],
-    r: Ranges,
-    out: &mut [u8; 4096],
-    n: usize,
-) -> usize
-    requires { PartReady g.now at s.now types.now r }
-    ensures { PartPut g.now at s.now types.now r out.old n out.new result }
-{
-    let op = g[at];
-    match op {
-        1 => put_copy(out, n, g, at + 1, at + 3),
-        2 => put_copy(out, n, g, at + 1, at + 2),
-        3 => put_operand(s, r, g[at + 1], out, n),
-        4 => put_type(types, type_of(r, g[at + 2]), g[at + 1], out, n),
-        5 => put_expression(types, type_of(r, g[at + 2]), g[at + 1], out, n),
-        _ => put_copy(out, n, s, r.binders, r.binders_end),
+    match made {
+        Made::Whole => t,
+        Made::Domain | Made::Source => side(element(t), Operand::First),
+        Made::Range => side(element(t), Operand::Second),
+        Made::Element => element(t),
+        Made::Elements => element(element(t)),
     }
 }
 
-// How many bytes a step has.
-fn size_of(op: u8) -> usize
-    ensures { result ≡ size_of op }
+// Whether it is a power: that of a domain or a range is.
+fn is_power(made: Made) -> bool
+    ensures { result ≡ powered (mode_of made) }
 {
-    match op {
-        1 => 3,
-        2 => 2,
-        3 => 2,
-        4 => 3,
-        5 => 3,
-        _ => 1,
+    matches!(made, Made::Domain | Made::Range)
+}
+
+fn put_type(t: &[u8], made: Made, out: &mut Writer)
+    requires { IsType t.now }
+    ensures { MadeType t.now (mode_of made) out.old out.new }
+{
+    if is_power(made) {
+        out.put_byte(3);
+    }
+    out.put_copy(inner(t, made));
+}
+
+fn put_expression(t: &[u8], made: Made, out: &mut Writer)
+    requires { IsType t.now }
+    ensures { MadeExpression t.now (mode_of made) out.old out.new }
+{
+    if is_power(made) {
+        out.put_word(POW);
+    }
+    to_expression(inner(t, made), 0, out);
+}
+
+fn put_part(part: Part, operands: &Operands<'_>, out: &mut Writer)
+    requires { PartReady part operands.now }
+    ensures { PartPut part operands.now out.old out.new }
+{
+    match part {
+        Part::Tag(tag) => out.put_word(tag),
+        Part::Count(count) => out.put_byte(count),
+        Part::Subtree(which) => out.put_copy(operands.subtree(which)),
+        Part::Type(made, which) => put_type(operands.type_of(which), made, out),
+        Part::Expression(made, which) => put_expression(operands.type_of(which), made, out),
+        Part::Binders => out.put_copy(operands.binders),
+        Part::Empty(which) => {
+            out.put_word(EQUAL);
+            out.put_copy(operands.subtree(which));
+            out.put_word(EMPTYSET);
+            put_type(operands.type_of(which), Made::Whole, out);
+        }
+        Part::Full(which) => {
+            out.put_word(EQUAL);
+            out.put_copy(operands.subtree(which));
+            put_expression(operands.type_of(which), Made::Element, out);
+        }
     }
 }
 
-// The program of g at `start`, to its end.
-fn run_program(
-    g: &[u8],
-    start: usize,
-    s: &[u8],
-    types: &[u8],
-    r: Ranges,
-    out: &mut [u8; 4096],
-    n: usize,
-) -> usize
-    requires { Ready g.now start s.now types.now r }
-    ensures { Ran g.now start s.now types.now r out.old n out.new result }
+// The parts, one after the other.
+fn run_program(program: &[Part], operands: &Operands<'_>, out: &mut Writer)
+    requires { Ready (parts_of program.now) operands.now }
+    ensures { Filled (parts_of program.now) operands.now out.old out.new }
 {
-    let mut at = start;
-    let mut m = n;
-    while g[at] != 0 {
-        m = put_part(g, at, s, types, r, out, m);
-        at += size_of(g[at]);
+    for &part in program {
+        put_part(part, operands, out);
     }
-    m
 }
 
 // The right side of a place, filled.
-pub fn fill_template(
-    place: usize,
-    s: &[u8],
-    types: &[u8],
-    r: Ranges,
-    out: &mut [u8; 4096],
-    n: usize,
-) -> usize
-    requires { (place < 88) × Fillable (template place) s.now types.now r }
-    ensures { Filled (template place) s.now types.now r out.old n out.new result }
+pub fn fill_template(place: usize, operands: &Operands<'_>, out: &mut Writer)
+    requires { (place < 88) × Fillable (template place) operands.now }
+    ensures { Filled (template place) operands.now out.old out.new }
 {
-    let program = program_of(place);
-    let bytes = program.bytes;
-    run_program(&bytes, program.start, s, types, r, out, n)
+    run_program(program_of(place), operands, out);
 }

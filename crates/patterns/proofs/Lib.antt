@@ -1,3 +1,3 @@
-mod MatchTurns
-mod PairTurns
-mod JudgeTurns
+pub mod MatchTurns
+pub mod PairTurns
+pub mod JudgeTurns

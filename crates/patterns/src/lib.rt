@@ -2,196 +2,129 @@
 // makes the type of the node.
 #![tactic(auto)]
 
-ghost use Rattle.std.specs.Prelude.{List, ℕ, ◌<◌};
+ghost use Rattle.std.specs.Prelude.{◌<◌};
 ghost use Rattle.frame.specs.Tags.{class_of};
-ghost use Rattle.type_rules.specs.Patterns.{Rule, rule_at};
-ghost use Rattle.type_rules.specs.RuleNumbers.{Packed, RowOf};
-ghost use Rattle.results.specs.ResultPosts.{Slots};
+ghost use Rattle.type_rules.specs.Patterns.{rule_at};
+ghost use Rattle.type_rules.specs.CodeRules.{numbers, rule_for};
 ghost use Rattle.patterns.specs.PatternPosts.{VariablePost, MatchPre, MatchPost, PairsPre, PairsPost, OperandsPost, JudgePre, JudgePost};
 
 use copies::copy_within;
 use heads::type_end;
-use octets::{same_bytes, wide};
-use results::{Filled, PATTERN_END, VARIABLES, fill_result};
-use type_rules::{pattern, rule_row};
+use octets::same_bytes;
+use results::{Bindings, Span, fill_result};
+use type_rules::{Rule, Symbol, rule_of};
 
-// In a pattern the numbers from here on stand for nothing.
-const SYMBOLS: usize = 9;
-
-// The type of a node: how many bytes it has, at the buffer's start or where its operands' types stood; or a rule is broken.
-#[derive(Drop)]
-pub enum Typed {
-    Is(usize),
-    Bad,
-}
-
-// Where the type ends that a variable stands for and how many variables are bound then, or that another type stands there.
-#[derive(Drop)]
-enum Part {
-    To(usize, usize),
-    Differs,
-}
-
-// How many variables are bound, or that a type is not what the pattern asks for.
-#[derive(Drop)]
-enum Fit {
-    Fits(usize),
-    Differs,
-}
-
-// Where the last operand's type starts, or that two in a row are not what the pattern asks for.
-#[derive(Drop)]
-enum Pairs {
-    Last(usize),
-    Differ,
-}
-
-// A variable at the first of the types that stand from `at` up to n, with k variables bound: one that is bound stands for the type that
-// it has, and the next to be bound for the type that is there.
+// Kept: `types` and n as two parameters here: a slice up to n is no plainer, since the spans in `bindings` are places of the whole buffer.
+// A variable at the first of the types that stand from `at` up to n: one that is bound stands for the type that it has, and the next to
+// be bound for the type that is there. Where that type ends, if it is the variable's.
 fn match_variable(
-    v: usize,
+    variable: usize,
     types: &[u8],
     at: usize,
     n: usize,
-    starts: &mut [usize; 4],
-    ends: &mut [usize; 4],
-    k: usize,
-) -> Part
-    requires { MatchPre types.now at n starts.old ends.old k × (at < n) × (v < 4) }
-    ensures { VariablePost v types.now at n starts.old ends.old k starts.new ends.new result }
+    bindings: &mut Bindings,
+) -> Option<usize>
+    requires { MatchPre types.now at n bindings.old × (at < n) × (variable < 4) }
+    ensures { VariablePost variable types.now at n bindings.old bindings.new result }
 {
-    if v < k {
-        let from = starts[v];
-        let len = ends[v] - from;
+    if let Some(span) = bindings.get(variable) {
+        let len = span.end - span.start;
         if n - at < len {
-            return Part::Differs;
+            return None;
         }
-        if !same_bytes(types, from, at, len) {
-            return Part::Differs;
+        if !same_bytes(types, span.start, at, len) {
+            return None;
         }
-        return Part::To(at + len, k);
+        return Some(at + len);
     }
-    if k < v {
-        return Part::Differs;
+    if !bindings.is_next(variable) {
+        return None;
     }
-    let e = type_end(types, at);
-    starts[v] = at;
-    ends[v] = e;
-    Part::To(e, k + 1)
+    let end = type_end(types, at);
+    bindings.bind(Span { start: at, end });
+    Some(end)
 }
 
-// The pattern of a word, at the types that stand from `start` up to n. The variables below `bound` are bound: their types stand in the
-// buffer from `starts` up to `ends`.
+// The pattern, at the types that stand from `start` up to n, with the variables that are bound already: None where another type stands
+// than it asks for.
 fn match_pattern(
-    pattern: usize,
+    pattern: &[Symbol],
     types: &[u8],
     start: usize,
     n: usize,
-    starts: &mut [usize; 4],
-    ends: &mut [usize; 4],
-    bound: usize,
-) -> Fit
-    requires { MatchPre types.now start n starts.old ends.old bound }
-    ensures { (ps : List ℕ) → Packed ps pattern → MatchPost ps types.now start n starts.old ends.old bound starts.new ends.new result }
+    bindings: &mut Bindings,
+) -> Option<()>
+    requires { MatchPre types.now start n bindings.old }
+    ensures { MatchPost (numbers pattern.now) types.now start n bindings.old bindings.new result }
 {
-    let mut p = pattern;
     let mut at = start;
-    let mut k = bound;
-    loop {
-        let b = p % 16;
-        if b == PATTERN_END {
-            return Fit::Fits(k);
-        }
+    for &symbol in pattern {
         if n <= at {
-            return Fit::Differs;
+            return None;
         }
-        p /= 16;
-        if b < VARIABLES {
-            if wide(types[at]) != b {
-                return Fit::Differs;
+        let Some(variable) = symbol.variable() else {
+            if types[at] != symbol.byte() {
+                return None;
             }
             at += 1;
             continue;
-        }
-        if SYMBOLS <= b {
-            return Fit::Differs;
-        }
-        let part = match_variable(b - VARIABLES, types, at, n, starts, ends, k);
-        let Part::To(end, more) = part else {
-            return Fit::Differs;
         };
-        at = end;
-        k = more;
+        at = match_variable(variable, types, at, n, bindings)?;
     }
+    Some(())
 }
 
-// Each two of the types that stand in a row from `start` up to n match the pattern of the word p.
+// Each two of the types that stand in a row from `start` up to n match the pattern: where the last of them starts.
 fn match_pairs(
-    p: usize,
+    pattern: &[Symbol],
     types: &[u8],
     start: usize,
     n: usize,
-    starts: &mut [usize; 4],
-    ends: &mut [usize; 4],
-) -> Pairs
-    requires { PairsPre p types.now start n starts.old ends.old }
-    ensures { (ps : List ℕ) → Packed ps p → PairsPost ps types.now start n starts.old ends.old starts.new ends.new result }
+    bindings: &mut Bindings,
+) -> Option<usize>
+    requires { PairsPre types.now start n }
+    ensures { PairsPost (numbers pattern.now) types.now start n result }
 {
     let mut at = start;
     while at < n {
-        let e = type_end(types, at);
-        if n <= e {
-            return Pairs::Last(at);
+        let end = type_end(types, at);
+        if n <= end {
+            return Some(at);
         }
-        let f = match_pattern(p, types, at, n, starts, ends, 0);
-        let Fit::Fits(_k) = f else {
-            return Pairs::Differ;
-        };
-        at = e;
+        bindings.clear();
+        match_pattern(pattern, types, at, n, bindings)?;
+        at = end;
     }
-    Pairs::Last(at)
+    Some(at)
 }
 
-// The rule of a row of patterns (specs/RuleNumbers.antt of type_rules) at the types of the operands, which stand from `from` up to n: how
-// many variables are bound.
+// The patterns of a rule at the types of the operands, which stand from `from` up to n: the variables that its result needs are bound.
 fn match_operands(
-    row: usize,
+    rule: &Rule,
     types: &[u8],
     from: usize,
     n: usize,
-    starts: &mut [usize; 4],
-    ends: &mut [usize; 4],
-) -> Fit
-    requires { JudgePre types.now from n × Slots starts.old ends.old × ((R : Rule) × RowOf R row) }
-    ensures { (R : Rule) → RowOf R row → OperandsPost R types.now from n starts.new ends.new result }
+    bindings: &mut Bindings,
+) -> Option<()>
+    requires { JudgePre types.now from n }
+    ensures { OperandsPost (rule_for rule.now) types.now from n bindings.new result }
 {
-    let pairs = match_pairs(pattern(row % 256), types, from, n, starts, ends);
-    let Pairs::Last(last) = pairs else {
-        return Fit::Differs;
-    };
-    let first = match_pattern(pattern(row / 256 % 256), types, from, n, starts, ends, 0);
-    let Fit::Fits(k) = first else {
-        return Fit::Differs;
-    };
-    match_pattern(pattern(row / 65536 % 256), types, last, n, starts, ends, k)
+    let last = match_pairs(rule.pair, types, from, n, bindings)?;
+    bindings.clear();
+    match_pattern(rule.first, types, from, n, bindings)?;
+    match_pattern(rule.last, types, last, n, bindings)
 }
 
-// The rule of a tag at the types of the operands, which stand from `from` up to n. The type of the node is left from `from` on.
-pub fn judge_types(tag: usize, types: &mut [u8], from: usize, n: usize) -> Typed
+// The rule of a tag at the types of the operands, which stand from `from` up to n. The type of the node is left from `from` on: where it
+// ends, or None where the rule is broken.
+pub fn judge_types(tag: usize, types: &mut [u8], from: usize, n: usize) -> Option<usize>
     requires { JudgePre types.old from n }
     ensures { JudgePost (rule_at (class_of tag)) types.old from n types.new result }
 {
-    let row = rule_row(tag);
-    let mut starts = [0usize; 4];
-    let mut ends = [0usize; 4];
-    let fit = match_operands(row, types, from, n, &mut starts, &mut ends);
-    let Fit::Fits(k) = fit else {
-        return Typed::Bad;
-    };
-    let filled = fill_result(pattern(row / 16777216), types, n, &starts, &ends, k);
-    let Filled::To(m) = filled else {
-        return Typed::Bad;
-    };
+    let rule = rule_of(tag);
+    let mut bindings = Bindings::new();
+    match_operands(&rule, types, from, n, &mut bindings)?;
+    let m = fill_result(rule.result, types, n, &bindings)?;
     copy_within(types, n, m, from);
-    Typed::Is(from + (m - n))
+    Some(from + (m - n))
 }

@@ -1,4 +1,5 @@
 -- The ways out of rewrite_finite and finite_restricted_at of src/finite.rt: a law over the tags for each shape of a right side.
+use Rattle.std.proofs.Common.{Option, Some, None}
 use mathlib.Core.Path.{◌≡◌, refl, sym, ap, ◌∙◌}
 use mathlib.Core.Bool.{true}
 use mathlib.Core.List.{List, [], ◌∷◌}
@@ -73,7 +74,7 @@ module _ (s st nx : List ℕ) (k tag : ℕ) (pt : TagPost s st k tag) where
               ap (found h.Γ) o.is;
         }
 
-    pub finite_set : (r : Decision) → SetPost s st nx k r → Decides rewrite_finite s st nx k r
+    pub finite_set : (r : Option Decision) → SetPost s st nx k r → Decides rewrite_finite s st nx k r
     unfolding on_tag rewrite_finite
     finite_set r post =
         record {
@@ -89,7 +90,7 @@ module _ (s st nx : List ℕ) (k tag : ℕ) (pt : TagPost s st k tag) where
     unfolding lookup class_of form_at
     restricted_here = two_here s st nx k tag pt 217 key expression expression (λ x. refl) j ej
 
-    pub finite_restricted_lem : (r : Decision) → DecidesTwo finite_restricted s st nx (k + 1) j r → Decides rewrite_finite s st nx k r
+    pub finite_restricted_lem : (r : Option Decision) → DecidesTwo finite_restricted s st nx (k + 1) j r → Decides rewrite_finite s st nx k r
     unfolding on_tag lookup class_of form_at rewrite_finite
     finite_restricted_lem =
         by_two s st nx k tag pt 217 key expression expression (λ x. refl) j ej rewrite_finite finite_restricted
@@ -97,9 +98,9 @@ module _ (s st nx : List ℕ) (k tag : ℕ) (pt : TagPost s st k tag) where
 
   pub finite_none : (tag ≡ 407 → ⊥) → (tag ≡ 402 → ⊥) → (tag ≡ 403 → ⊥) → (tag ≡ 401 → ⊥) → (tag ≡ 404 → ⊥) → (tag ≡ 412 → ⊥)
       → (tag ≡ 5 → ⊥) → (tag ≡ 301 → ⊥) → (tag ≡ 752 → ⊥) → (tag ≡ 214 → ⊥) → (tag ≡ 763 → ⊥) → (tag ≡ 221 → ⊥) → (tag ≡ 803 → ⊥)
-      → (tag ≡ 217 → ⊥) → (tag ≡ 410 → ⊥) → (tag ≡ 411 → ⊥) → Decides rewrite_finite s st nx k D.Rests
+      → (tag ≡ 217 → ⊥) → (tag ≡ 410 → ⊥) → (tag ≡ 411 → ⊥) → Decides rewrite_finite s st nx k None
   unfolding on_tag rewrite_finite
-  finite_none h0 h1 h2 h3 h4 h5 h6 h7 h8 h9 h10 h11 h12 h13 h14 h15 = by_rest rewrite_finite s st nx k tag pt (λ Γ v. rest Γ v) D.Rests refl
+  finite_none h0 h1 h2 h3 h4 h5 h6 h7 h8 h9 h10 h11 h12 h13 h14 h15 = by_rest rewrite_finite s st nx k tag pt (λ Γ v. rest Γ v) None refl
     where
       rest : (Γ : Ctx) (v : Tree) → tag_of v ≡ tag → rewrite_finite Γ v ≡ same
       rest Γ (node (head o n us) ks) z = rw z (simp (
@@ -125,21 +126,21 @@ module _ (s st nx : List ℕ) (k tag : ℕ) (pt : TagPost s st k tag) where
 -- ---- finite(S ◁ r), where r is id, prj1 or prj2
 module _ (s st nx : List ℕ) (a b tag : ℕ) (pt : TagPost s st b tag) where
   pub restricted_12 : (g : ℕ) → tag ≡ g → ((v w : Tree) → tag_of w ≡ g → finite_restricted v w ≡ to 12 (finite v))
-      → (r : Decision) → r ≡ D.Fixed 12 12 a a a → DecidesTwo finite_restricted s st nx a b r
+      → (r : Option Decision) → r ≡ Some (D.Fixed 12 12 a a a) → DecidesTwo finite_restricted s st nx a b r
   unfolding side
   restricted_12 g key ans = on_left finite_restricted s st nx a b 12 refl refl
       (λ t n Γ v w tb fa fb. ans v w (sym (pt.tag t n Γ w tb.framed fb) ∙ key))
 
-  pub restricted_412 : tag ≡ 412 → (r : Decision) → r ≡ D.Fixed 12 12 a a a → DecidesTwo finite_restricted s st nx a b r
+  pub restricted_412 : tag ≡ 412 → (r : Option Decision) → r ≡ Some (D.Fixed 12 12 a a a) → DecidesTwo finite_restricted s st nx a b r
   restricted_412 key = restricted_12 412 key (λ v w z. rw z)
 
-  pub restricted_410 : tag ≡ 410 → (r : Decision) → r ≡ D.Fixed 12 12 a a a → DecidesTwo finite_restricted s st nx a b r
+  pub restricted_410 : tag ≡ 410 → (r : Option Decision) → r ≡ Some (D.Fixed 12 12 a a a) → DecidesTwo finite_restricted s st nx a b r
   restricted_410 key = restricted_12 410 key (λ v w z. rw z)
 
-  pub restricted_411 : tag ≡ 411 → (r : Decision) → r ≡ D.Fixed 12 12 a a a → DecidesTwo finite_restricted s st nx a b r
+  pub restricted_411 : tag ≡ 411 → (r : Option Decision) → r ≡ Some (D.Fixed 12 12 a a a) → DecidesTwo finite_restricted s st nx a b r
   restricted_411 key = restricted_12 411 key (λ v w z. rw z)
 
-  pub restricted_none : (tag ≡ 412 → ⊥) → (tag ≡ 410 → ⊥) → (tag ≡ 411 → ⊥) → DecidesTwo finite_restricted s st nx a b D.Rests
+  pub restricted_none : (tag ≡ 412 → ⊥) → (tag ≡ 410 → ⊥) → (tag ≡ 411 → ⊥) → DecidesTwo finite_restricted s st nx a b None
   restricted_none p q o =
       record {
         means = λ t n Γ v w tb fa fb x Ξ kept.

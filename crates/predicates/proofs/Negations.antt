@@ -1,5 +1,6 @@
 -- The ways out of src/negation.rt.
 -- Main results: unequal_20 to unequal_23, unequal_none; not_compared, not_equal, not_none (on what is negated); not_other, of_inner.
+use Rattle.std.proofs.Common.{Option, Some, None}
 use mathlib.Core.Path.{◌≡◌, refl, sym, ◌∙◌}
 use mathlib.Core.Bool.{true}
 use mathlib.Core.List.{List, [], ◌∷◌}
@@ -46,16 +47,16 @@ module _ (v w : Tree) where
     ans_none p q = rw (ne_eqb (tag_of w) 406 x, ne_eqb (tag_of w) 405 y, ne_eqb (tag_of v) 406 p, ne_eqb (tag_of v) 405 q)
 
 module _ (s st nx : List ℕ) (a b : ℕ) (right : ℕ) (pr : TagPost s st b right) where
-  pub unequal_20 : right ≡ 406 → (r : Decision) → r ≡ D.Fixed 20 20 a a a → DecidesTwo unequal s st nx a b r
+  pub unequal_20 : right ≡ 406 → (r : Option Decision) → r ≡ Some (D.Fixed 20 20 a a a) → DecidesTwo unequal s st nx a b r
   unfolding side
   unequal_20 h = on_left unequal s st nx a b 20 refl refl (λ t n Γ v w tb fa fb. ans_20 v w (sym (pr.tag t n Γ w tb.framed fb) ∙ h))
 
-  pub unequal_21 : right ≡ 405 → (r : Decision) → r ≡ D.Fixed 21 21 a a a → DecidesTwo unequal s st nx a b r
+  pub unequal_21 : right ≡ 405 → (r : Option Decision) → r ≡ Some (D.Fixed 21 21 a a a) → DecidesTwo unequal s st nx a b r
   unfolding side
   unequal_21 h = on_left unequal s st nx a b 21 refl refl (λ t n Γ v w tb fa fb. ans_21 v w (sym (pr.tag t n Γ w tb.framed fb) ∙ h))
 
   module _ (h : right ≡ 406 → ⊥) (i : right ≡ 405 → ⊥) (left : ℕ) (pl : TagPost s st a left) where
-    pub unequal_22 : left ≡ 406 → (r : Decision) → r ≡ D.Fixed 22 22 b b a → DecidesTwo unequal s st nx a b r
+    pub unequal_22 : left ≡ 406 → (r : Option Decision) → r ≡ Some (D.Fixed 22 22 b b a) → DecidesTwo unequal s st nx a b r
     unfolding side
     unequal_22 j =
         on_right_at_left unequal s st nx a b 22 refl refl
@@ -63,7 +64,7 @@ module _ (s st nx : List ℕ) (a b : ℕ) (right : ℕ) (pr : TagPost s st b rig
         let y = pr.tag t n Γ w tb.framed fb in
         ans_22 v w (λ q. h (y ∙ q)) (λ q. i (y ∙ q)) (sym (pl.tag t n Γ v tb.framed fa) ∙ j))
 
-    pub unequal_23 : left ≡ 405 → (r : Decision) → r ≡ D.Fixed 23 23 b b a → DecidesTwo unequal s st nx a b r
+    pub unequal_23 : left ≡ 405 → (r : Option Decision) → r ≡ Some (D.Fixed 23 23 b b a) → DecidesTwo unequal s st nx a b r
     unfolding side
     unequal_23 j =
         on_right_at_left unequal s st nx a b 23 refl refl
@@ -71,7 +72,7 @@ module _ (s st nx : List ℕ) (a b : ℕ) (right : ℕ) (pr : TagPost s st b rig
         let y = pr.tag t n Γ w tb.framed fb in
         ans_23 v w (λ q. h (y ∙ q)) (λ q. i (y ∙ q)) (sym (pl.tag t n Γ v tb.framed fa) ∙ j))
 
-    pub unequal_none : (left ≡ 406 → ⊥) → (left ≡ 405 → ⊥) → DecidesTwo unequal s st nx a b D.Rests
+    pub unequal_none : (left ≡ 406 → ⊥) → (left ≡ 405 → ⊥) → DecidesTwo unequal s st nx a b None
     unequal_none j l =
         record {
           means = λ t n Γ v w tb fa fb x Ξ kept.
@@ -96,21 +97,21 @@ module _ (s st nx : List ℕ) (k tag : ℕ) (pt : TagPost s st k tag) where
     unfolding lookup class_of form_at
     equation_here key = two_here s st nx k tag pt 101 key expression expression (λ x. refl) j ej
 
-    pub not_equal : tag ≡ 101 → (r : Decision) → DecidesTwo unequal s st nx (k + 1) j r → DecidesOne rewrite_not_inner s st nx k r
+    pub not_equal : tag ≡ 101 → (r : Option Decision) → DecidesTwo unequal s st nx (k + 1) j r → DecidesOne rewrite_not_inner s st nx k r
     unfolding on_tag lookup class_of form_at
     not_equal key = by_two s st nx k tag pt 101 key expression expression (λ x. refl) j ej (λ Γ. rewrite_not_inner) unequal (λ Γ n us a b. refl)
 
   -- (The tag that is tested last comes first.)
-  pub not_none : Unlike tag (101 ∷ 103 ∷ 105 ∷ 106 ∷ 104 ∷ []) → DecidesOne rewrite_not_inner s st nx k D.Rests
+  pub not_none : Unlike tag (101 ∷ 103 ∷ 105 ∷ 106 ∷ 104 ∷ []) → DecidesOne rewrite_not_inner s st nx k None
   unfolding on_tag
-  not_none (((((none, le), ge), gt), lt), equal) = by_rest (λ Γ. rewrite_not_inner) s st nx k tag pt (λ Γ v. rest v) D.Rests refl
+  not_none (((((none, le), ge), gt), lt), equal) = by_rest (λ Γ. rewrite_not_inner) s st nx k tag pt (λ Γ v. rest v) None refl
     where
       rest : (v : Tree) → tag_of v ≡ tag → rewrite_not_inner v ≡ same
       rest (node (head o n us) ks) z = rw z (simp (ne_eqb tag 104 le, ne_eqb tag 106 ge, ne_eqb tag 105 gt, ne_eqb tag 103 lt, ne_eqb tag 101 equal))
 
 -- ---- at the ¬ itself
 module _ (s st nx : List ℕ) (k tag : ℕ) (pt : TagPost s st k tag) where
-  pub not_other : (tag ≡ 701 → ⊥) → DecidesOne rewrite_not s st nx k D.Rests
+  pub not_other : (tag ≡ 701 → ⊥) → DecidesOne rewrite_not s st nx k None
   unfolding rewrite_not
   not_other = by_other (λ Γ. rewrite_not) s st nx k tag pt 701 (λ Γ us ks. with1 ks rewrite_not_inner) (λ Γ v. refl)
 
@@ -119,6 +120,6 @@ module _ (s st nx : List ℕ) (k tag : ℕ) (pt : TagPost s st k tag) where
     unfolding lookup class_of form_at
     inner_here = here_child s st nx k tag pt 701 key predicate (λ x. refl)
 
-    pub of_inner : (r : Decision) → DecidesOne rewrite_not_inner s st nx (k + 1) r → DecidesOne rewrite_not s st nx k r
+    pub of_inner : (r : Option Decision) → DecidesOne rewrite_not_inner s st nx (k + 1) r → DecidesOne rewrite_not s st nx k r
     unfolding rewrite_not on_tag lookup class_of form_at
     of_inner = by_child s st nx k tag pt 701 key predicate (λ x. refl) (λ Γ. rewrite_not) (λ Γ. rewrite_not_inner) (λ Γ n us a. refl)

@@ -1,5 +1,6 @@
 -- The ways out of `rewrite_partition`.
 -- Main results: part_14, part_15, part_none, part_other.
+use Rattle.std.proofs.Common.{Option, Some, None}
 use mathlib.Core.Path.{◌≡◌, refl, sym, ap, ◌∙◌}
 use mathlib.Core.List.{List, []}
 use Prim.Native.Nat.{ℕ, ◌+◌, ◌<◌}
@@ -24,12 +25,12 @@ use Rattle.decision.proofs.Shapes.{any, place_few, fixed_at, by_other}
 
 -- ---- partition(S), partition(S, T)
 module _ (s st nx : List ℕ) (k tag : ℕ) (pt : TagPost s st k tag) where
-  pub part_other : (tag ≡ 901 → ⊥) → Decides partition_of s st nx k D.Rests
+  pub part_other : (tag ≡ 901 → ⊥) → Decides partition_of s st nx k None
   part_other = by_other partition_of s st nx k tag pt 901 (λ Γ us ks. rewrite_partition Γ ks) (λ Γ v. refl)
 
   module _ (key : tag ≡ 901) (m : ℕ) (pm : ArityPost s st k m) where
     -- by the node's children
-    part : (r : Decision)
+    part : (r : Option Decision)
         → ((t : Tree) (n : ℕ) (Γ : Ctx) (i : ℕ) (us : List Ty) (ks : Forest) → Table s t st nx n
         → find t [] k ≡ found Γ (node (head 901 i us) ks) → m ≡ count ks
         → (w : Tree) (Ξ : Ctx) (kept : List ℕ) → Means t w Ξ kept r (rewrite_partition Γ ks))
@@ -43,7 +44,7 @@ module _ (s st nx : List ℕ) (k tag : ℕ) (pt : TagPost s st k tag) where
               rw o.is (go t n Γ o.n o.us o.ks tb fx (pm.many t n Γ (node (head 901 o.n o.us) o.ks) tb.framed fx) w Ξ kept);
         }
 
-    pub part_14 : m ≡ 1 → (r : Decision) → r ≡ D.Fixed 14 14 (k + 1) (k + 1) k → Decides partition_of s st nx k r
+    pub part_14 : m ≡ 1 → (r : Option Decision) → r ≡ Some (D.Fixed 14 14 (k + 1) (k + 1) k) → Decides partition_of s st nx k r
     unfolding lookup class_of form_at side rewrite_partition
     part_14 z r er = part r (λ t n Γ i us ks tb fx em w Ξ kept. rw er (go t n Γ i us ks tb fx (sym em ∙ z)))
       where
@@ -56,7 +57,7 @@ module _ (s st nx : List ℕ) (k tag : ℕ) (pt : TagPost s st k tag) where
             (node (head 901 i us) (cons a nil)) fa fa fx refl (sym (right_side 14 refl Γ a a us))
         go t n Γ i us (cons a (cons b ks)) tb fx h = absurd (omega arith)
 
-    pub part_15 : m ≡ 2 → (j : ℕ) → (k + 1 < 2048 → j ≡ get_or nx (k + 1) 0) → (r : Decision) → r ≡ D.Fixed 15 15 (k + 1) j k
+    pub part_15 : m ≡ 2 → (j : ℕ) → (k + 1 < 2048 → j ≡ get_or nx (k + 1) 0) → (r : Option Decision) → r ≡ Some (D.Fixed 15 15 (k + 1) j k)
         → Decides partition_of s st nx k r
     unfolding lookup class_of form_at side rewrite_partition
     part_15 z j ej r er = part r (λ t n Γ i us ks tb fx em w Ξ kept. rw er (go t n Γ i us ks tb fx (sym em ∙ z)))
@@ -72,9 +73,9 @@ module _ (s st nx : List ℕ) (k tag : ℕ) (pt : TagPost s st k tag) where
             (node (head 901 i us) (cons a (cons b nil))) fs.0 fs.1 fx refl (sym (right_side 15 refl Γ a b us)))
         go t n Γ i us (cons a (cons b (cons c ks))) tb fx h = absurd (omega arith)
 
-    pub part_none : (m ≡ 1 → ⊥) → (m ≡ 2 → ⊥) → Decides partition_of s st nx k D.Rests
+    pub part_none : (m ≡ 1 → ⊥) → (m ≡ 2 → ⊥) → Decides partition_of s st nx k None
     unfolding rewrite_partition
-    part_none p q = part D.Rests (λ t n Γ i us ks tb fx em w Ξ kept. go Γ ks em)
+    part_none p q = part None (λ t n Γ i us ks tb fx em w Ξ kept. go Γ ks em)
       where
         go : (Γ : Ctx) (ks : Forest) → m ≡ count ks → rewrite_partition Γ ks ≡ same
         go Γ nil h = refl

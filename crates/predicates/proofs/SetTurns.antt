@@ -1,4 +1,5 @@
 -- The ways out of finite_set_at of src/finite.rt.
+use Rattle.std.proofs.Common.{Option, Some, None}
 use mathlib.Core.Path.{◌≡◌, refl, sym, ap, ◌∙◌}
 use mathlib.Core.Bool.{Bool, true, false}
 use mathlib.Core.List.{List, []}
@@ -52,7 +53,7 @@ module _ (s st nx : List ℕ) (k : ℕ) where
     value_few h = place_few h.table (here_parts h).value
 
     module _ (tag : ℕ) (pt : TagPost s st j tag) where
-      pub set_other : (tag ≡ 201 → ⊥) → SetPost s st nx k D.Rests
+      pub set_other : (tag ≡ 201 → ⊥) → SetPost s st nx k None
       unfolding on_tag
       set_other d =
           record {
@@ -104,7 +105,7 @@ module _ (s st nx : List ℕ) (k : ℕ) where
               let z : n ≡ length us = pn.binders t N Γ 803 x us (cons p (cons e nil)) tb.framed f in
               pb.says t N (push us Γ) q.shape.a q.shape.b tb q.left q.right ∙ ap (functional_check q.shape.a q.shape.b) z
 
-          pub set_11 : b ≡ true → (r : Decision) → r ≡ D.Fixed 11 11 (k + 1) (j + 1) k → SetPost s st nx k r
+          pub set_11 : b ≡ true → (r : Option Decision) → r ≡ Some (D.Fixed 11 11 (k + 1) (j + 1) k) → SetPost s st nx k r
           unfolding on_tag lookup class_of form_at side
           set_11 z r er =
               record {
@@ -120,7 +121,7 @@ module _ (s st nx : List ℕ) (k : ℕ) where
                     (sym (right_side 11 refl (push us Γ) p a us)));
               }
 
-          pub set_none : b ≡ false → SetPost s st nx k D.Rests
+          pub set_none : b ≡ false → SetPost s st nx k None
           unfolding on_tag
           set_none z =
               record {

@@ -1,52 +1,53 @@
 // ¬ of an order or an equation (16 to 23). Logic has its own rules of ¬ (logic/src/lib.rt).
 ghost use Rattle.rules.specs.Negation.{rewrite_not};
-ghost use Rattle.decision.specs.Decides.{Here, HereTwo, DecidesOne, DecidesTwo};
+ghost use Rattle.decision.specs.AtPlaces.{HereAt, HereBoth, DecidesOneAt, DecidesTwoAt};
 ghost use Rattle.decision.specs.RulesAt.{unequal};
 
 use decision::Decision;
 use decision::operands::fixed;
 use frame::operators::{EQUAL, FALSE, GE, GT, LE, LT, NOT, TRUE};
+use nav::Places;
 
 // ¬ a = b, where a or b is TRUE or FALSE.
-fn unequal_at(s: &[u8], starts: &[u16; 2048], nexts: &[u16; 2048], a: usize, b: usize) -> Decision
-    requires { HereTwo s.now starts.now nexts.now a b }
-    ensures { DecidesTwo unequal s.now starts.now nexts.now a b result }
+fn unequal_at(places: &Places<'_>, a: usize, b: usize) -> Option<Decision>
+    requires { HereBoth places.now a b }
+    ensures { DecidesTwoAt unequal places.now a b result }
 {
-    let right = nav::tag_at(s, starts, b);
+    let right = places.tag_at(b);
     if right == FALSE {
         return fixed(20, a, a, a);
     }
     if right == TRUE {
         return fixed(21, a, a, a);
     }
-    let left = nav::tag_at(s, starts, a);
+    let left = places.tag_at(a);
     if left == FALSE {
         return fixed(22, b, b, a);
     }
     if left == TRUE {
         return fixed(23, b, b, a);
     }
-    Decision::Rests
+    None
 }
 
 // ¬ at place k.
-pub fn rewrite_not(s: &[u8], starts: &[u16; 2048], nexts: &[u16; 2048], k: usize) -> Decision
-    requires { Here s.now starts.now nexts.now k }
-    ensures { DecidesOne rewrite_not s.now starts.now nexts.now k result }
+pub fn rewrite_not(places: &Places<'_>, k: usize) -> Option<Decision>
+    requires { HereAt places.now k }
+    ensures { DecidesOneAt rewrite_not places.now k result }
 {
-    if nav::tag_at(s, starts, k) != NOT {
-        return Decision::Rests;
+    if places.tag_at(k) != NOT {
+        return None;
     }
     let inner = k + 1;
-    let tag = nav::tag_at(s, starts, inner);
+    let tag = places.tag_at(inner);
     let a = inner + 1;
-    let b = decision::operands::second_of(nexts, inner);
+    let b = places.second_of(inner);
     match tag {
         LE => fixed(16, a, b, inner),
         GE => fixed(17, a, b, inner),
         GT => fixed(18, a, b, inner),
         LT => fixed(19, a, b, inner),
-        EQUAL => unequal_at(s, starts, nexts, a, b),
-        _ => Decision::Rests,
+        EQUAL => unequal_at(places, a, b),
+        _ => None,
     }
 }

@@ -1,111 +1,114 @@
 -- A run's answer as text, on plain values: the ways out of `put_answer`.
--- Main results: ended_fits, ended_room, ended_post (a run that ended, for any of the three words); refused_short, refused_room, refused_post.
-use mathlib.Core.Path.{◌≡◌, refl, sym, ap, ap₂, ◌∙◌, subst}
-use mathlib.Core.List.{List}
-use Prim.Native.Nat.{ℕ, ◌+◌, ◌≤◌, ◌<◌}
-use native.Mathlib.Omega.{arith}
-use lib.ListN.{length, take, drop, length-append}
-use lib.Seq.{take_at, length-take-le}
+-- Main results: ended_room, ended_post (a run that ended); refused_room, refused_post.
+use Rattle.std.proofs.Common.{◌≡◌, ℕ, ◌+◌, ◌≤◌, ◌<◌, List, ◌++◌, length, take, drop, Result, Ok, Err, refl, sym, ap, ap₂, ◌∙◌, arith, length-append, length-take}
+use lib.Seq.{take_at}
+use Rattle.frame.specs.declared.refusals.Refusal.{Refusal}
+use Rattle.frame.specs.declared.refusals.Refusal.TheVariants.{BadLine, BadLength, EndsInside, BadTag, BadCount, BadType, BytesFollow, NoBinder, TwoTypes, BadlyTyped, NoPlace, NoRoom}
+use Rattle.frame.specs.Refusals.{number, refusal}
+use Rattle.frame.proofs.RefusalNumbers.{number_back}
 use Rattle.lines.proofs.LineWrites.{write_length}
-use Rattle.run.specs.Run.{Word, REST, SPENT, FULL, RunOutcome, ended, turned_down, word_answer}
-use Rattle.run.specs.declared.RunAnswer.{RunAnswer}
-use Rattle.run.specs.declared.RunAnswer.TheVariants.{Refused}
+use Rattle.run.specs.Run.{Word, REST, SPENT, FULL, RunOutcome, ended, turned_down, ending_for, word_answer}
+use Rattle.run.specs.declared.Ending.{Ending}
+use Rattle.run.specs.declared.Ending.TheVariants.{Rest, Spent, Full}
+use Rattle.run.specs.declared.Run.{Run}
 use Rattle.program.specs.Text.{budget, lent, word_text, ended_text, refused_text, answer_text}
-use Rattle.printing.specs.PrintPosts.{Appends}
-use Rattle.printing.specs.AnswerPosts.{longest, Answers, AnswerPre, AnswerPost}
-use Rattle.printing.proofs.Writes.{ended_length, refused_length, digits_3, digits_5}
-
--- ---- an answer and the outcome that it is the answer of
-same_word : (w v : Word) (k l m j : ℕ) → word_answer w k l ≡ word_answer v m j → (w ≡ v) × (k ≡ m) × (l ≡ j)
-same_word REST REST k l m j e = (refl, cc, cc)
-same_word REST SPENT k l m j e = let z : ◌≡◌ {A = ℕ} 0 1 = cc in absurd (omega arith)
-same_word REST FULL k l m j e = let z : ◌≡◌ {A = ℕ} 0 1 = cc in absurd (omega arith)
-same_word SPENT REST k l m j e = let z : ◌≡◌ {A = ℕ} 0 1 = cc in absurd (omega arith)
-same_word SPENT SPENT k l m j e = (refl, cc, cc)
-same_word SPENT FULL k l m j e = let z : ◌≡◌ {A = ℕ} 0 1 = cc in absurd (omega arith)
-same_word FULL REST k l m j e = let z : ◌≡◌ {A = ℕ} 0 1 = cc in absurd (omega arith)
-same_word FULL SPENT k l m j e = let z : ◌≡◌ {A = ℕ} 0 1 = cc in absurd (omega arith)
-same_word FULL FULL k l m j e = (refl, cc, cc)
-
-word_not : {X : Type 0} (w : Word) (k l c : ℕ) → word_answer w k l ≡ Refused c → X
-word_not REST k l c e = let z : ◌≡◌ {A = ℕ} 0 1 = cc in absurd (omega arith)
-word_not SPENT k l c e = let z : ◌≡◌ {A = ℕ} 0 1 = cc in absurd (omega arith)
-word_not FULL k l c e = let z : ◌≡◌ {A = ℕ} 0 1 = cc in absurd (omega arith)
-
--- the outcome of an answer with a word: its frame stands at the buffer's start
-record Said (w : Word) (k l : ℕ) (last : List ℕ) (x : RunOutcome) : Type 0 where
-  is : x ≡ ended w k (take l last)
-  few : k ≤ budget
-  short : l ≤ lent
-  fits : l ≤ length last
-
-said : (a : RunAnswer) (w : Word) (k l : ℕ) (last : List ℕ) → a ≡ word_answer w k l → (x : RunOutcome) → Answers a last x → Said w k l last x
-said a w k l last e (ended v m ys) h =
-    let s = same_word w v k l m (length ys) (sym e ∙ h.answer) in
-    let t : take l last ≡ ys = ap₂ (λ (i : ℕ) (z : List ℕ). take i z) s.2 h.output ∙ take_at ys (drop (length ys) h.old) (length ys) refl in
-    let n : length last ≡ length ys + length (drop (length ys) h.old) = ap (λ (z : List ℕ). length z) h.output ∙ length-append ys
-    (drop (length ys) h.old) in
-    record {
-      is = subst (λ (u : Word). ended v m ys ≡ ended u k (take l last)) (sym s.0) (ap₂ (λ (i : ℕ) (z : List ℕ). ended v i z) (sym s.1) (sym t));
-      few = omega (arith, s.1, h.small.0);
-      short = omega (arith, s.2, h.small.1);
-      fits = omega (arith, s.2);
-    }
-said a w k l last e (turned_down c) h = word_not w k l c (sym e ∙ h.answer)
+use Rattle.printing.specs.AnswerPosts.{longest, ending_text, Answers, AnswerPre, AnswerPost}
+use Rattle.printing.proofs.Texts.{ended_length, refused_length, digits_most}
 
 -- ---- an answer with a word
-module _ (a : RunAnswer) (last : List ℕ) (w : Word) (k l : ℕ) (e : a ≡ word_answer w k l) (pre : AnswerPre a last) where
-  of_pre : Said w k l last pre.0
-  of_pre = said a w k l last e pre.0 pre.1
+word_lem : (w : Word) → ending_text (ending_for w) ≡ word_text w
+word_lem REST = refl
+word_lem SPENT = refl
+word_lem FULL = refl
 
-  pub ended_fits : l ≡ length (take l last)
-  ended_fits = sym (length-take-le l last of_pre.fits)
+short_word : (e : Ending) → length (ending_text e) ≤ 5
+short_word Rest = omega arith
+short_word Spent = omega arith
+short_word Full = omega arith
 
-  ended_short : length (ended_text (word_text w) k (take l last)) ≤ longest
-  ended_short = go w
-    where
-      rest : (word : List ℕ) → length word ≤ 5 → length (ended_text word k (take l last)) ≤ longest
-      rest word h =
-          omega (
-            arith,
-            ended_length word k (take l last),
-            write_length (take l last),
-            length-take-le l last
-                of_pre.fits,
-            of_pre.short,
-            digits_5 k (omega (arith, of_pre.few)),
-          )
+-- the outcome of an answer with a word: its frame stands at the buffer's start
+record Said (r : Run) (last : List ℕ) (x : RunOutcome) : Type 0 where
+  word : Word
+  is : x ≡ ended word r.steps (take r.length last)
+  ending : r.ending ≡ ending_for word
+  few : r.steps ≤ budget
+  short : r.length ≤ lent
 
-      go : (w : Word) → length (ended_text (word_text w) k (take l last)) ≤ longest
-      go REST = rest (word_text REST) (omega arith)
-      go SPENT = rest (word_text SPENT) (omega arith)
-      go FULL = rest (word_text FULL) (omega arith)
+said : (a : Result Run Refusal) (r : Run) (last : List ℕ) → a ≡ Ok r → (x : RunOutcome) → Answers a last x → Said r last x
+said a r last e (ended w m ys) h =
+    let f : Ok r ≡ Ok (word_answer w m (length ys)) = sym e ∙ h.answer in
+    let g : r ≡ word_answer w m (length ys) = cc in
+    let n : r.steps ≡ m = ap (λ (q : Run). q.steps) g in
+    let l : r.length ≡ length ys = ap (λ (q : Run). q.length) g in
+    let t : take r.length last ≡ ys =
+    ap₂ (λ (i : ℕ) (z : List ℕ). take i z) l h.output ∙ take_at ys (drop (length ys) h.old) (length ys) refl in
+    record {
+      word = w;
+      is = ap₂ (λ (i : ℕ) (z : List ℕ). ended w i z) (sym n) (sym t);
+      ending = ap (λ (q : Run). q.ending) g;
+      few = omega (arith, n, h.small.0);
+      short = omega (arith, l, h.small.1);
+    }
+said a r last e (turned_down c) h = let f : Ok r ≡ Err (refusal c) = sym e ∙ h.answer in cc
 
-  pub ended_room : (n c : ℕ) → n + longest ≤ c → n + length (ended_text (word_text w) k (take l last)) ≤ c
-  ended_room n c h = omega (arith, ended_short)
+module _ (a : Result Run Refusal) (r : Run) (last : List ℕ) (e : a ≡ Ok r) (pre : AnswerPre a last) where
+  ended_short : length (ended_text (ending_text r.ending) r.steps (take r.length last)) ≤ longest
+  ended_short =
+      let s = said a r last e pre.0 pre.1 in
+      omega (
+        arith,
+        ended_length (ending_text r.ending) r.steps (take r.length last),
+        write_length (take r.length last),
+        length-take {A = ℕ},
+        s.few,
+        s.short,
+        short_word r.ending,
+        digits_most 5 r.steps (omega arith) (omega (arith, s.few)) (omega (arith, s.few)),
+      )
 
-  pub ended_post : (o : List ℕ) (n : ℕ) (p : List ℕ) (m : ℕ) → Appends o n (ended_text (word_text w) k (take l last)) p m → AnswerPost a last o n p m
-  unfolding answer_text
-  ended_post o n p m h = record {
-    puts = λ x ans. subst (λ (y : RunOutcome). Appends o n (answer_text y) p m) (sym (said a w k l last e x ans).is) h;
-    room = omega (arith, ended_short, h.after);
-  }
+  module _ (word : List ℕ) (is : word ≡ ending_text r.ending) (o : List ℕ) where
+    pub ended_room : length o + longest ≤ 65536 → length o + length (ended_text word r.steps (take r.length last)) ≤ 65536
+    ended_room h = rw is (omega (arith, ended_short))
+
+    pub ended_post : (p : List ℕ) → p ≡ o ++ ended_text word r.steps (take r.length last) → AnswerPost a last o p
+    unfolding answer_text
+    ended_post p h = record {
+      puts = λ x ans.
+          (let s = said a r last e x ans in
+          h ∙ ap (λ (t : List ℕ). o ++ ended_text t r.steps (take r.length last)) (is ∙ ap ending_text s.ending ∙ word_lem s.word)
+          ∙ sym (ap (λ (y : RunOutcome). o ++ answer_text y) s.is));
+      room = omega (arith, ended_short, ap (λ (l : List ℕ). length l) (h ∙ ap (λ (t : List ℕ). o ++ ended_text t r.steps (take r.length last)) is), length-append {A = ℕ});
+    }
 
 -- ---- an answer with a number
-pub refused_short : (c : ℕ) → c < 256 → length (refused_text c) ≤ longest
-refused_short c h = omega (arith, refused_length c, digits_3 c (omega arith))
+small_number : (r : Refusal) → number r < 256
+small_number BadLine = omega arith
+small_number BadLength = omega arith
+small_number EndsInside = omega arith
+small_number BadTag = omega arith
+small_number BadCount = omega arith
+small_number BadType = omega arith
+small_number BytesFollow = omega arith
+small_number NoBinder = omega arith
+small_number TwoTypes = omega arith
+small_number BadlyTyped = omega arith
+small_number NoPlace = omega arith
+small_number NoRoom = omega arith
 
-pub refused_room : (c : ℕ) → c < 256 → (n k : ℕ) → n + longest ≤ k → n + length (refused_text c) ≤ k
-refused_room c h n k l = omega (arith, refused_short c h)
+pub refused_short : (r : Refusal) → length (refused_text (number r)) ≤ longest
+refused_short r = omega (arith, refused_length (number r), digits_most 3 (number r) (omega arith) (omega (arith, small_number r)) (omega (arith, small_number r)))
 
-of_refused : (a : RunAnswer) (last : List ℕ) (c : ℕ) → a ≡ Refused c → (x : RunOutcome) → Answers a last x → x ≡ turned_down c
-of_refused a last c e (ended v m ys) h = word_not v m (length ys) c (sym h.answer ∙ e)
-of_refused a last c e (turned_down d) h = let y : Refused d ≡ Refused c = sym h.answer ∙ e in cc
+of_refused : (a : Result Run Refusal) (last : List ℕ) (r : Refusal) → a ≡ Err r → (x : RunOutcome) → Answers a last x → x ≡ turned_down (number r)
+of_refused a last r e (ended w m ys) h = let f : Err r ≡ Ok (word_answer w m (length ys)) = sym e ∙ h.answer in cc
+of_refused a last r e (turned_down c) h =
+    let f : Err r ≡ Err (refusal c) = sym e ∙ h.answer in
+    let g : r ≡ refusal c = cc in
+    ap turned_down (sym (ap number g ∙ number_back c h.small))
 
-pub refused_post : (a : RunAnswer) (last : List ℕ) (c : ℕ) → c < 256 → a ≡ Refused c → (o : List ℕ) (n : ℕ) (p : List ℕ) (m : ℕ)
-    → Appends o n (refused_text c) p m → AnswerPost a last o n p m
+pub refused_post : (a : Result Run Refusal) (last : List ℕ) (r : Refusal) → a ≡ Err r → (o p : List ℕ)
+    → p ≡ o ++ refused_text (number r) → AnswerPost a last o p
 unfolding answer_text
-refused_post a last c l e o n p m h = record {
-  puts = λ x ans. subst (λ (y : RunOutcome). Appends o n (answer_text y) p m) (sym (of_refused a last c e x ans)) h;
-  room = omega (arith, refused_short c l, h.after);
+refused_post a last r e o p h = record {
+  puts = λ x ans. h ∙ sym (ap (λ (y : RunOutcome). o ++ answer_text y) (of_refused a last r e x ans));
+  room = omega (arith, refused_short r, ap (λ (l : List ℕ). length l) h, length-append {A = ℕ});
 }

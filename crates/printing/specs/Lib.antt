@@ -1,2 +1,1 @@
-pub mod PrintPosts
 pub mod AnswerPosts

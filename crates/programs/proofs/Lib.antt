@@ -1,1 +1,1 @@
-mod ProgramTable
+mod Places

@@ -1,85 +1,107 @@
--- Laws of writing. Main results: puts_nil, puts_then, put_in, put_over, word_bytes, copy_none, copy_more, copy_end, between_span; between_front,
--- between_back (a frame's bytes before and behind a part); wrote_none, wrote_held, wrote_full (the buffer's start and its outcome).
+-- Laws of writing. Main results: puts_nil, puts_then, puts_as (a writing after another); puts_in, puts_over, puts_none (what fits and what
+-- doesn't); word_bytes; between_span, between_front, between_back (a frame's bytes, and those before and behind a part);
+-- wrote_none, wrote_held, wrote_full (the start and the outcome).
 use mathlib.Core.Path.{◌≡◌, refl, sym, ap, ◌∙◌, subst}
 use mathlib.Core.Bool.{Bool, true, false}
 use mathlib.Core.List.{List, [], ◌∷◌, ◌++◌, append_assoc, append-nil}
-use Prim.Native.Nat.{ℕ, suc, ◌+◌, ◌-◌, ◌/◌, ◌%◌, ◌≤◌, ◌<◌}
+use Prim.Native.Nat.{ℕ, ◌+◌, ◌-◌, ◌/◌, ◌%◌, ◌≤◌, ◌<◌}
 use native.Mathlib.Omega.{arith}
-use native.Mathlib.Numerals.{add-one}
 use lib.Dec.{leb}
-use lib.ListN.{length, take, drop, set, get_or, length-append, length-drop, length-set}
-use lib.Seq.{take-suc-set, take-suc, take-length, get_or-drop}
+use lib.ListN.{length, take, drop, length-append, length-drop}
+use lib.Seq.{take-length, length-take-le}
+use borrow.Rule.Slice.PartMut.{put_mid}
+use Rattle.std.proofs.lemmas.Slice.{take-put_mid}
 use borrow.Author.Tests.{leb-true, leb-false}
+use Rattle.std.proofs.Common.{Option, Some, None}
 use Rattle.frame.specs.Encoding.{enc_number}
 use Rattle.frame.specs.Spans.{Spans}
-use Rattle.put.specs.Out.{Wrote, Puts}
+use Rattle.frame.specs.Tags.{pick}
+use Rattle.put.specs.Out.{held, AtMost, behind, Puts, Wrote}
 use Rattle.put.specs.Copied.{between}
 
-pub puts_nil : (o : List ℕ) (n : ℕ) → Puts o n o n []
-puts_nil o n xs w = subst (λ (l : List ℕ). Wrote o n l) (sym (append-nil xs)) w
-
-pub puts_then : (o : List ℕ) (n : ℕ) (p : List ℕ) (m : ℕ) (q : List ℕ) (k : ℕ) (ys zs : List ℕ)
-    → Puts o n p m ys → Puts p m q k zs → Puts o n q k (ys ++ zs)
-puts_then o n p m q k ys zs a b xs w = subst (λ (l : List ℕ). Wrote q k l) (append_assoc xs ys zs) (b (xs ++ ys) (a xs w))
-
--- the same bytes, said otherwise
-pub puts_as : (o : List ℕ) (n : ℕ) (p : List ℕ) (m : ℕ) (ys zs : List ℕ) → ys ≡ zs → Puts o n p m ys → Puts o n p m zs
-puts_as o n p m ys zs e a = subst (λ (l : List ℕ). Puts o n p m l) e a
-
--- by whether what was written fits
-by_fit {ℓ} : {X : Type ℓ} (xs : List ℕ) → (length xs ≤ 4096 → X) → (4096 < length xs → X) → X
-by_fit {X} xs f g = go (leb (length xs) 4096) refl
+-- ---- what fits behind xs, and what doesn't
+picked_in {ℓ} : {X : Type ℓ} (m n : ℕ) (x y : X) → m ≤ n → pick (leb m n) x y ≡ x
+picked_in m n x y h = go (leb m n) refl
   where
-    go : (b : Bool) → leb (length xs) 4096 ≡ b → X
+    go : (b : Bool) → leb m n ≡ b → pick b x y ≡ x
+    go true e = refl
+    go false e = absurd (omega (arith, leb-false m n e))
+
+picked_over {ℓ} : {X : Type ℓ} (m n : ℕ) (x y : X) → n < m → pick (leb m n) x y ≡ y
+picked_over m n x y h = go (leb m n) refl
+  where
+    go : (b : Bool) → leb m n ≡ b → pick b x y ≡ y
+    go true e = absurd (omega (arith, leb-true m n e))
+    go false e = refl
+
+behind_in : (xs ys : List ℕ) → length ys ≤ 4096 - length xs → behind (Some xs) ys ≡ Some (xs ++ ys)
+unfolding behind
+behind_in xs ys h = picked_in (length ys) (4096 - length xs) (Some (xs ++ ys)) None h
+
+behind_over : (xs ys : List ℕ) → 4096 - length xs < length ys → behind (Some xs) ys ≡ None
+unfolding behind
+behind_over xs ys h = picked_over (length ys) (4096 - length xs) (Some (xs ++ ys)) None h
+
+behind_none : (ys : List ℕ) → behind None ys ≡ None
+unfolding behind
+behind_none ys = refl
+
+-- the same of a writer that holds xs, and of one that holds nothing
+pub puts_in : (o : Option (List ℕ)) (xs ys : List ℕ) → o ≡ Some xs → length ys ≤ 4096 - length xs → Puts o (Some (xs ++ ys)) ys
+puts_in o xs ys e h = sym (ap (λ (w : Option (List ℕ)). behind w ys) e ∙ behind_in xs ys h)
+
+pub puts_over : (o : Option (List ℕ)) (xs ys : List ℕ) → o ≡ Some xs → 4096 - length xs < length ys → Puts o None ys
+puts_over o xs ys e h = sym (ap (λ (w : Option (List ℕ)). behind w ys) e ∙ behind_over xs ys h)
+
+pub puts_none : (o : Option (List ℕ)) (ys : List ℕ) → o ≡ None → Puts o None ys
+puts_none o ys e = sym (ap (λ (w : Option (List ℕ)). behind w ys) e ∙ behind_none ys)
+
+-- ---- one writing after another
+-- by whether ys fits behind xs
+by_room {ℓ} : {X : Type ℓ} (xs ys : List ℕ) → (length ys ≤ 4096 - length xs → X) → (4096 - length xs < length ys → X) → X
+by_room {X} xs ys f g = go (leb (length ys) (4096 - length xs)) refl
+  where
+    go : (b : Bool) → leb (length ys) (4096 - length xs) ≡ b → X
     go true e = f (leb-true _ _ e)
     go false e = g (leb-false _ _ e)
 
--- ---- a byte
-pub put_in : (o : List ℕ) (n b : ℕ) → n < 4096 → Puts o n (set o n b) (n + 1) (b ∷ [])
-put_in o n b h xs w = record {
-  whole = length-set o n b ∙ w.whole;
-  held = λ k. (let z = length-append xs (b ∷ []) in
-      let v = w.held (omega arith) in (
-        omega (arith, v.0),
-        ap (λ (i : ℕ). take i (set o n b)) (add-one n) ∙ take-suc-set o n b (omega (arith, w.whole)) ∙ ap
-            (λ (u : List ℕ). u ++ (b ∷ [])) v.1,
-      ));
-  full = λ k. (let z = length-append xs (b ∷ []) in by_fit xs (λ f. absurd (omega (arith, (w.held f).0))) (λ f. absurd (omega (arith, w.full f))));
-}
+pub puts_nil : (o : Option (List ℕ)) → Puts o o []
+puts_nil None = sym (behind_none [])
+puts_nil (Some xs) = sym (behind_in xs [] (omega arith) ∙ ap Some (append-nil xs))
 
-pub put_over : (o : List ℕ) (n b : ℕ) → 4096 ≤ n → Puts o n o 4097 (b ∷ [])
-put_over o n b h xs w = record {
-  whole = w.whole;
-  held = λ k. (let z = length-append xs (b ∷ []) in absurd (omega (arith, (w.held (omega arith)).0)));
-  full = λ k. refl;
-}
+behind_then : (o : Option (List ℕ)) (ys zs : List ℕ) → behind (behind o ys) zs ≡ behind o (ys ++ zs)
+behind_then None ys zs = ap (λ (w : Option (List ℕ)). behind w zs) (behind_none ys) ∙ behind_none zs ∙ sym (behind_none (ys ++ zs))
+behind_then (Some xs) ys zs = by_room xs ys fits over
+  where
+    over : 4096 - length xs < length ys → behind (behind (Some xs) ys) zs ≡ behind (Some xs) (ys ++ zs)
+    over h =
+        ap (λ (w : Option (List ℕ)). behind w zs) (behind_over xs ys h) ∙ behind_none zs
+        ∙ sym (behind_over xs (ys ++ zs) (omega (arith, length-append ys zs)))
+
+    fits : length ys ≤ 4096 - length xs → behind (behind (Some xs) ys) zs ≡ behind (Some xs) (ys ++ zs)
+    fits h =
+        ap (λ (w : Option (List ℕ)). behind w zs) (behind_in xs ys h)
+        ∙ by_room (xs ++ ys) zs
+        (λ k. behind_in (xs ++ ys) zs k ∙ ap Some (append_assoc xs ys zs)
+        ∙ sym (behind_in xs (ys ++ zs) (omega (arith, length-append ys zs, length-append xs ys))))
+        (λ k. behind_over (xs ++ ys) zs k ∙ sym (behind_over xs (ys ++ zs) (omega (arith, length-append ys zs, length-append xs ys))))
+
+pub puts_then : (o p q : Option (List ℕ)) (ys zs : List ℕ) → Puts o p ys → Puts p q zs → Puts o q (ys ++ zs)
+puts_then o p q ys zs a b = b ∙ ap (λ (w : Option (List ℕ)). behind w zs) a ∙ behind_then o ys zs
+
+-- the same bytes, said otherwise
+pub puts_as : (o p : Option (List ℕ)) (ys zs : List ℕ) → ys ≡ zs → Puts o p ys → Puts o p zs
+puts_as o p ys zs e a = a ∙ ap (behind o) e
 
 -- ---- a number of two bytes
-pub word_bytes : (w : ℕ) → w / 256 ∷ w % 256 ∷ [] ≡ enc_number 2 w
+pub word_bytes : (w : ℕ) → w < 65536 → w / 256 % 256 ∷ w % 256 ∷ [] ≡ enc_number 2 w
 unfolding enc_number
-word_bytes w = let z : w % 256 ≡ w % 256 / 1 = omega arith in ap (λ (x : ℕ). w / 256 ∷ x ∷ []) z
+word_bytes w h =
+    let y : w / 256 % 256 ≡ w / 256 = omega arith in
+    let z : w % 256 ≡ w % 256 / 1 = omega arith in
+    cc
 
--- ---- a copy
-between_more : (s : List ℕ) (a i : ℕ) → a ≤ i → i < length s → between s a i ++ (get_or s i 0 ∷ []) ≡ between s a (i + 1)
-between_more s a i h k =
-    let z : i + 1 - a ≡ suc (i - a) = omega arith in
-    let y : a + (i - a) ≡ i = omega arith in
-    ap (λ (b : ℕ). between s a i ++ (b ∷ [])) (sym (get_or-drop a s (i - a) 0 ∙ ap (λ (j : ℕ). get_or s j 0) y))
-    ∙ sym (take-suc (drop a s) (i - a) 0 (omega (arith, length-drop a s)))
-    ∙ ap (λ (j : ℕ). take j (drop a s)) (sym z)
-
-pub copy_none : (s : List ℕ) (a : ℕ) (o : List ℕ) (n : ℕ) → Puts o n o n (between s a a)
-copy_none s a o n = let z : a - a ≡ 0 = omega arith in subst (λ (i : ℕ). Puts o n o n (take i (drop a s))) (sym z) (puts_nil o n)
-
-pub copy_more : (s : List ℕ) (a i : ℕ) (o : List ℕ) (n : ℕ) (p : List ℕ) (m : ℕ) (q : List ℕ) (k : ℕ) → a ≤ i → i < length s
-    → Puts o n p m (between s a i) → Puts p m q k (get_or s i 0 ∷ []) → Puts o n q k (between s a (i + 1))
-copy_more s a i o n p m q k h l a₁ a₂ =
-    puts_as o n q k _ _ (between_more s a i h l) (puts_then o n p m q k (between s a i) (get_or s i 0 ∷ []) a₁ a₂)
-
-pub copy_end : (s : List ℕ) (a i e : ℕ) (o : List ℕ) (n : ℕ) (p : List ℕ) (m : ℕ) → i ≤ e → e ≤ i
-    → Puts o n p m (between s a i) → Puts o n p m (between s a e)
-copy_end s a i e o n p m h k a₁ = let z : i ≡ e = omega arith in subst (λ (j : ℕ). Puts o n p m (between s a j)) z a₁
-
+-- ---- bytes of a frame
 -- what stands from a up to b, as a list
 pub between_span : (s : List ℕ) (a b : ℕ) (xs : List ℕ) → Spans s a b xs → between s a b ≡ xs
 between_span s a b xs h = let z : b - a ≡ length xs = omega (arith, h.long) in ap (λ (n : ℕ). take n (drop a s)) z ∙ h.bytes
@@ -93,12 +115,42 @@ between_back s a =
     let z : length s - a ≡ length (drop a s) = omega (arith, length-drop a s) in
     ap (λ (i : ℕ). take i (drop a s)) z ∙ take-length (drop a s)
 
--- ---- the buffer before the first byte, and what the cursor says at the end
-pub wrote_none : (o : List ℕ) → length o ≡ 4096 → Wrote o 0 []
-wrote_none o h = record { whole = h; held = λ k. (refl, refl); full = λ k. absurd (omega arith) }
+-- ---- the writer before the first byte, and what it holds at the end
+pub wrote_none : Wrote (Some []) []
+wrote_none = puts_nil (Some [])
 
-pub wrote_held : (o : List ℕ) (n : ℕ) (xs : List ℕ) → Wrote o n xs → n ≤ 4096 → (n ≡ length xs) × (take n o ≡ xs)
-wrote_held o n xs w h = by_fit xs w.held (λ k. absurd (omega (arith, w.full k)))
+pub wrote_held : (o : Option (List ℕ)) (xs : List ℕ) → Wrote o xs → length xs ≤ 4096 → o ≡ Some xs
+wrote_held o xs w h = w ∙ behind_in [] xs (omega arith)
 
-pub wrote_full : (o : List ℕ) (n : ℕ) (xs : List ℕ) → Wrote o n xs → 4096 < n → 4096 < length xs
-wrote_full o n xs w h = by_fit xs (λ k. absurd (omega (arith, (w.held k).0))) (λ k. k)
+-- what is held is what was written
+pub wrote_is : (o : Option (List ℕ)) (xs ys : List ℕ) → Wrote o xs → o ≡ Some ys → (ys ≡ xs) × (length xs ≤ 4096)
+wrote_is o xs ys w e = by_room [] xs
+    (λ h. (let z : Some ys ≡ Some xs = sym e ∙ w ∙ behind_in [] xs h in (cc, omega arith)))
+    (λ h. (let z : Some ys ≡ None = sym e ∙ w ∙ behind_over [] xs h in cc))
+
+pub wrote_full : (o : Option (List ℕ)) (xs : List ℕ) → Wrote o xs → o ≡ None → 4096 < length xs
+wrote_full o xs w e = by_room [] xs
+    (λ h. (let z : None ≡ Some xs = sym e ∙ w ∙ behind_in [] xs h in cc))
+    (λ h. omega arith)
+
+-- ---- the writer's fields
+module _ (o : Option (List ℕ)) (m : Option ℕ) (bytes s : List ℕ) (view : held m bytes ≡ o) (long : length bytes ≡ 4096) (most : AtMost 4096 m) where
+  held_some : (n : ℕ) → m ≡ Some n → (o ≡ Some (take n bytes)) × (length (take n bytes) ≡ n)
+  held_some n e =
+      let h : n ≤ 4096 = subst (AtMost 4096) e most in
+      (sym view ∙ ap (λ (x : Option ℕ). held x bytes) e, length-take-le n bytes (omega arith))
+
+  -- s was copied behind the n bytes, or there was no room, or nothing was held
+  pub puts_copied : (n k : ℕ) (new : List ℕ) → m ≡ Some n → length s ≤ 4096 - n → new ≡ s
+      → Puts o (Some (take (n + length s) (put_mid n k bytes new))) s
+  puts_copied n k new e h a =
+      let p = held_some n e in
+      let q : n ≤ 4096 = subst (AtMost 4096) e most in
+      let z = take-put_mid n k bytes new (n + length s) (omega (arith, ap length a)) (omega arith) in
+      ap Some (z ∙ ap (λ (x : List ℕ). take n bytes ++ x) a) ∙ puts_in o (take n bytes) s p.0 (omega (arith, p.1))
+
+  pub puts_short : (n : ℕ) → m ≡ Some n → 4096 - n < length s → Puts o None s
+  puts_short n e h = let p = held_some n e in puts_over o (take n bytes) s p.0 (omega (arith, p.1))
+
+  pub puts_lost : m ≡ None → Puts o None s
+  puts_lost e = puts_none o s (sym view ∙ ap (λ (x : Option ℕ). held x bytes) e)

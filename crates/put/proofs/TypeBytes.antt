@@ -15,7 +15,7 @@ use Rattle.typing.specs.TypeExpression.{to_expression}
 use Rattle.put.specs.Out.{Puts}
 use Rattle.put.specs.Copied.{between}
 use Rattle.put.specs.Written.{TypeAt, HasType, TypeEnd, Expressed, given_bytes}
-use Rattle.put.specs.declared.type_expression.Written.{Written}
+use Rattle.std.proofs.Common.{Option}
 use Rattle.put.proofs.Puts.{puts_then, puts_as, between_span}
 
 -- the first byte of a type
@@ -37,6 +37,17 @@ module _ {s : List ℕ} {at : ℕ} where
 
 pub type_within : (s : List ℕ) (at : ℕ) → HasType s at → at < length s
 type_within s at h = (lead_is h.0 h.1).1
+
+-- its first byte is one of five
+pub lead_most : (s : List ℕ) (at : ℕ) → HasType s at → get_or s at 0 ≤ 4
+lead_most s at h = omega (arith, (lead_is h.0 h.1).0, most h.0)
+  where
+    most : (t : Ty) → lead t ≤ 4
+    most bool = omega arith
+    most int = omega arith
+    most (given n) = omega arith
+    most (pow t) = omega arith
+    most (prod t u) = omega arith
 
 -- a type is not empty, and ends in the bytes
 pub type_past : (s : List ℕ) (at q : ℕ) → HasType s at → TypeEnd s at q → (at < q) × (q ≤ length s)
@@ -128,19 +139,6 @@ module _ (s : List ℕ) (at : ℕ) where
   int_is (pow t) h e = absurd (omega (arith, (lead_is (pow t) h).0))
   int_is (prod t u) h e = absurd (omega (arith, (lead_is (prod t u) h).0))
 
-  -- one that is none of the others is a product
-  lead_four : (t : Ty) → TypeAt s at t → (get_or s at 0 ≡ 0 → ⊥) → (get_or s at 0 ≡ 1 → ⊥) → (get_or s at 0 ≡ 2 → ⊥) → (get_or s at 0 ≡ 3 → ⊥)
-      → get_or s at 0 ≡ 4
-  lead_four bool h a b c d = absurd (a (lead_is bool h).0)
-  lead_four int h a b c d = absurd (b (lead_is int h).0)
-  lead_four (given n) h a b c d = absurd (c (lead_is (given n) h).0)
-  lead_four (pow t) h a b c d = absurd (d (lead_is (pow t) h).0)
-  lead_four (prod t u) h a b c d = (lead_is (prod t u) h).0
-
-  pub has_four : HasType s at → (get_or s at 0 ≡ 0 → ⊥) → (get_or s at 0 ≡ 1 → ⊥) → (get_or s at 0 ≡ 2 → ⊥) → (get_or s at 0 ≡ 3 → ⊥)
-      → get_or s at 0 ≡ 4
-  has_four h = lead_four h.0 h.1
-
   -- ---- what stands further on
   pub has_pow : HasType s at → get_or s at 0 ≡ 3 → HasType s (at + 1)
   has_pow h e = let v = pow_view h.0 h.1 e in (v.under, v.below)
@@ -228,48 +226,44 @@ prod_bytes t u = simp (append_assoc, append-nil)
 abbrev expressed : Ty → List ℕ
 expressed t = enc (to_expression t)
 
-module _ (s : List ℕ) (at : ℕ) (o : List ℕ) (n : ℕ) where
-  pub write_bool : (p : List ℕ) (m : ℕ) → get_or s at 0 ≡ 0 → Puts o n p m (enc_number 2 404)
-      → Expressed s at o n p (record { end = at + 1; cursor = m })
-  write_bool p m e w = record {
+module _ (s : List ℕ) (at : ℕ) (o : Option (List ℕ)) where
+  pub write_bool : (p : Option (List ℕ)) → get_or s at 0 ≡ 0 → Puts o p (enc_number 2 404) → Expressed s at o p (at + 1)
+  write_bool p e w = record {
     end = end_leaf s at (λ a. omega arith) (λ a. omega arith) (λ a. omega arith);
-    puts = λ t h. puts_as o n p m _ _ (bool_bytes ∙ ap expressed (sym (bool_is s at t h e))) w;
+    puts = λ t h. puts_as o p _ _ (bool_bytes ∙ ap expressed (sym (bool_is s at t h e))) w;
   }
 
-  pub write_int : (p : List ℕ) (m : ℕ) → get_or s at 0 ≡ 1 → Puts o n p m (enc_number 2 401) → Expressed s at o n p (record { end = at + 1; cursor = m })
-  write_int p m e w = record {
+  pub write_int : (p : Option (List ℕ)) → get_or s at 0 ≡ 1 → Puts o p (enc_number 2 401) → Expressed s at o p (at + 1)
+  write_int p e w = record {
     end = end_leaf s at (λ a. omega arith) (λ a. omega arith) (λ a. omega arith);
-    puts = λ t h. puts_as o n p m _ _ (int_bytes ∙ ap expressed (sym (int_is s at t h e))) w;
+    puts = λ t h. puts_as o p _ _ (int_bytes ∙ ap expressed (sym (int_is s at t h e))) w;
   }
 
-  pub write_given : (p : List ℕ) (m : ℕ) → get_or s at 0 ≡ 2 → Puts o n p m (given_bytes s at)
-      → Expressed s at o n p (record { end = at + 3; cursor = m })
-  write_given p m e w = record {
+  pub write_given : (p : Option (List ℕ)) → get_or s at 0 ≡ 2 → Puts o p (given_bytes s at) → Expressed s at o p (at + 3)
+  write_given p e w = record {
     end = end_given s at e;
     puts = λ t h. (let v = given_view s at t h e in
-        puts_as o n p m _ _
+        puts_as o p _ _
         (ap₂ (λ (ds all : List ℕ). ((enc_number 2 1 ++ ds) ++ (3 ∷ [])) ++ all) v.digits v.all
         ∙ given_expression_bytes v.number
         ∙ ap expressed (sym v.is)) w);
   }
 
-  pub write_pow : (p : List ℕ) (m : ℕ) (q : List ℕ) (r : Written) → get_or s at 0 ≡ 3 → Puts o n p m (enc_number 2 752)
-      → Expressed s (at + 1) p m q r → Expressed s at o n q r
-  write_pow p m q r e w x = record {
-    end = end_pow s at r.end e x.end;
+  pub write_pow : (p q : Option (List ℕ)) (r : ℕ) → get_or s at 0 ≡ 3 → Puts o p (enc_number 2 752) → Expressed s (at + 1) p q r
+      → Expressed s at o q r
+  write_pow p q r e w x = record {
+    end = end_pow s at r e x.end;
     puts = λ t h. (let v = pow_view s at t h e in
-        puts_as o n q r.cursor _ _ (pow_bytes v.under ∙ ap expressed (sym v.is))
-        (puts_then o n p m q r.cursor _ _ w (x.puts v.under v.below)));
+        puts_as o q _ _ (pow_bytes v.under ∙ ap expressed (sym v.is)) (puts_then o p q _ _ w (x.puts v.under v.below)));
   }
 
-  pub write_prod : (p : List ℕ) (m : ℕ) (q : List ℕ) (l : Written) (z : List ℕ) (r : Written) → get_or s at 0 ≡ 4 → Puts o n p m (enc_number 2 214)
-      → Expressed s (at + 1) p m q l → Expressed s l.end q l.cursor z r → Expressed s at o n z r
-  write_prod p m q l z r e w x y = record {
-    end = end_prod s at l.end r.end e x.end y.end;
+  pub write_prod : (p q z : Option (List ℕ)) (l r : ℕ) → get_or s at 0 ≡ 4 → Puts o p (enc_number 2 214) → Expressed s (at + 1) p q l
+      → Expressed s l q z r → Expressed s at o z r
+  write_prod p q z l r e w x y = record {
+    end = end_prod s at l r e x.end y.end;
     puts = λ t h. (let v = prod_view s at t h e in
         let i = x.end.end v.first v.left in
-        puts_as o n z r.cursor _ _ (prod_bytes v.first v.second ∙ ap expressed (sym v.is))
-        (puts_then o n q l.cursor z r.cursor _ _
-        (puts_then o n p m q l.cursor _ _ w (x.puts v.first v.left))
+        puts_as o z _ _ (prod_bytes v.first v.second ∙ ap expressed (sym v.is))
+        (puts_then o q z _ _ (puts_then o p q _ _ w (x.puts v.first v.left))
         (y.puts v.second (subst (λ (k : ℕ). TypeAt s k v.second) (sym i) v.right))));
   }

@@ -1,13 +1,25 @@
--- The scratch buffer of 4,096 bytes and its cursor: one abstraction for all that is written into it.
-use Rattle.std.specs.Prelude.{◌≡◌, List, ◌++◌, ℕ, suc, ◌≤◌, ◌<◌, length, take}
+-- What a writer holds: all that was written, or nothing once it did not fit a frame. One abstraction for all that is written.
+use Rattle.std.specs.Prelude.{◌≡◌, List, [], ◌++◌, ℕ, ◌-◌, ◌≤◌, length, take, Option, Some, None, option_map, leb}
+use Rattle.frame.specs.Tags.{pick}
 use Rattle.frame.specs.Reading.{frame_limit}
 
--- xs has been written into o, up to n; where it does not fit, n is 4,097 for good
-pub record Wrote (o : List ℕ) (n : ℕ) (xs : List ℕ) : Type 0 where
-  pub whole : length o ≡ frame_limit
-  pub held : length xs ≤ frame_limit → (n ≡ length xs) × (take n o ≡ xs)
-  pub full : frame_limit < length xs → n ≡ suc frame_limit
+-- the first bytes of the buffer, as many as there are; and that there are no more than m
+abbrev pub held : Option ℕ → List ℕ → Option (List ℕ)
+held n bytes = option_map (λ i. take i bytes) n
 
--- from o and n to p and m, ys is written behind whatever was written
-abbrev pub Puts : List ℕ → ℕ → List ℕ → ℕ → List ℕ → Type 0
-Puts o n p m ys = (xs : List ℕ) → Wrote o n xs → Wrote p m (xs ++ ys)
+abbrev pub AtMost : ℕ → Option ℕ → Type 0
+AtMost m None = Unit {0}
+AtMost m (Some n) = n ≤ m
+
+-- ys behind what was held, if there is room for it in a frame
+unfoldable pub behind : Option (List ℕ) → List ℕ → Option (List ℕ)
+behind None ys = None
+behind (Some xs) ys = pick (leb (length ys) (frame_limit - length xs)) (Some (xs ++ ys)) None
+
+-- from o to p, ys is written behind whatever was written
+abbrev pub Puts : Option (List ℕ) → Option (List ℕ) → List ℕ → Type 0
+Puts o p ys = p ≡ behind o ys
+
+-- xs has been written, and nothing before it
+abbrev pub Wrote : Option (List ℕ) → List ℕ → Type 0
+Wrote o xs = o ≡ behind (Some []) xs

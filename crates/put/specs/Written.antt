@@ -1,13 +1,12 @@
 -- What writing a type's expression asks for and answers. "`to_expression` calls itself on the smaller type": "A type's bytes are
 -- walked by recursion, remaining type length falling, writing the expression's nodes."
-use Rattle.std.specs.Prelude.{◌≡◌, List, [], ◌∷◌, ◌++◌, ℕ, ◌+◌, length}
+use Rattle.std.specs.Prelude.{◌≡◌, List, [], ◌∷◌, ◌++◌, ℕ, ◌+◌, length, Option}
 use Rattle.frame.specs.Types.{Ty}
 use Rattle.frame.specs.Encoding.{enc_number, enc_ty, enc}
 use Rattle.frame.specs.Spans.{Spans}
 use Rattle.typing.specs.TypeExpression.{to_expression}
 use Rattle.put.specs.Out.{Puts}
 use Rattle.put.specs.Copied.{between}
-use Rattle.put.specs.declared.type_expression.Written.{Written}
 
 -- the bytes of the type t stand at `at`
 abbrev pub TypeAt : List ℕ → ℕ → Ty → Type 0
@@ -26,6 +25,6 @@ pub record TypeEnd (s : List ℕ) (at q : ℕ) : Type 0 where
   pub end : (t : Ty) → TypeAt s at t → q ≡ at + length (enc_ty t)
 
 -- and its expression is written
-pub record Expressed (s : List ℕ) (at : ℕ) (o : List ℕ) (n : ℕ) (p : List ℕ) (r : Written) : Type 0 where
-  pub end : TypeEnd s at r.end
-  pub puts : (t : Ty) → TypeAt s at t → Puts o n p r.cursor (enc (to_expression t))
+pub record Expressed (s : List ℕ) (at : ℕ) (o p : Option (List ℕ)) (q : ℕ) : Type 0 where
+  pub end : TypeEnd s at q
+  pub puts : (t : Ty) → TypeAt s at t → Puts o p (enc (to_expression t))

@@ -1,48 +1,80 @@
-// Bytes go behind what the scratch buffer holds. The cursor is how many bytes were written; once they don't fit, it is `FULL`
-// for good. So no caller has to look whether there is room before the whole frame is written.
+// Bytes go behind what the scratch buffer holds; once they don't fit a frame, the writer holds nothing for good. So no caller has
+// to look whether there is room before the whole frame is written.
 #![tactic(auto)]
 
 pub mod type_expression; // type_expression.rt: `to_expression`
 
-ghost use Rattle.std.specs.Prelude.{[], ◌∷◌, ◌≤◌, ◌<◌, length};
+ghost use Rattle.std.specs.Prelude.{◌≡◌, [], ◌∷◌, ◌≤◌, ◌<◌, List, ℕ, length, Option, Some, IfSome, option_copied};
 ghost use Rattle.frame.specs.Encoding.{enc_number};
-ghost use Rattle.put.specs.Out.{Puts};
-ghost use Rattle.put.specs.Copied.{between};
+ghost use Rattle.put.specs.Out.{held, AtMost, Puts};
 
 use frame::limits::FRAME_LIMIT;
+use std::marker::Model;
 
-// What the cursor is once the bytes don't fit: one more than the longest frame has.
-const FULL: usize = 4097;
-
-pub fn put_byte(out: &mut [u8; 4096], n: usize, b: u8) -> usize
-    ensures { Puts out.old n out.new result (b ∷ []) }
-{
-    if n < FRAME_LIMIT {
-        out[n] = b;
-        return n + 1;
-    }
-    FULL
+// What has been written, as contracts see it: the bytes, or None once they did not fit.
+#[derive(Drop)]
+pub struct Writer {
+    bytes: [u8; 4096],
+    // How many bytes were written; None once they did not fit.
+    length: Option<usize>,
 }
 
-// A number of two bytes, high byte first, as a tag is.
-pub fn put_word(out: &mut [u8; 4096], n: usize, w: usize) -> usize
-    requires { w < 65536 }
-    ensures { Puts out.old n out.new result (enc_number 2 w) }
-{
-    let m = put_byte(out, n, (w / 256) as u8);
-    put_byte(out, m, (w % 256) as u8)
+impl Model for Writer {
+    ghost Value = { Option (List ℕ) };
+
+    ghost view = { λ w. held w.length w.bytes };
+
+    ghost invariant = { λ w. AtMost 4096 w.length };
 }
 
-// The bytes of s from a up to b.
-pub fn put_copy(out: &mut [u8; 4096], n: usize, s: &[u8], a: usize, b: usize) -> usize
-    requires { (a ≤ b) × (b ≤ length s.now) }
-    ensures { Puts out.old n out.new result (between s.now a b) }
-{
-    let mut i = a;
-    let mut m = n;
-    while i < b {
-        m = put_byte(out, m, s[i]);
-        i += 1;
+impl Writer {
+    pub fn new() -> Self
+        ensures { result ≡ Some [] }
+    {
+        Writer {
+            bytes: [0; 4096],
+            length: Some(0),
+        }
     }
-    m
+
+    // Begins again. What the buffer held is not cleared: it lies behind what is written.
+    pub fn clear(&mut self)
+        ensures { self.new ≡ Some [] }
+    {
+        self.length = Some(0);
+    }
+
+    pub fn put_copy(&mut self, s: &[u8])
+        ensures { Puts self.old self.new s.now }
+    {
+        match self.length {
+            Some(n) if s.len() <= FRAME_LIMIT - n => {
+                self.bytes[n..n + s.len()].copy_from_slice(s);
+                self.length = Some(n + s.len());
+            }
+            _ => self.length = None,
+        }
+    }
+
+    pub fn put_byte(&mut self, b: u8)
+        ensures { Puts self.old self.new (b ∷ []) }
+    {
+        self.put_copy(&[b]);
+    }
+
+    // A number of two bytes, high byte first, as a tag is.
+    pub fn put_word(&mut self, w: usize)
+        requires { w < 65536 }
+        ensures { Puts self.old self.new (enc_number 2 w) }
+    {
+        self.put_copy(&(w as u16).to_be_bytes());
+    }
+
+    // What was written, if it fits a frame.
+    pub fn frame(&self) -> Option<&[u8]>
+        ensures bytes { option_copied result ≡ self.now }
+        ensures fits { IfSome result (λ f. length f.now ≤ 4096) }
+    {
+        self.length.map(|n| &self.bytes[..n])
+    }
 }

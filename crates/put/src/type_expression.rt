@@ -4,55 +4,47 @@ ghost use Rattle.std.specs.Prelude.{◌+◌, ◌≤◌, length};
 ghost use Rattle.put.specs.Out.{Puts};
 ghost use Rattle.put.specs.Written.{HasType, Expressed, given_bytes};
 
-use crate::{put_byte, put_copy, put_word};
-
-// Where the type that was written ends, and the cursor behind what was written.
-#[derive(Drop)]
-pub struct Written {
-    pub end: usize,
-    pub cursor: usize,
-}
+use crate::Writer;
+use frame::operators::{BOOL, CPROD, FREE_IDENT, INTEGER, POW};
 
 // The identifier of a given set: its number stands behind the type byte, and the type of the identifier is its power.
-fn given_expression(types: &[u8], at: usize, out: &mut [u8; 4096], n: usize) -> usize
+fn given_expression(types: &[u8], at: usize, out: &mut Writer)
     requires { at + 3 ≤ length types.now }
-    ensures { Puts out.old n out.new result (given_bytes types.now at) }
+    ensures { Puts out.old out.new (given_bytes types.now at) }
 {
-    let m = put_word(out, n, 1);
-    let m = put_copy(out, m, types, at + 1, at + 3);
-    let m = put_byte(out, m, 3);
-    put_copy(out, m, types, at, at + 3)
+    out.put_word(FREE_IDENT);
+    out.put_copy(&types[at + 1..at + 3]);
+    out.put_byte(3);
+    out.put_copy(&types[at..at + 3]);
 }
 
-// The expression of the type at `at`.
-pub fn to_expression(types: &[u8], at: usize, out: &mut [u8; 4096], n: usize) -> Written
+// The expression of the type at `at`; the answer is where that type ends.
+pub fn to_expression(types: &[u8], at: usize, out: &mut Writer) -> usize
     requires { HasType types.now at }
-    ensures { Expressed types.now at out.old n out.new result }
+    ensures { Expressed types.now at out.old out.new result }
 {
-    let b = types[at];
-    match b {
-        0 => Written {
-            end: at + 1,
-            cursor: put_word(out, n, 404),
-        },
-        1 => Written {
-            end: at + 1,
-            cursor: put_word(out, n, 401),
-        },
-        2 => Written {
-            end: at + 3,
-            cursor: given_expression(types, at, out, n),
-        },
+    // Kept: the numbers are the bytes that a frame has for types; read into an enum first, each would stand twice.
+    match types[at] {
+        0 => {
+            out.put_word(BOOL);
+            at + 1
+        }
+        1 => {
+            out.put_word(INTEGER);
+            at + 1
+        }
+        2 => {
+            given_expression(types, at, out);
+            at + 3
+        }
         3 => {
-            let m = put_word(out, n, 752);
-            to_expression(types, at + 1, out, m)
+            out.put_word(POW);
+            to_expression(types, at + 1, out)
         }
         _ => {
-            let m = put_word(out, n, 214);
-            let a = to_expression(types, at + 1, out, m);
-            let p = a.end;
-            let c = a.cursor;
-            to_expression(types, p, out, c)
+            out.put_word(CPROD);
+            let second = to_expression(types, at + 1, out);
+            to_expression(types, second, out)
         }
     }
 }

@@ -6,133 +6,91 @@
 #![tactic(auto)]
 
 mod shown; // shown.rt: what is printed
-mod trials; // trials.rt: lines and input
+mod trials; // trials.rt: lines
 
 use crate::shown::{fill, print_refused, print_run, print_step};
-use crate::trials::{
-    BEGUN, CHECKS, Input, LENT_LIMIT, Line, Next, STEP, line_end, line_in, line_next, next_byte,
-};
-use frame::refusals::BAD_LINE;
-use lines::LineAnswer;
-use reading::FrameAnswer;
+use crate::trials::{Form, LENT_LIMIT, Line, Trial};
+use frame::refusals::Refusal;
 use std::io;
 use std::io::Read;
-use typing::CheckAnswer;
-
-// A budget has 32 bits.
-const BUDGET_LIMIT: usize = 4294967295;
 
 // The bytes of a large buffer: a loop that moves much data would spend its time on calls of fewer.
 const LARGE: usize = 65536;
 
-// What the checks answer for a frame with n nodes.
-fn print_checked(rt: &impl Print, frame: &[u8], n: usize, out: &[u8]) -> io::Result<()> {
-    print!(rt; "{n}")?;
-    let answer = checking::check(frame);
-    match answer {
-        CheckAnswer::Accepted(_n) => print!(rt; " CHECKED"),
-        CheckAnswer::Refused(c) => {
+// The count of nodes, and what the checks answer.
+fn print_checks(rt: &impl Print, frame: &[u8], out: &[u8]) -> io::Result<()> {
+    let read = match reading::read(frame) {
+        Ok(read) => read,
+        Err(refusal) => return print_refused(rt, refusal, out),
+    };
+    let nodes = read.nodes;
+    print!(rt; "{nodes}")?;
+    match checking::check(frame) {
+        Ok(_) => print!(rt; " CHECKED"),
+        Err(refusal) => {
             print!(rt; " ")?;
-            print_refused(rt, c, out)
+            print_refused(rt, refusal, out)
         }
     }
 }
 
-fn print_read(rt: &impl Print, frame: &[u8], out: &[u8]) -> io::Result<()> {
-    let read = reading::read(frame);
-    let answer = read.answer;
-    match answer {
-        FrameAnswer::Nodes(n) => print_checked(rt, frame, n, out),
-        FrameAnswer::Refused(c) => print_refused(rt, c, out),
-    }
-}
-
-// The number is a step's place or a run's budget. The output shows which of its bytes a call writes.
-fn print_answer(
-    rt: &impl Print,
-    form: u8,
-    number: usize,
-    frame: &[u8],
-    out: &mut [u8],
-) -> io::Result<()> {
-    fill(out);
-    if form == CHECKS {
-        print_read(rt, frame, out)
-    } else if form == STEP {
-        let answer = stepping::step(frame, number, out);
-        print_step(rt, answer, out)
-    } else if number <= BUDGET_LIMIT {
-        let answer = running::run(frame, number as u32, out);
-        print_run(rt, answer, out)
-    } else {
-        print_refused(rt, BAD_LINE, out)
-    }
-}
-
-fn print_lent(rt: &impl Print, line: Line, frame: &[u8], space: &mut [u8]) -> io::Result<()> {
-    let lent = line.lent;
-    if lent <= space.len() {
-        print_answer(rt, line.form, line.number, frame, &mut space[..lent])?;
-    }
-    Ok(())
-}
-
-fn print_frame(rt: &impl Print, line: Line, buf: &[u8], n: usize) -> io::Result<()> {
+// The output shows which of its bytes a call writes.
+fn print_trial(rt: &impl Print, trial: Trial, frame: &[u8]) -> io::Result<()> {
     let mut space = [0u8; LENT_LIMIT];
-    if n <= buf.len() {
-        print_lent(rt, line, &buf[..n], &mut space)?;
+    let out = &mut space[..trial.lent.min(LENT_LIMIT)];
+    fill(out);
+    match trial.form {
+        Form::Checks => print_checks(rt, frame, out),
+        Form::Step => {
+            let answer = stepping::step(frame, trial.number, out);
+            print_step(rt, answer, out)
+        }
+        Form::Run => match u32::try_from(trial.number) {
+            Ok(budget) => {
+                let answer = running::run(frame, budget, out);
+                print_run(rt, answer, out)
+            }
+            Err(_) => print_refused(rt, Refusal::BadLine, out),
+        },
     }
-    Ok(())
 }
 
-fn print_line(rt: &impl Print, line: Line, buf: &[u8; 4096]) -> io::Result<()> {
-    let answer = line_end(line);
-    match answer {
-        LineAnswer::Frame(n) => print_frame(rt, line, buf, n)?,
-        LineAnswer::Refused(c) => print_refused(rt, c, b"")?,
+fn print_line(rt: &impl Print, line: &Line) -> io::Result<()> {
+    match line.end() {
+        Ok((trial, frame)) => print_trial(rt, trial, frame)?,
+        Err(refusal) => print_refused(rt, refusal, b"")?,
     }
     println!(rt)
 }
 
-// One character more; at a line's end the answer is printed and a new line begins.
-fn take(rt: &impl Print, line: Line, c: u8, buf: &mut [u8; 4096]) -> io::Result<Line> {
-    if c == 10 {
-        print_line(rt, line, buf)?;
-        return Ok(line_in(BEGUN, 0, 0, 0));
+// At a line's end the answer is printed and a new line begins.
+fn take(rt: &impl Print, line: &mut Line, piece: &[u8]) -> io::Result<()> {
+    for &c in piece {
+        if c == b'\n' {
+            print_line(rt, line)?;
+            line.clear();
+        } else {
+            line.push(c);
+        }
     }
-    Ok(line_next(line, c, buf))
+    Ok(())
 }
 
 // A proved loop has to end, and nothing says that the input does: no run uses up so many turns.
-fn read_all(
-    rt: &impl Print,
-    stdin: &mut impl Read,
-    space: &mut [u8],
-    buf: &mut [u8; 4096],
-) -> io::Result<Line> {
-    let mut line = line_in(BEGUN, 0, 0, 0);
-    let mut input = Input { at: 0, end: 0 };
-    let mut turns = u64::MAX;
-    while turns > 0 {
-        let next = next_byte(stdin, input, space)?;
-        let Next::Byte(c, rest) = next else {
-            return Ok(line);
-        };
-        line = take(rt, line, c, buf)?;
-        input = rest;
-        turns -= 1;
-    }
-    Ok(line)
-}
-
 fn main(rt: HostRuntime) -> io::Result<()> {
-    let mut stdin = rt.stdin();
-    let mut space = [0u8; LARGE];
-    let mut buf = [0u8; 4096];
-    let line = read_all(&rt, &mut stdin, &mut space, &mut buf)?;
+    let mut input = rt.stdin();
+    let mut piece = [0u8; LARGE];
+    let mut line = Line::new();
+    for _ in 0..u64::MAX {
+        let n = input.read(&mut piece)?;
+        if n == 0 {
+            break;
+        }
+        take(&rt, &mut line, &piece[..n])?;
+    }
     // Bytes after the last 0A are a line too.
-    if line.part != BEGUN {
-        print_line(&rt, line, &buf)?;
+    if !line.is_empty() {
+        print_line(&rt, &line)?;
     }
     Ok(())
 }

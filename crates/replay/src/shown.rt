@@ -1,7 +1,8 @@
 // What is printed of an answer, and of an output that shows which of its bytes were written.
-use run::RunAnswer;
-use std::io;
-use step::StepAnswer;
+use frame::refusals::Refusal;
+use run::{Ending, Run};
+use std::{fmt, io};
+use step::Step;
 
 // What the output holds before the call: bytes that go by their place, so that one that was written or moved is seen.
 fn pattern(i: usize) -> u8 {
@@ -9,39 +10,41 @@ fn pattern(i: usize) -> u8 {
 }
 
 pub fn fill(out: &mut [u8]) {
-    let mut i: usize = 0;
-    while i < out.len() {
-        out[i] = pattern(i);
-        i += 1;
+    for (i, b) in out.iter_mut().enumerate() {
+        *b = pattern(i);
     }
 }
 
 // Whether the output's bytes from `from` on are as they were before the call.
 fn kept(out: &[u8], from: usize) -> bool {
-    let mut i = from;
-    while i < out.len() {
-        if out[i] != pattern(i) {
-            return false;
-        }
-        i += 1;
-    }
-    true
+    out.iter()
+        .enumerate()
+        .skip(from)
+        .all(|(i, &b)| b == pattern(i))
 }
 
-// The text in the first n bytes.
-fn print_part(rt: &impl Print, s: &[u8], n: usize) -> io::Result<()> {
-    if n <= s.len() {
-        rt.write_all(&s[..n])?;
+// A run's ending by its word.
+#[derive(Clone, Copy, Debug, PartialEq, Eq)]
+struct Word(Ending);
+
+impl fmt::Display for Word {
+    fn fmt<W: fmt::Write>(&self, f: &mut fmt::Formatter<W>) -> fmt::Result {
+        match self.0 {
+            Ending::Rest => write!(f, "REST"),
+            Ending::Spent => write!(f, "SPENT"),
+            Ending::Full => write!(f, "FULL"),
+        }
     }
-    Ok(())
 }
 
 // The frame in the first n bytes of the output; behind that no byte may have been written.
 fn print_output(rt: &impl Print, out: &[u8], n: usize) -> io::Result<()> {
-    if n <= out.len() {
+    if let Some(frame) = out.get(..n) {
         let mut text = [0u8; 8192];
-        let m = lines::write_line(&out[..n], &mut text);
-        print_part(rt, &text, m)?;
+        let length = lines::write_line(frame, &mut text);
+        if let Some(text) = length.and_then(|length| text.get(..length)) {
+            rt.write_all(text)?;
+        }
     }
     if !kept(out, n) {
         print!(rt; " TOUCHED")?;
@@ -49,36 +52,35 @@ fn print_output(rt: &impl Print, out: &[u8], n: usize) -> io::Result<()> {
     Ok(())
 }
 
-pub fn print_refused(rt: &impl Print, number: u8, out: &[u8]) -> io::Result<()> {
+pub fn print_refused(rt: &impl Print, refusal: Refusal, out: &[u8]) -> io::Result<()> {
+    let number = u8::from(refusal);
     print!(rt; "REFUSED {number}")?;
     print_output(rt, out, 0)
 }
 
-pub fn print_step(rt: &impl Print, answer: StepAnswer, out: &[u8]) -> io::Result<()> {
+pub fn print_step(rt: &impl Print, answer: Result<Step, Refusal>, out: &[u8]) -> io::Result<()> {
     match answer {
-        StepAnswer::Unchanged => {
+        Ok(Step::Unchanged) => {
             print!(rt; "UNCHANGED")?;
             print_output(rt, out, 0)
         }
-        StepAnswer::Changed(n) => {
+        Ok(Step::Changed(n)) => {
             print!(rt; "CHANGED ")?;
             print_output(rt, out, n)
         }
-        StepAnswer::Refused(c) => print_refused(rt, c, out),
+        Err(refusal) => print_refused(rt, refusal, out),
     }
 }
 
-// A run that ended: its word, the count of steps, the last frame.
-fn print_ended(rt: &impl Print, word: &str, count: u32, out: &[u8], n: usize) -> io::Result<()> {
-    print!(rt; "{word} {count} ")?;
-    print_output(rt, out, n)
-}
-
-pub fn print_run(rt: &impl Print, answer: RunAnswer, out: &[u8]) -> io::Result<()> {
+// How a run ended: its word, the count of steps, the last frame.
+pub fn print_run(rt: &impl Print, answer: Result<Run, Refusal>, out: &[u8]) -> io::Result<()> {
     match answer {
-        RunAnswer::Rest(count, n) => print_ended(rt, "REST", count, out, n),
-        RunAnswer::Spent(count, n) => print_ended(rt, "SPENT", count, out, n),
-        RunAnswer::Full(count, n) => print_ended(rt, "FULL", count, out, n),
-        RunAnswer::Refused(c) => print_refused(rt, c, out),
+        Ok(run) => {
+            let word = Word(run.ending);
+            let steps = run.steps;
+            print!(rt; "{word} {steps} ")?;
+            print_output(rt, out, run.length)
+        }
+        Err(refusal) => print_refused(rt, refusal, out),
     }
 }

@@ -1,188 +1,127 @@
-// The lines that the program reads, of three forms, and its input, a byte at a time.
-use frame::refusals::BAD_LINE;
-use lines::{LineAnswer, LineState};
-use std::io;
-use std::io::Read;
+// The lines that the program reads, of three forms, a character at a time.
+use frame::refusals::Refusal;
+use lines::LineReader;
 
 // The most that a line may lend.
 pub const LENT_LIMIT: usize = 8192;
 
 // The forms of a line: `F FRAME`, `S PLACE LENT FRAME`, `R BUDGET LENT FRAME`.
-pub const CHECKS: u8 = b'F';
+#[derive(Clone, Copy, Debug, PartialEq, Eq)]
+pub enum Form {
+    Checks,
+    Step,
+    Run,
+}
 
-pub const STEP: u8 = b'S';
+impl TryFrom<u8> for Form {
+    type Error = Refusal;
 
-const RUN: u8 = b'R';
+    // The form that begins with the letter c.
+    fn try_from(c: u8) -> Result<Form, Refusal> {
+        match c {
+            b'F' => Ok(Form::Checks),
+            b'S' => Ok(Form::Step),
+            b'R' => Ok(Form::Run),
+            _ => Err(Refusal::BadLine),
+        }
+    }
+}
 
-// What the next character of a line may be: its letter; the space after that; the number's first digit; more of the number; the lent
-// length's first digit; more of it; a character of the frame; or the line is of another form.
-pub const BEGUN: u8 = 0;
-
-const LETTER: u8 = 1;
-
-const NUMBER_FIRST: u8 = 2;
-
-const NUMBER: u8 = 3;
-
-const LENT_FIRST: u8 = 4;
-
-const LENT: u8 = 5;
-
-const FRAME: u8 = 6;
-
-const MALFORMED: u8 = 7;
-
-#[derive(Clone, Copy)]
-pub struct Line {
-    pub part: u8,
-    pub form: u8,
-    // a step's place or a run's budget
+// What a line asks for its frame: the number is a step's place or a run's budget, and `lent` the bytes of the output.
+#[derive(Clone, Copy, Debug, PartialEq, Eq)]
+pub struct Trial {
+    pub form: Form,
     pub number: usize,
     pub lent: usize,
-    pub text: LineState,
 }
 
-pub fn line_in(part: u8, form: u8, number: usize, lent: usize) -> Line {
-    let text = lines::line_start();
-    Line {
-        part: part,
-        form: form,
-        number: number,
-        lent: lent,
-        text: text,
-    }
+// How far a line has come. A number is None before its first digit.
+#[derive(Clone, Copy, Debug, PartialEq, Eq)]
+enum Part {
+    Begun,
+    Letter(Form),
+    Number(Form, Option<usize>),
+    Lent(Form, usize, Option<usize>),
+    Frame(Trial),
 }
 
-// The line's first character.
-fn letter(c: u8) -> Line {
-    if c == CHECKS || c == STEP || c == RUN {
-        return line_in(LETTER, c, 0, 0);
-    }
-    line_in(MALFORMED, 0, 0, 0)
+// The number with the digit c behind it, if c is one and the number is at most `most`.
+fn with_digit(number: Option<usize>, c: u8, most: usize) -> Option<usize> {
+    let digit = char::from(c).to_digit(10)?;
+    number
+        .unwrap_or(0)
+        .checked_mul(10)?
+        .checked_add(digit as usize)
+        .filter(|&n| n <= most)
 }
 
-// A space that stands before the frame.
-fn space(line: Line) -> Line {
-    let part = line.part;
-    let form = line.form;
-    if part == LETTER {
-        if form == CHECKS {
-            return line_in(FRAME, form, 0, 0);
+impl Part {
+    // The part with one character more, if the line can go on so.
+    fn next(self, c: u8) -> Option<Part> {
+        match (self, c) {
+            (Part::Begun, _) => Form::try_from(c).ok().map(Part::Letter),
+            (Part::Letter(Form::Checks), b' ') => Some(Part::Frame(Trial {
+                form: Form::Checks,
+                number: 0,
+                lent: 0,
+            })),
+            (Part::Letter(form), b' ') => Some(Part::Number(form, None)),
+            (Part::Letter(_), _) => None,
+            (Part::Number(form, Some(number)), b' ') => Some(Part::Lent(form, number, None)),
+            (Part::Number(form, number), _) => {
+                Some(Part::Number(form, Some(with_digit(number, c, usize::MAX)?)))
+            }
+            (Part::Lent(form, number, Some(lent)), b' ') => Some(Part::Frame(Trial {
+                form,
+                number,
+                lent,
+            })),
+            (Part::Lent(form, number, lent), _) => {
+                Some(Part::Lent(form, number, Some(with_digit(lent, c, LENT_LIMIT)?)))
+            }
+            (Part::Frame(trial), _) => Some(Part::Frame(trial)),
         }
-        return line_in(NUMBER_FIRST, form, 0, 0);
     }
-    if part == NUMBER {
-        return line_in(LENT_FIRST, form, line.number, 0);
-    }
-    if part == LENT {
-        return line_in(FRAME, form, line.number, line.lent);
-    }
-    line_in(MALFORMED, 0, 0, 0)
 }
 
+// A line so far; `part` is None where it is of another form.
 #[derive(Drop)]
-enum Number {
-    Is(usize),
-    No,
+pub struct Line {
+    part: Option<Part>,
+    frame: LineReader,
 }
 
-// The number n with the digit c behind it, if c is one and the number is at most `most`.
-fn with_digit(n: usize, c: u8, most: usize) -> Number {
-    if c < 48 {
-        return Number::No;
+impl Line {
+    pub fn new() -> Line {
+        Line {
+            part: Some(Part::Begun),
+            frame: LineReader::new(),
+        }
     }
-    if 57 < c {
-        return Number::No;
-    }
-    let d = (c - 48) as usize;
-    if most < d {
-        return Number::No;
-    }
-    if (most - d) / 10 < n {
-        return Number::No;
-    }
-    Number::Is(10 * n + d)
-}
 
-// Another character that stands before the frame: a digit of one of the two numbers.
-fn digit(line: Line, c: u8) -> Line {
-    let part = line.part;
-    if part == NUMBER_FIRST || part == NUMBER {
-        let Number::Is(n) = with_digit(line.number, c, usize::MAX) else {
-            return line_in(MALFORMED, 0, 0, 0);
-        };
-        return line_in(NUMBER, line.form, n, 0);
+    // Begins another line.
+    pub fn clear(&mut self) {
+        self.part = Some(Part::Begun);
+        self.frame.clear();
     }
-    if part == LENT_FIRST || part == LENT {
-        let Number::Is(n) = with_digit(line.lent, c, LENT_LIMIT) else {
-            return line_in(MALFORMED, 0, 0, 0);
-        };
-        return line_in(LENT, line.form, line.number, n);
-    }
-    line_in(MALFORMED, 0, 0, 0)
-}
 
-// The line with one character more.
-pub fn line_next(line: Line, c: u8, buf: &mut [u8; 4096]) -> Line {
-    let part = line.part;
-    if part == FRAME {
-        let piece = [c];
-        let text = lines::line_piece(line.text, &piece, buf);
-        return Line {
-            part: FRAME,
-            form: line.form,
-            number: line.number,
-            lent: line.lent,
-            text: text,
-        };
+    pub fn is_empty(&self) -> bool {
+        self.part == Some(Part::Begun)
     }
-    if part == BEGUN {
-        return letter(c);
-    }
-    if c == 32 {
-        return space(line);
-    }
-    digit(line, c)
-}
 
-// The line ends: the length of its frame, or its number.
-pub fn line_end(line: Line) -> LineAnswer {
-    if line.part == FRAME {
-        return lines::line_end(line.text);
+    // One character more.
+    pub fn push(&mut self, c: u8) {
+        if let Some(Part::Frame(_)) = self.part {
+            self.frame.push(c);
+        }
+        self.part = self.part.and_then(|part| part.next(c));
     }
-    LineAnswer::Refused(BAD_LINE)
-}
 
-// ---- input
-
-// Where the bytes that were read and not yet taken stand in the buffer.
-#[derive(Drop)]
-pub struct Input {
-    pub at: usize,
-    pub end: usize,
-}
-
-#[derive(Drop)]
-pub enum Next {
-    Byte(u8, Input),
-    End,
-}
-
-pub fn next_byte(stdin: &mut impl Read, input: Input, space: &mut [u8]) -> io::Result<Next> {
-    let at = input.at;
-    let end = input.end;
-    if at < end && at < space.len() {
-        return Ok(Next::Byte(
-            space[at],
-            Input {
-                at: at + 1,
-                end: end,
-            },
-        ));
+    // The line ends: what it asks, and its frame.
+    pub fn end(&self) -> Result<(Trial, &[u8]), Refusal> {
+        match self.part {
+            Some(Part::Frame(trial)) => Ok((trial, self.frame.frame()?)),
+            _ => Err(Refusal::BadLine),
+        }
     }
-    let n = stdin.read(space)?;
-    if n == 0 {
-        return Ok(Next::End);
-    }
-    Ok(Next::Byte(space[0], Input { at: 1, end: n }))
 }

@@ -1,2 +1,2 @@
-pub mod Symbols
-mod FillTurns
+pub mod FillTurns
+pub mod FitTypes

@@ -4,6 +4,7 @@ use mathlib.Core.Bool.{true}
 use mathlib.Core.List.{List, [], ◌∷◌}
 use Prim.Native.Nat.{ℕ}
 use borrow.Author.Tests.{ne_eqb}
+use Rattle.std.proofs.Common.{Option, None}
 use Rattle.frame.specs.Trees.{head, Tree, node, tag_of}
 use Rattle.frame.specs.Tags.{predicate, expression, lookup, class_of, form_at}
 use Rattle.frame.specs.Places.{Ctx, found}
@@ -18,7 +19,6 @@ use Rattle.decision.specs.Decides.{Here, Decides, Unlike}
 use Rattle.rewriter.specs.Inter.{InterPre, InterPost}
 use Rattle.decision.specs.RulesAt.{looked_up}
 use Rattle.decision.specs.declared.Decision.{Decision}
-use Rattle.decision.specs.declared.Decision.TheVariants as D
 use Rattle.decision.proofs.Shapes.{any, OfNode, OfChild, OfTwo, OfEach, OfPair, by_rest, by_double, by_each, by_pair, or_same, two_or_none}
 use Rattle.decision.proofs.TagRows.{Row, row, is_row, by_children, by_doubles, by_nodes}
 
@@ -77,7 +77,7 @@ module _ (s st nx : List ℕ) (k tag : ℕ) (pt : TagPost s st k tag) where
       let o = any 302 h.v (sym (pt.tag h.t h.n h.Γ h.v h.table.framed h.there) ∙ key) in
       record { t = h.t; n = h.n; Γ = h.Γ; x = o.n; us = o.us; ks = o.ks; table = h.table; there = h.there ∙ ap (found h.Γ) o.is }
 
-  pub empty_inter : tag ≡ 302 → (r : Decision) → InterPost s st nx k r → Decides rewrite_equals_empty_set s st nx k r
+  pub empty_inter : tag ≡ 302 → (r : Option Decision) → InterPost s st nx k r → Decides rewrite_equals_empty_set s st nx k r
   unfolding on_tag rewrite_equals_empty_set
   empty_inter key r post = record {
     means = λ t n Γ v tb f w Ξ kept.
@@ -87,9 +87,9 @@ module _ (s st nx : List ℕ) (k tag : ℕ) (pt : TagPost s st k tag) where
 
   -- no place of the source
   pub empty_none : Unlike tag looked_up → Unlike tag (411 ∷ 410 ∷ 412 ∷ 403 ∷ 402 ∷ 305 ∷ 763 ∷ 757 ∷ 756 ∷ 754 ∷ 753 ∷ 752 ∷ 301 ∷ 5 ∷ [])
-      → Decides rewrite_equals_empty_set s st nx k D.Rests
+      → Decides rewrite_equals_empty_set s st nx k None
   unfolding on_tag rewrite_equals_empty_set
-  empty_none u v = by_rest rewrite_equals_empty_set s st nx k tag pt (λ Γ e. rest Γ e) D.Rests refl
+  empty_none u v = by_rest rewrite_equals_empty_set s st nx k tag pt (λ Γ e. rest Γ e) None refl
     where
       rest : (Γ : Ctx) (e : Tree) → tag_of e ≡ tag → rewrite_equals_empty_set Γ e ≡ same
       rest Γ (node (head o n us) ks) z = rw z (simp (

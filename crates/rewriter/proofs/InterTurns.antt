@@ -1,24 +1,27 @@
 -- The ways out of the functions of src/inter.rt.
--- Main results: minus_tag; inter_placed, inter_child; any_first, any_found, any_next, any_none (the loop of any_minus); inter_apart, inter_within,
--- inter_rests (decide_inter).
+-- Main results: minus_tag; inter_tree, inter_placed, inter_child, inter_few; any_done (any_minus); apart_none, apart_some, apart_other (apart_at);
+-- inter_apart, inter_within, inter_rests (decide_inter).
 use mathlib.Core.Path.{◌≡◌, refl, sym, ap, ◌∙◌}
 use mathlib.Core.Bool.{Bool, true, false, not, ◌||◌}
 use mathlib.Core.List.{List, []}
-use mathlib.Core.Logic.{◌⊎◌, inl, inr}
 use Prim.Native.Nat.{ℕ, suc, ◌+◌, ◌≤◌, ◌<◌}
 use native.Mathlib.Omega.{arith}
 use lib.Dec.{eqb, eqb-suc-suc}
-use lib.ListN.{get_or}
+use lib.ListN.{length, get_or}
 use borrow.Author.Tests.{ne_eqb, eqb-true}
 use Rattle.frame.specs.Types.{Ty}
-use Rattle.frame.specs.Trees.{head, Tree, node, Forest, nil, cons, count, tag_of, two, many, sole, append}
+use Rattle.frame.specs.Trees.{head, Tree, node, Forest, nil, cons, count, tag_of, nodes, nodes_in, two, many, sole, append}
 use Rattle.frame.specs.Tags.{pick, Sort, lookup, class_of, form_at}
 use Rattle.frame.specs.Operators.{#SetExt, #BInter, #BUnion, #SubsetEq}
 use Rattle.frame.specs.WellFormed.{Wf}
 use Rattle.frame.specs.Places.{Ctx, found, find}
 use Rattle.frame.proofs.Splices.{find_lt}
-use Rattle.nav.specs.PlaceTables.{Table, Placed, TagPost, ArityPost}
-use Rattle.nav.proofs.Hops.{Sorted, framed_few, place_sorted}
+use Rattle.std.specs.Prelude.{Some, None}
+use Rattle.std.specs.Bool.{MatchBool}
+use Rattle.std.specs.List.{HoldsAt, AllWithin}
+use Rattle.nav.specs.PlaceTables.{Table, Placed, InTree, TagPost, ArityPost, ChildrenOf, places_from, child_places}
+use Rattle.nav.proofs.ChildPlaces.{any_child, child_placed}
+use Rattle.nav.proofs.Hops.{Sorted, framed_few, place_sorted, place_end}
 use Rattle.rules.specs.Change.{to, same, when, joined}
 use Rattle.rules.specs.EqualsEmptySet.{
   Single,
@@ -41,9 +44,8 @@ use Rattle.rules.specs.EqualsEmptySet.{
   subtrahends,
   inter_empty,
 }
-use Rattle.decision.proofs.Children.{Lefts, walk_first, walk_placed, walk_next, walk_stop, walk_end}
 use Rattle.decision.specs.Decision.{ApartMeans}
-use Rattle.rewriter.specs.Inter.{MinusPost, InterPre, AnyMinusPost, count_singles, CountPost, SingleAt, FirstPost, apart_when, InterPost}
+use Rattle.rewriter.specs.Inter.{MinusPost, InterPre, AnyMinusPost, count_singles, CountPost, SingleAt, FirstPost, ApartPost, apart_when, InterPost}
 use Rattle.decision.specs.declared.Decision.TheVariants as D
 
 -- ---- a difference has two operands
@@ -66,49 +68,53 @@ minus_tag s st k tag post = record {
       minus_is v (place_sorted s t st n fr k Γ v f) (eqb tag 213) (ap (λ (i : ℕ). eqb i 213) (sym (post.tag t n Γ v fr f)));
 }
 
--- what the loop of any_minus keeps: none is behind
-abbrev pub NoMinus : Forest → ℕ → Forest → Type 0
-NoMinus ks c rest = any_minus ks ≡ any_minus rest
+-- ---- the children of an ∩
+few_places : (ks : Forest) (c : ℕ) → length (places_from ks c) ≤ nodes_in ks
+unfolding nodes
+few_places nil c = omega arith
+few_places (cons w ks) c = let r = few_places ks (c + nodes w) in omega (arith, some_nodes w)
+  where
+    some_nodes : (w : Tree) → 0 < nodes w
+    some_nodes (node h ks) = omega arith
 
 module _ (s st nx : List ℕ) (k : ℕ) where
-  pub inter_placed : InterPre s st nx k → Placed s st k × (k < 2048)
-  inter_placed pre =
-      let b = find_lt pre.t [] k pre.Γ (node (head 302 pre.x pre.us) pre.ks) pre.there in (
-        record { t = pre.t; n = pre.n; framed = pre.table.framed; below = b },
-        omega (arith, framed_few s pre.t st pre.n pre.table.framed),
-      )
+  pub inter_tree : InterPre s st nx k → InTree s st nx k
+  inter_tree pre = record {
+    t = pre.t;
+    n = pre.n;
+    table = pre.table;
+    below = find_lt pre.t [] k pre.Γ (node (head 302 pre.x pre.us) pre.ks) pre.there;
+  }
 
-  -- a child that a loop has come to
-  pub inter_child : (P : Forest → ℕ → Forest → Type 0) (r : ℕ) → ArityPost s st k r → (c i : ℕ) → Lefts s st nx k P c i → i < r
-      → InterPre s st nx k → Placed s st c × (c < 2048)
-  inter_child P r many c i ls h pre =
-      walk_placed s st nx k P r many c i ls h pre.t pre.n pre.Γ 302 pre.x pre.us pre.ks pre.table pre.there
+  pub inter_placed : InterPre s st nx k → Placed s st k
+  inter_placed pre = let p = inter_tree pre in record { t = p.t; n = p.n; framed = p.table.framed; below = p.below }
 
-  -- ---- the children of a node, until one is a difference
-  pub any_first : Lefts s st nx k NoMinus (k + 1) 0
-  any_first = walk_first s st nx k NoMinus (λ ks. refl)
+  -- a child that a test comes to
+  pub inter_child : InterPre s st nx k → (places : List ℕ) → ChildrenOf s st nx k places → (c i : ℕ) → i < length places → c ≡ get_or places i c
+      → Placed s st c
+  inter_child pre places post c i h e =
+      let p = child_placed s st nx k (inter_tree pre) places post c i h e in
+      record { t = p.t; n = p.n; framed = p.table.framed; below = p.below }
 
-  module _ (r : ℕ) (many : ArityPost s st k r) (c i : ℕ) (ls : Lefts s st nx k NoMinus c i) where
-    module _ (h : i < r) (o : Bool) (post : MinusPost s st c o) where
-      goes_on : (ks : Forest) (w : Tree) (others : Forest) → o ≡ is_minus (minus_of w) → any_minus ks ≡ any_minus (cons w others)
-          → any_minus ks ≡ (o || any_minus others)
-      unfolding any_minus
-      goes_on ks w others e p = p ∙ ap (λ (b : Bool). b || any_minus others) (sym e)
+  pub inter_few : InterPre s st nx k → (places : List ℕ) → ChildrenOf s st nx k places → length places ≤ 2048
+  unfolding nodes
+  inter_few pre places post =
+      let v : Tree = node (head 302 pre.x pre.us) pre.ks in
+      let z : length places ≡ length (child_places v k) = ap length (post.are pre.t pre.n pre.Γ v pre.table pre.there) in
+      let e = place_end pre.t [] k pre.Γ v pre.there in
+      omega (arith, few_places pre.ks (k + 1), framed_few s pre.t st pre.n pre.table.framed)
 
-      pub any_found : o ≡ true → AnyMinusPost s st nx k true
-      any_found e = record {
-        any = walk_stop s st nx k NoMinus r many c i ls h (λ w. o ≡ is_minus (minus_of w)) post.minus (λ ks. true ≡ any_minus ks)
-            (λ ks w others q p. sym (goes_on ks w others q p ∙ ap (λ (b : Bool). b || any_minus others) e));
-      }
-
-      pub any_next : o ≡ false → (next : ℕ) → next ≡ get_or nx c 0 → Lefts s st nx k NoMinus next (i + 1)
-      any_next e =
-          walk_next s st nx k NoMinus r many c i ls h (λ w. o ≡ is_minus (minus_of w)) post.minus NoMinus
-          (λ ks w others q p. goes_on ks w others q p ∙ ap (λ (b : Bool). b || any_minus others) e)
-
-    pub any_none : r ≤ i → AnyMinusPost s st nx k false
-    unfolding any_minus
-    any_none h = record { any = walk_end s st nx k NoMinus r many c i ls h (λ ks. false ≡ any_minus ks) (λ ks p. sym p) }
+  pub any_done : (places : List ℕ) → ChildrenOf s st nx k places → (r : Bool)
+      → MatchBool r ((i : ℕ) × (i < length places) × HoldsAt (λ c. MinusPost s st c true) places i)
+      (AllWithin (λ c. MinusPost s st c false) places 0 (length places))
+      → AnyMinusPost s st nx k r
+  unfolding any_minus
+  any_done places post r m = record {
+    any = λ t n Γ g x us ks tb f.
+        any_child t (λ w. is_minus (minus_of w)) any_minus refl (λ w ws. refl) (λ c. MinusPost s st c true) (λ c. MinusPost s st c false)
+        (λ c Θ w fw p. p.minus t n Θ w tb.framed fw) (λ c Θ w fw p. p.minus t n Θ w tb.framed fw) k Γ g x us ks f places
+        (post.are t n Γ (node (head g x us) ks) tb f) r m;
+  }
 
 -- ---- the first set of one member, and how many there are
 abbrev Counted : Singled → Forest → Type 0
@@ -165,30 +171,42 @@ first_at a (cons k left) right h = go (single_of k) h (first_at a left right)
     go (single b) e ih = let z : ◌≡◌ {A = ℕ} 0 1 = cc in absurd (omega arith)
     go none e ih = ap (besides k) (ih e)
 
--- ---- the ways out of decide_inter
-module _ (s st nx : List ℕ) (k r m : ℕ) (many : ArityPost s st k r) (singles : CountPost s st nx k m) where
-  apart_is : (t : Tree) (n : ℕ) (Γ : Ctx) (x : ℕ) (us : List Ty) (ks : Forest) → Table s t st nx n → find t [] k ≡ found Γ (node (head 302 x us) ks)
-      → apart_when (count ks) (count_singles ks) ≡ apart_when r m
-  apart_is t n Γ x us ks tb f =
-      let z : r ≡ count ks = many.many t n Γ (node (head 302 x us) ks) tb.framed f in
-      let y : m ≡ count_singles ks = singles.counted t n Γ 302 x us ks tb f in
-      rw (z, y)
+-- ---- the ways out of apart_at
+module _ (s st nx : List ℕ) (k : ℕ) where
+  pub apart_none : FirstPost s st nx k None → ApartPost s st nx k None
+  apart_none first = record {
+    apart = λ t n Γ g x us ks tb f.
+        let z : eqb (count_singles ks) 0 ≡ true = sym (none_counted ks) ∙ ap not (first.first t n Γ g x us ks tb f) in
+        rw z;
+  }
 
-  pub inter_apart : apart_when r m ≡ true → (p : ℕ) → FirstPost s st nx k p → InterPost s st nx k (D.Apart k p)
+  module _ (p r m : ℕ) (first : FirstPost s st nx k (Some p)) (many : ArityPost s st k r) (singles : CountPost s st nx k m) where
+    apart_is : (t : Tree) (n : ℕ) (Γ : Ctx) (g x : ℕ) (us : List Ty) (ks : Forest) → Table s t st nx n → find t [] k ≡ found Γ (node (head g x us) ks)
+        → apart_when (count ks) (count_singles ks) ≡ apart_when r m
+    apart_is t n Γ g x us ks tb f =
+        let z : r ≡ count ks = many.many t n Γ (node (head g x us) ks) tb.framed f in
+        let y : m ≡ count_singles ks = singles.counted t n Γ g x us ks tb f in
+        rw (z, y)
+
+    pub apart_some : apart_when r m ≡ true → ApartPost s st nx k (Some p)
+    apart_some e = record {
+      apart = λ t n Γ g x us ks tb f. (apart_is t n Γ g x us ks tb f ∙ e, first.first t n Γ g x us ks tb f);
+    }
+
+    pub apart_other : apart_when r m ≡ false → ApartPost s st nx k None
+    apart_other e = record { apart = λ t n Γ g x us ks tb f. apart_is t n Γ g x us ks tb f ∙ e }
+
+-- ---- the ways out of decide_inter
+module _ (s st nx : List ℕ) (k : ℕ) where
+  pub inter_apart : (p : ℕ) → ApartPost s st nx k (Some p) → InterPost s st nx k (Some (D.Apart k p))
   unfolding inter_empty
-  inter_apart e p first = record {
-    means = λ t n Γ x us ks tb f w Ξ kept. go t n Γ x us ks tb f (apart_is t n Γ x us ks tb f ∙ e) (first.first t n Γ 302 x us ks tb f);
+  inter_apart p apart = record {
+    means = λ t n Γ x us ks tb f w Ξ kept. (let q = apart.apart t n Γ 302 x us ks tb f in go t n Γ x us ks tb f q.0 q.1);
   }
     where
       go : (t : Tree) (n : ℕ) (Γ : Ctx) (x : ℕ) (us : List Ty) (ks : Forest) → Table s t st nx n → find t [] k ≡ found Γ (node (head 302 x us) ks)
-          → apart_when (count ks) (count_singles ks) ≡ true → ((any_single ks ≡ false) × (p ≡ k)) ⊎ SingleAt (k + 1) p ks
-          → ApartMeans t k p (inter_empty ks)
-      go t n Γ x us ks tb f h (inl q) =
-          let z : eqb (count_singles ks) 0 ≡ true = sym (none_counted ks) ∙ ap not q.0 in
-          let y : false ≡ true = rw z at h in
-          let v : ◌≡◌ {A = ℕ} 0 1 = cc in
-          absurd (omega arith)
-      go t n Γ x us ks tb f h (inr q) =
+          → apart_when (count ks) (count_singles ks) ≡ true → SingleAt (k + 1) p ks → ApartMeans t k p (inter_empty ks)
+      go t n Γ x us ks tb f h q =
           let rest : Forest = append q.left q.right in
           let z : first_single ks ≡ singled q.a rest = ap first_single q.is ∙ first_at q.a q.left q.right q.none in
           let c : Counted (singled q.a rest) ks = rw z at (counted ks) in
@@ -205,20 +223,20 @@ module _ (s st nx : List ℕ) (k r m : ℕ) (many : ArityPost s st k r) (singles
             answer = rw (z, b);
           }
 
-  module _ (e : apart_when r m ≡ false) where
+  module _ (apart : ApartPost s st nx k None) where
     inter_is : (t : Tree) (n : ℕ) (Γ : Ctx) (x : ℕ) (us : List Ty) (ks : Forest) → Table s t st nx n → find t [] k ≡ found Γ (node (head 302 x us) ks)
         → inter_empty ks ≡ when (any_minus ks) (to 38 (two #SubsetEq (joined #BInter (minuends ks)) (joined #BUnion (subtrahends ks))))
     unfolding inter_empty
-    inter_is t n Γ x us ks tb f = rw (apart_not (first_single ks) ks (counted ks) (apart_is t n Γ x us ks tb f ∙ e))
+    inter_is t n Γ x us ks tb f = rw (apart_not (first_single ks) ks (counted ks) (apart.apart t n Γ 302 x us ks tb f))
 
-    pub inter_within : (o : Bool) → AnyMinusPost s st nx k o → o ≡ true → InterPost s st nx k (D.Within k)
+    pub inter_within : (o : Bool) → AnyMinusPost s st nx k o → o ≡ true → InterPost s st nx k (Some (D.Within k))
     inter_within o post eo = record {
       means = λ t n Γ x us ks tb f w Ξ kept.
           let z : any_minus ks ≡ true = sym (post.any t n Γ 302 x us ks tb f) ∙ eo in
           record { ks = ks; Ξ = Γ; n = x; vs = us; at_node = f; answer = inter_is t n Γ x us ks tb f ∙ rw z };
     }
 
-    pub inter_rests : (o : Bool) → AnyMinusPost s st nx k o → o ≡ false → InterPost s st nx k D.Rests
+    pub inter_rests : (o : Bool) → AnyMinusPost s st nx k o → o ≡ false → InterPost s st nx k None
     inter_rests o post eo = record {
       means = λ t n Γ x us ks tb f w Ξ kept.
           let z : any_minus ks ≡ false = sym (post.any t n Γ 302 x us ks tb f) ∙ eo in

@@ -4,6 +4,7 @@ use mathlib.Core.Bool.{Bool, true, false}
 use mathlib.Core.List.{List}
 use Prim.Native.Nat.{ℕ}
 use borrow.Author.Tests.{eq-eqb, ne_eqb}
+use Rattle.std.proofs.Common.{Option, Some, None, MatchOption}
 use Rattle.frame.specs.Trees.{Tree, tag_of}
 use Rattle.frame.specs.Places.{Ctx}
 use Rattle.nav.specs.PlaceTables.{TagPost}
@@ -11,41 +12,41 @@ use Rattle.rules.specs.Change.{Change, ◌or_else◌}
 use Rattle.rules.specs.EqualsEmptySet.{rewrite_equals_empty_set}
 use Rattle.rules.specs.EqualsType.{rewrite_equals_type}
 use Rattle.rules.specs.Dispatch.{empty_rules, equal_rules, subset_rules}
-use Rattle.decision.specs.Decides.{Decides, DecidesPair, is_rests}
+use Rattle.decision.specs.Decides.{Decides, DecidesPair}
 use Rattle.rewriter.specs.OwnType.{OwnTypePost}
 use Rattle.decision.specs.RulesAt.{type_right}
 use Rattle.decision.specs.declared.Decision.{Decision}
-use Rattle.decision.specs.declared.Decision.TheVariants as D
-use Rattle.decision.proofs.Series.{turned, series_first, series_next}
+use Rattle.decision.proofs.Bridges.{or_assoc}
+use Rattle.decision.proofs.Series.{same_rule, turned, series}
 
 module _ (s st nx : List ℕ) (a b right : ℕ) (pr : TagPost s st b right) where
   -- a rule that looks at the left tree where the right one is ∅
   on_empty : (rule : Ctx → Tree → Tree → Change) → ((Γ : Ctx) (v w : Tree) → tag_of w ≡ 407 → rule Γ v w ≡ rewrite_equals_empty_set Γ v)
-      → right ≡ 407 → (r : Decision) → Decides rewrite_equals_empty_set s st nx a r → DecidesPair rule s st nx a b r
+      → right ≡ 407 → (r : Option Decision) → Decides rewrite_equals_empty_set s st nx a r → DecidesPair rule s st nx a b r
   on_empty rule ans z r p = record {
     means = λ t n Γ v w tb fa fb x Ξ kept. rw (ans Γ v w (sym (pr.tag t n Γ w tb.framed fb) ∙ z)) (p.means t n Γ v tb fa x Ξ kept);
   }
 
   -- ---- ⊆
-  pub within_none : (right ≡ 407 → ⊥) → DecidesPair subset_rules s st nx a b D.Rests
+  pub within_none : (right ≡ 407 → ⊥) → DecidesPair subset_rules s st nx a b None
   within_none h = record { means = λ t n Γ v w tb fa fb x Ξ kept. rw (ne_eqb (tag_of w) 407 (λ z. h (pr.tag t n Γ w tb.framed fb ∙ z))) }
 
-  pub within_empty : right ≡ 407 → (r : Decision) → Decides rewrite_equals_empty_set s st nx a r → DecidesPair subset_rules s st nx a b r
+  pub within_empty : right ≡ 407 → (r : Option Decision) → Decides rewrite_equals_empty_set s st nx a r → DecidesPair subset_rules s st nx a b r
   within_empty = on_empty subset_rules (λ Γ v w z. rw (eq-eqb (tag_of w) 407 z))
 
   -- ---- =, the empty rules
-  pub empty_right : right ≡ 407 → (r : Decision) → Decides rewrite_equals_empty_set s st nx a r → DecidesPair empty_rules s st nx a b r
+  pub empty_right : right ≡ 407 → (r : Option Decision) → Decides rewrite_equals_empty_set s st nx a r → DecidesPair empty_rules s st nx a b r
   empty_right = on_empty empty_rules (λ Γ v w z. rw (eq-eqb (tag_of w) 407 z))
 
   module _ (h : right ≡ 407 → ⊥) (left : ℕ) (pl : TagPost s st a left) where
-    pub empty_left : left ≡ 407 → (r : Decision) → Decides rewrite_equals_empty_set s st nx b r → DecidesPair empty_rules s st nx a b r
+    pub empty_left : left ≡ 407 → (r : Option Decision) → Decides rewrite_equals_empty_set s st nx b r → DecidesPair empty_rules s st nx a b r
     empty_left z r p = record {
       means = λ t n Γ v w tb fa fb x Ξ kept.
           rw (ne_eqb (tag_of w) 407 (λ z. h (pr.tag t n Γ w tb.framed fb ∙ z)), eq-eqb (tag_of v) 407 (sym (pl.tag t n Γ v tb.framed fa) ∙ z))
           (p.means t n Γ w tb fb x Ξ kept);
     }
 
-    pub empty_none : (left ≡ 407 → ⊥) → DecidesPair empty_rules s st nx a b D.Rests
+    pub empty_none : (left ≡ 407 → ⊥) → DecidesPair empty_rules s st nx a b None
     empty_none i = record {
       means = λ t n Γ v w tb fa fb x Ξ kept.
           rw (
@@ -58,26 +59,25 @@ module _ (s st nx : List ℕ) (a b right : ℕ) (pr : TagPost s st b right) wher
 -- ---- =, the type rules
 module _ (s st nx : List ℕ) (a b : ℕ) where
   module _ (own : Bool) (po : OwnTypePost s st nx b own) where
-    pub type_right_lem : own ≡ true → (r : Decision) → Decides rewrite_equals_type s st nx a r → DecidesPair type_right s st nx a b r
+    pub type_right_lem : own ≡ true → (r : Option Decision) → Decides rewrite_equals_type s st nx a r → DecidesPair type_right s st nx a b r
     type_right_lem z r p = record {
       means = λ t n Γ v w tb fa fb x Ξ kept. rw (sym (po.says t n Γ w tb fb) ∙ z) (p.means t n Γ v tb fa x Ξ kept);
     }
 
-    pub type_none : own ≡ false → DecidesPair type_right s st nx a b D.Rests
+    pub type_none : own ≡ false → DecidesPair type_right s st nx a b None
     type_none z = record { means = λ t n Γ v w tb fa fb x Ξ kept. rw (sym (po.says t n Γ w tb fb) ∙ z) }
 
   -- ---- =, all of them
-  module _ (d : Decision) (pd : DecidesPair empty_rules s st nx a b d) where
-    pub equal_empty : is_rests d ≡ false → DecidesPair equal_rules s st nx a b d
-    equal_empty h = series_first s st nx a b empty_rules (λ Γ v w. type_right Γ v w or_else type_right Γ w v) d pd h
-
-    module _ (h : is_rests d ≡ true) (e : Decision) (pe : DecidesPair type_right s st nx a b e) where
-      pub equal_right : is_rests e ≡ false → DecidesPair equal_rules s st nx a b e
-      equal_right i =
-          series_next s st nx a b empty_rules (λ Γ v w. type_right Γ v w or_else type_right Γ w v) d pd h e
-          (series_first s st nx a b type_right (λ Γ v w. type_right Γ w v) e pe i)
-
-      pub equal_left : is_rests e ≡ true → (r : Decision) → DecidesPair type_right s st nx b a r → DecidesPair equal_rules s st nx a b r
-      equal_left i r p =
-          series_next s st nx a b empty_rules (λ Γ v w. type_right Γ v w or_else type_right Γ w v) d pd h r
-          (series_next s st nx a b type_right (λ Γ v w. type_right Γ w v) e pe i r (turned s st nx a b type_right r p))
+  module _ (d : Option Decision) (pd : DecidesPair empty_rules s st nx a b d) (e : Option Decision)
+      (pe : MatchOption d (DecidesPair type_right s st nx a b e) (λ y. e ≡ Some y)) where
+    pub equal_series : (r : Option Decision) → MatchOption e (DecidesPair type_right s st nx b a r) (λ y. r ≡ Some y) → DecidesPair equal_rules s st nx a b r
+    equal_series r pr =
+        let two = series s st nx a b empty_rules type_right d pd e pe in
+        let all = series s st nx a b (λ Γ v w. empty_rules Γ v w or_else type_right Γ v w) (λ Γ v w. type_right Γ w v) e two r (left e r pr) in
+        same_rule s st nx a b (λ Γ v w. (empty_rules Γ v w or_else type_right Γ v w) or_else type_right Γ w v) equal_rules
+        (λ Γ v w. sym (or_assoc (empty_rules Γ v w) (type_right Γ v w) (type_right Γ w v))) r all
+      where
+        left : (e r : Option Decision) → MatchOption e (DecidesPair type_right s st nx b a r) (λ y. r ≡ Some y)
+            → MatchOption e (DecidesPair (λ Γ v w. type_right Γ w v) s st nx a b r) (λ y. r ≡ Some y)
+        left None r p = turned s st nx a b type_right r p
+        left (Some y) r p = p

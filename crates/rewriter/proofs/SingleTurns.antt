@@ -1,24 +1,27 @@
 -- The ways out of the functions of src/inter/singles.rt.
--- Main results: single_no, single_arity; one_small; count_first, count_next, count_end (count_singles); first_first, first_found, first_next,
--- first_none (first_single).
+-- Main results: single_no, single_arity; one_more, count_first, count_child, count_next, count_end (count_singles); first_done (first_single).
 use mathlib.Core.Path.{◌≡◌, refl, sym, ap, ◌∙◌}
-use mathlib.Core.Bool.{Bool, true, false, ◌||◌}
+use mathlib.Core.Bool.{Bool, true, false}
 use mathlib.Core.List.{List, [], ◌∷◌}
-use mathlib.Core.Logic.{◌⊎◌, inl, inr}
 use Prim.Native.Nat.{ℕ, suc, ◌+◌, ◌≤◌, ◌<◌}
 use native.Mathlib.Omega.{arith}
 use lib.Dec.{eqb}
-use lib.ListN.{length, get_or}
+use lib.ListN.{length}
 use borrow.Author.Tests.{eq-eqb, ne_eqb, eqb-true}
 use Rattle.frame.specs.Types.{Ty}
-use Rattle.frame.specs.Trees.{head, Tree, node, Forest, nil, cons, count, tag_of, nodes, many, sole}
+use Rattle.frame.specs.Trees.{head, Tree, node, Forest, nil, cons, count, tag_of, many, sole, append}
 use Rattle.frame.specs.Tags.{pick, Sort, lookup, class_of, form_at}
 use Rattle.frame.specs.WellFormed.{Wf}
-use Rattle.nav.specs.PlaceTables.{arity, TagPost, ArityPost}
+use Rattle.std.specs.Prelude.{Option, Some, None, MatchOption}
+use Rattle.std.specs.Int.{from_bool}
+use Rattle.std.specs.List.{HoldsAt, AllWithin}
+use Rattle.frame.specs.Places.{Ctx, under, found, find}
+use Rattle.nav.specs.PlaceTables.{arity, Table, Placed, TagPost, ArityPost, ChildrenOf}
 use Rattle.nav.proofs.Hops.{Sorted, place_sorted}
 use Rattle.rules.specs.EqualsEmptySet.{none, is_single, single_of, sole_of, any_single}
-use Rattle.decision.proofs.Children.{Lefts, walk_first, walk_next, walk_stop, walk_end}
-use Rattle.rewriter.specs.Inter.{SinglePost, count_singles, CountPost, SingleAt, FirstPost}
+use Rattle.nav.proofs.ChildPlaces.{FirstChild, first_child}
+use Rattle.decision.proofs.ChildWalks.{Lefts, walk_first, walk_placed, walk_next, walk_end}
+use Rattle.rewriter.specs.Inter.{InterPre, SinglePost, count_singles, CountPost, SingleAt, FirstPost}
 
 -- ---- a set of one member
 not_single : (v : Tree) → (tag_of v ≡ 5 → ⊥) → false ≡ is_single (single_of v)
@@ -61,84 +64,69 @@ single_shape (node (head g n us) ks) o q = go (eqb g 5) refl q
         (r.0, ap (λ (i : ℕ). node (head i n us) ks) z ∙ r.1)
     go false h p = let z : ◌≡◌ {A = ℕ} 0 1 = cc in absurd (omega arith)
 
-pub one_small : (b : Bool) (r : ℕ) → r ≡ pick b 1 0 → r ≤ 1
-one_small true r e = omega arith
-one_small false r e = omega arith
+-- a test as a number, and one place fewer to go
+pub one_more : (b : Bool) (r : ℕ) → r ≡ from_bool b → (places : List ℕ) (c : ℕ) (more : List ℕ) → places ≡ c ∷ more
+    → (r ≤ 1) × (length places ≡ suc (length more))
+one_more true r e places c more z = (omega arith, ap length z)
+one_more false r e places c more z = (omega arith, ap length z)
 
--- ---- what the loops over the children of the node at place k keep
+as_number : (b : Bool) (r : ℕ) → r ≡ from_bool b → r ≡ pick b 1 0
+as_number true r e = e
+as_number false r e = e
 
--- m are behind
+-- ---- what the loop over the children of the node at place k keeps: m are behind
 abbrev pub Counts : ℕ → Forest → ℕ → Forest → Type 0
 Counts m ks c rest = count_singles ks ≡ m + count_singles rest
 
--- none is behind: the first is the first of the rest
-pub record Beyond (k : ℕ) (ks : Forest) (c : ℕ) (rest : Forest) : Type 0 where
-  pub some : any_single ks ≡ any_single rest
-  pub at : (p : ℕ) → SingleAt c p rest → SingleAt (k + 1) p ks
-
 module _ (s st nx : List ℕ) (k : ℕ) where
   -- ---- how many there are
-  pub count_first : Lefts s st nx k (Counts 0) (k + 1) 0
+  pub count_first : (places : List ℕ) → ChildrenOf s st nx k places → Lefts s st nx k (Counts 0) places
   count_first = walk_first s st nx k (Counts 0) (λ ks. omega arith)
 
-  module _ (r : ℕ) (many : ArityPost s st k r) (m c i : ℕ) (ls : Lefts s st nx k (Counts m) c i) where
-    pub count_next : i < r → (o : Bool) → SinglePost s st c o → (a : ℕ) → a ≡ pick o 1 0 → (next : ℕ) → next ≡ get_or nx c 0
-        → Lefts s st nx k (Counts (m + a)) next (i + 1)
+  module _ (m : ℕ) (places : List ℕ) (ls : Lefts s st nx k (Counts m) places) where
+    pub count_next : (c : ℕ) (more : List ℕ) → places ≡ c ∷ more → (o : Bool) → SinglePost s st c o → (a : ℕ) → a ≡ from_bool o
+        → Lefts s st nx k (Counts (m + a)) more
     unfolding count_singles
-    count_next h o post a ea =
-        walk_next s st nx k (Counts m) r many c i ls h (λ w. o ≡ is_single (single_of w)) post.single (Counts (m + a))
-        (λ ks w others e p. let z : a ≡ pick (is_single (single_of w)) 1 0 = ea ∙ ap (λ (b : Bool). pick b 1 0) e in omega arith)
+    count_next c more e o post a ea =
+        walk_next s st nx k (Counts m) places ls c more e (λ w. o ≡ is_single (single_of w)) (λ t n Γ v tb f. post.single t n Γ v tb.framed f)
+        (Counts (m + a))
+        (λ ks w others e p. let z : a ≡ pick (is_single (single_of w)) 1 0 = as_number o a ea ∙ ap (λ (b : Bool). pick b 1 0) e in omega arith)
 
-    pub count_end : r ≤ i → CountPost s st nx k m
+    pub count_child : (c : ℕ) (more : List ℕ) → places ≡ c ∷ more → InterPre s st nx k → Placed s st c
+    count_child c more e pre =
+        (walk_placed s st nx k (Counts m) places ls c more e pre.t pre.n pre.Γ 302 pre.x pre.us pre.ks pre.table pre.there).0
+
+    pub count_end : places ≡ [] → CountPost s st nx k m
     unfolding count_singles
-    count_end h = record { counted = walk_end s st nx k (Counts m) r many c i ls h (λ ks. m ≡ count_singles ks) (λ ks p. omega arith) }
+    count_end h = record { counted = walk_end s st nx k (Counts m) places ls h (λ ks. m ≡ count_singles ks) (λ ks c p. omega arith) }
 
   -- ---- where the first is
-  pub first_first : Lefts s st nx k (Beyond k) (k + 1) 0
-  first_first = walk_first s st nx k (Beyond k) (λ ks. record { some = refl; at = λ p q. q })
-
-  module _ (r : ℕ) (many : ArityPost s st k r) (c i : ℕ) (ls : Lefts s st nx k (Beyond k) c i) where
-    module _ (h : i < r) (o : Bool) (post : SinglePost s st c o) where
-      pub first_found : o ≡ true → FirstPost s st nx k c
-      unfolding any_single nodes
-      first_found e = record {
-        first = walk_stop s st nx k (Beyond k) r many c i ls h (λ w. Sorted w × (o ≡ is_single (single_of w)))
-            (λ t n Γ v fr f. (place_sorted s t st n fr c Γ v f, post.single t n Γ v fr f))
-            (λ ks. ((any_single ks ≡ false) × (c ≡ k)) ⊎ SingleAt (k + 1) c ks)
-            (λ ks w others known b.
-            let v = single_shape w known.0 (sym e ∙ known.1) in
-            inr (b.at c (record {
-              a = v.0;
-              left = nil;
-              right = others;
-              is = ap (λ (x : Tree). cons x others)
-                  v.1;
-              none = refl;
-              there = omega arith;
-            })));
-      }
-
-      pub first_next : o ≡ false → (next : ℕ) → next ≡ get_or nx c 0 → Lefts s st nx k (Beyond k) next (i + 1)
-      unfolding any_single nodes
-      first_next e =
-          walk_next s st nx k (Beyond k) r many c i ls h (λ w. o ≡ is_single (single_of w)) post.single (Beyond k)
-          (λ ks w others known b.
-          let z : is_single (single_of w) ≡ false = sym known ∙ e in
+  pub first_done : (places : List ℕ) → ChildrenOf s st nx k places → (r : Option ℕ)
+      → MatchOption r (AllWithin (λ c. SinglePost s st c false) places 0 (length places))
+      (λ x. SinglePost s st x true × (i : ℕ) × (i < length places) × HoldsAt (λ y. y ≡ x) places i
+      × AllWithin (λ c. SinglePost s st c false) places 0 i)
+      → FirstPost s st nx k r
+  unfolding any_single
+  first_done places post r m = record {
+    first = λ t n Γ g x us ks tb f.
+        single_first t n Γ g x us ks tb f r
+        (first_child t (λ w. is_single (single_of w)) any_single refl (λ w ws. refl) (λ c. SinglePost s st c true) (λ c. SinglePost s st c false)
+        (λ c Θ w fw p. p.single t n Θ w tb.framed fw) (λ c Θ w fw p. p.single t n Θ w tb.framed fw) k Γ g x us ks f places
+        (post.are t n Γ (node (head g x us) ks) tb f) r m);
+  }
+    where
+      single_first : (t : Tree) (n : ℕ) (Γ : Ctx) (g x : ℕ) (us : List Ty) (ks : Forest) → Table s t st nx n → find t [] k ≡ found Γ (node (head g x us) ks)
+          → (r : Option ℕ) → MatchOption r (any_single ks ≡ false) (λ p. SinglePost s st p true × FirstChild t any_single (under g us Γ) ks (k + 1) p)
+          → MatchOption r (any_single ks ≡ false) (λ p. SingleAt (k + 1) p ks)
+      single_first t n Γ g x us ks tb f None m = m
+      single_first t n Γ g x us ks tb f (Some p) m =
+          let q = m.1 in
+          let v = single_shape q.w (place_sorted s t st n tb.framed p (under g us Γ) q.w q.there) (m.0.single t n (under g us Γ) q.w tb.framed q.there) in
           record {
-            some = b.some ∙ ap (λ (x : Bool). x || any_single others) z;
-            at = λ p q. b.at p (record {
-              a = q.a;
-              left = cons w q.left;
-              right = q.right;
-              is = ap (cons w) q.is;
-              none = ap (λ (x : Bool). x || any_single q.left) z ∙ q.none;
-              there = omega (arith, q.there);
-            });
-          })
-
-    pub first_none : r ≤ i → FirstPost s st nx k k
-    unfolding any_single
-    first_none h = record {
-      first = walk_end s st nx k (Beyond k) r many c i ls h (λ ks. ((any_single ks ≡ false) × (k ≡ k)) ⊎ SingleAt (k + 1) k ks)
-          (λ ks b. inl (b.some, refl));
-    }
+            a = v.0;
+            left = q.left;
+            right = q.right;
+            is = q.is ∙ ap (λ (w : Tree). append q.left (cons w q.right)) v.1;
+            none = q.before;
+            there = q.at;
+          }

@@ -4,6 +4,7 @@ use mathlib.Core.Bool.{true}
 use mathlib.Core.List.{List, [], ◌∷◌}
 use Prim.Native.Nat.{ℕ}
 use borrow.Author.Tests.{ne_eqb}
+use Rattle.std.proofs.Common.{None}
 use Rattle.frame.specs.Trees.{head, Tree, node, tag_of}
 use Rattle.frame.specs.Tags.{predicate, expression, lookup, class_of, form_at}
 use Rattle.frame.specs.Places.{Ctx}
@@ -15,7 +16,6 @@ use Rattle.rules.proofs.EmptyInstance.{joined_many}
 use Rattle.templates.proofs.Joins.{and_bytes}
 use Rattle.templates.proofs.RightSides.{side}
 use Rattle.decision.specs.Decides.{Decides}
-use Rattle.decision.specs.declared.Decision.TheVariants as D
 use Rattle.decision.proofs.Shapes.{OfChild, OfTwo, OfEach, by_rest, by_single, by_double, by_each}
 use Rattle.decision.proofs.TagRows.{Row, row, is_row, by_doubles}
 
@@ -48,9 +48,9 @@ module _ (s st nx : List ℕ) (k tag : ℕ) (pt : TagPost s st k tag) where
 
   pub type_none : (tag ≡ 302 → ⊥) → (tag ≡ 213 → ⊥) → (tag ≡ 214 → ⊥) → (tag ≡ 221 → ⊥) → (tag ≡ 217 → ⊥) → (tag ≡ 218 → ⊥)
       → (tag ≡ 219 → ⊥) → (tag ≡ 220 → ⊥) → (tag ≡ 215 → ⊥) → (tag ≡ 216 → ⊥) → (tag ≡ 755 → ⊥) → (tag ≡ 763 → ⊥) → (tag ≡ 802 → ⊥)
-      → Decides rewrite_equals_type s st nx k D.Rests
+      → Decides rewrite_equals_type s st nx k None
   unfolding on_tag rewrite_equals_type
-  type_none h0 h1 h2 h3 h4 h5 h6 h7 h8 h9 h10 h11 h12 = by_rest rewrite_equals_type s st nx k tag pt (λ Γ v. rest Γ v) D.Rests refl
+  type_none h0 h1 h2 h3 h4 h5 h6 h7 h8 h9 h10 h11 h12 = by_rest rewrite_equals_type s st nx k tag pt (λ Γ v. rest Γ v) None refl
     where
       rest : (Γ : Ctx) (v : Tree) → tag_of v ≡ tag → rewrite_equals_type Γ v ≡ same
       rest Γ (node (head o n us) ks) z = rw z (simp (

@@ -1,8 +1,8 @@
 -- ∩ = ∅ in code: what the functions of src/inter.rt and src/inter/singles.rt ask and answer.
-use Rattle.std.specs.Prelude.{◌≡◌, Bool, true, false, List, [], ◌⊎◌, ℕ, ◌+◌, eqb}
+use Rattle.std.specs.Prelude.{◌≡◌, Bool, true, false, List, [], ℕ, ◌+◌, eqb, Option, MatchOption}
 use Rattle.frame.specs.Types.{Ty}
 use Rattle.frame.specs.Tags.{pick}
-use Rattle.frame.specs.Trees.{head, Tree, node, Forest, nil, cons, nodes_in, many, sole, append}
+use Rattle.frame.specs.Trees.{head, Tree, node, Forest, nil, cons, count, nodes_in, many, sole, append}
 use Rattle.frame.specs.Operators.{#SetExt, #BInter}
 use Rattle.frame.specs.Places.{Ctx, found, find}
 use Rattle.nav.specs.PlaceTables.{Framed, Table}
@@ -51,15 +51,22 @@ pub record SingleAt (c p : ℕ) (ks : Forest) : Type 0 where
   pub none : any_single left ≡ false
   pub there : p ≡ c + nodes_in left
 
-pub record FirstPost (s st nx : List ℕ) (k r : ℕ) : Type 0 where
+pub record FirstPost (s st nx : List ℕ) (k : ℕ) (r : Option ℕ) : Type 0 where
   pub first : (t : Tree) (n : ℕ) (Γ : Ctx) (g x : ℕ) (us : List Ty) (ks : Forest) → Table s t st nx n
-      → find t [] k ≡ found Γ (node (head g x us) ks) → ((any_single ks ≡ false) × (r ≡ k)) ⊎ SingleAt (k + 1) r ks
+      → find t [] k ≡ found Γ (node (head g x us) ks) → MatchOption r (any_single ks ≡ false) (λ p. SingleAt (k + 1) p ks)
 
 -- of n operands, m are sets of one member: there is one, and there is just one other, or none of the others is such a set
 abbrev pub apart_when : ℕ → ℕ → Bool
 apart_when n m = pick (eqb m 0) false (pick (eqb n 2) true (eqb m 1))
 
+-- r: the first set of one member, where the rule for these applies
+pub record ApartPost (s st nx : List ℕ) (k : ℕ) (r : Option ℕ) : Type 0 where
+  pub apart : (t : Tree) (n : ℕ) (Γ : Ctx) (g x : ℕ) (us : List Ty) (ks : Forest) → Table s t st nx n
+      → find t [] k ≡ found Γ (node (head g x us) ks)
+      → MatchOption r (apart_when (count ks) (count_singles ks) ≡ false)
+      (λ p. (apart_when (count ks) (count_singles ks) ≡ true) × SingleAt (k + 1) p ks)
+
 -- r stands for the answer at the ∩ at place k (whichever node w the rule was called for)
-pub record InterPost (s st nx : List ℕ) (k : ℕ) (r : Decision) : Type 0 where
+pub record InterPost (s st nx : List ℕ) (k : ℕ) (r : Option Decision) : Type 0 where
   pub means : (t : Tree) (n : ℕ) (Γ : Ctx) (x : ℕ) (us : List Ty) (ks : Forest) → Table s t st nx n
       → find t [] k ≡ found Γ (node (head #BInter x us) ks) → (w : Tree) (Ξ : Ctx) (kept : List ℕ) → Means t w Ξ kept r (inter_empty ks)

@@ -1,2 +1,3 @@
 pub mod Inter
 pub mod OwnType
+pub mod AtPlaces

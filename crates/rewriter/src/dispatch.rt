@@ -1,33 +1,28 @@
 // Which rules a node goes to: logic first, then those of its tag.
-ghost use Rattle.decision.specs.Dispatching.{DispatchPre, DispatchPost};
+ghost use Rattle.decision.specs.AtPlaces.{HereAt, DispatchAt};
 
 use decision::Decision;
+use decision::kept::Kept;
 use frame::operators::{EQUAL, FINITE, NOT, PARTITION, SUBSETEQ};
+use nav::Places;
 
 // What the rules decide at place k. The places of the children that an ∧ or an ∨ keeps go into the lent list.
-pub fn decide(
-    s: &[u8],
-    starts: &[u16; 2048],
-    nexts: &[u16; 2048],
-    k: usize,
-    kept: &mut [u16; 256],
-) -> Decision
-    requires { DispatchPre s.now starts.now nexts.now k kept.old }
-    ensures { DispatchPost s.now starts.now nexts.now k kept.new result }
+pub fn decide(places: &Places<'_>, k: usize, kept: &mut Kept) -> Option<Decision>
+    requires { HereAt places.now k }
+    ensures { DispatchAt places.now k kept.new result }
 {
-    let logic = crate::node::simplify_predicate_node(s, starts, nexts, k, kept);
-    if !decision::rests(logic) {
-        return logic;
+    if let Some(logic) = crate::node::simplify_predicate_node(places, k, kept) {
+        return Some(logic);
     }
-    let tag = nav::tag_at(s, starts, k);
+    let tag = places.tag_at(k);
     let a = k + 1;
-    let b = decision::operands::second_of(nexts, k);
+    let b = places.second_of(k);
     match tag {
-        NOT => predicates::negation::rewrite_not(s, starts, nexts, k),
-        FINITE => predicates::finite::rewrite_finite(s, starts, nexts, a),
-        PARTITION => predicates::partition::rewrite_partition(s, starts, nexts, k),
-        EQUAL => crate::equals::equality::equal_at(s, starts, nexts, a, b),
-        SUBSETEQ => crate::equals::equality::subset_at(s, starts, nexts, a, b),
-        _ => Decision::Rests,
+        NOT => predicates::negation::rewrite_not(places, k),
+        FINITE => predicates::finite::rewrite_finite(places, a),
+        PARTITION => predicates::partition::rewrite_partition(places, k),
+        EQUAL => crate::equals::equality::equal_at(places, a, b),
+        SUBSETEQ => crate::equals::equality::subset_at(places, a, b),
+        _ => None,
     }
 }

@@ -6,7 +6,8 @@ pub mod equality; // equality.rt: which of the rules = and ⊆ go to
 ghost use Rattle.std.specs.Prelude.{◌<◌};
 ghost use Rattle.rules.specs.EqualsType.{rewrite_equals_type};
 ghost use Rattle.rules.specs.EqualsEmptySet.{rewrite_equals_empty_set};
-ghost use Rattle.decision.specs.Decides.{Here, Decides, ByTag, Unlike};
+ghost use Rattle.decision.specs.Decides.{ByTag, Unlike};
+ghost use Rattle.decision.specs.AtPlaces.{HereAt, DecidesAt};
 ghost use Rattle.decision.specs.RulesAt.{looked_up};
 
 use decision::Decision;
@@ -16,20 +17,16 @@ use frame::operators::{
     KPRJ1_GEN, KPRJ2_GEN, KRAN, KUNION, NATURAL, NATURAL1, OVR, POW, POW1, PPROD, QINTER, QUNION,
     RANRES, RANSUB, RELIMAGE, SETEXT, SETMINUS, SREL, STREL, UPTO,
 };
+use nav::Places;
 
 // The set at place k equals the type expression of its elements.
-pub fn rewrite_equals_type(
-    s: &[u8],
-    starts: &[u16; 2048],
-    nexts: &[u16; 2048],
-    k: usize,
-) -> Decision
-    requires { Here s.now starts.now nexts.now k }
-    ensures { Decides rewrite_equals_type s.now starts.now nexts.now k result }
+pub fn rewrite_equals_type(places: &Places<'_>, k: usize) -> Option<Decision>
+    requires { HereAt places.now k }
+    ensures { DecidesAt rewrite_equals_type places.now k result }
 {
-    let tag = nav::tag_at(s, starts, k);
+    let tag = places.tag_at(k);
     let a = k + 1;
-    let b = decision::operands::second_of(nexts, k);
+    let b = places.second_of(k);
     match tag {
         BINTER => decision::operands::each(24, k),
         SETMINUS => fixed(25, a, b, k),
@@ -44,12 +41,12 @@ pub fn rewrite_equals_type(
         KINTER => fixed(33, a, a, k),
         CONVERSE => fixed(34, a, a, k),
         QINTER => fixed(35, a, b, k),
-        _ => Decision::Rests,
+        _ => None,
     }
 }
 
 // The set equals ∅, of a tag that says the place and the operands by itself: they are the node, its children, or none.
-fn empty_by_tag(tag: usize, k: usize) -> Decision
+fn empty_by_tag(tag: usize, k: usize) -> Option<Decision>
     requires { (k < 2048) × Unlike tag looked_up }
     ensures { ByTag rewrite_equals_empty_set tag k result }
 {
@@ -69,26 +66,21 @@ fn empty_by_tag(tag: usize, k: usize) -> Decision
         KID_GEN => fixed(61, k, k, k),
         KPRJ1_GEN => fixed(61, k, k, k),
         KPRJ2_GEN => fixed(61, k, k, k),
-        _ => Decision::Rests,
+        _ => None,
     }
 }
 
 // The set at place k equals ∅. An intersection has a function of its own.
-pub fn rewrite_equals_empty_set(
-    s: &[u8],
-    starts: &[u16; 2048],
-    nexts: &[u16; 2048],
-    k: usize,
-) -> Decision
-    requires { Here s.now starts.now nexts.now k }
-    ensures { Decides rewrite_equals_empty_set s.now starts.now nexts.now k result }
+pub fn rewrite_equals_empty_set(places: &Places<'_>, k: usize) -> Option<Decision>
+    requires { HereAt places.now k }
+    ensures { DecidesAt rewrite_equals_empty_set places.now k result }
 {
-    let tag = nav::tag_at(s, starts, k);
+    let tag = places.tag_at(k);
     let a = k + 1;
-    let b = decision::operands::second_of(nexts, k);
-    let m = nav::arity_at(s, starts, k);
+    let b = places.second_of(k);
+    let m = places.arity_at(k);
     match tag {
-        BINTER => crate::inter::decide_inter(s, starts, nexts, k),
+        BINTER => crate::inter::decide_inter(places, k),
         SETMINUS => fixed(40, a, b, k),
         CPROD => fixed(41, a, b, k),
         UPTO => fixed(42, a, b, k),

@@ -2,36 +2,29 @@
 pub mod singles; // singles.rt: sets of one member among operands
 
 ghost use Rattle.std.specs.Prelude.{◌≡◌};
-ghost use Rattle.nav.specs.PlaceTables.{Placed};
-ghost use Rattle.rewriter.specs.Inter.{MinusPost, InterPre, AnyMinusPost, apart_when, InterPost};
+ghost use Rattle.nav.specs.AtPlaces.{AtPlace};
+ghost use Rattle.rewriter.specs.Inter.{apart_when};
+ghost use Rattle.rewriter.specs.AtPlaces.{MinusAt, InterAt, AnyMinusAt, ApartAt, InterDone};
 
 use decision::Decision;
 use frame::operators::SETMINUS;
+use nav::Places;
 
+// Kept: apart from `is_single`, which also counts the children; with that in common, these would be counted here for nothing.
 // Whether the expression at place k is a difference, A ∖ B.
-fn is_minus(s: &[u8], starts: &[u16; 2048], k: usize) -> bool
-    requires { Placed s.now starts.now k }
-    ensures { MinusPost s.now starts.now k result }
+fn is_minus(places: &Places<'_>, k: usize) -> bool
+    requires { AtPlace places.now k }
+    ensures { MinusAt places.now k result }
 {
-    nav::tag_at(s, starts, k) == SETMINUS
+    places.tag_at(k) == SETMINUS
 }
 
 // Whether some child of the node at place k is a difference.
-fn any_minus(s: &[u8], starts: &[u16; 2048], nexts: &[u16; 2048], k: usize) -> bool
-    requires { InterPre s.now starts.now nexts.now k }
-    ensures { AnyMinusPost s.now starts.now nexts.now k result }
+fn any_minus(places: &Places<'_>, k: usize) -> bool
+    requires { InterAt places.now k }
+    ensures { AnyMinusAt places.now k result }
 {
-    let n = nav::arity_at(s, starts, k);
-    let mut c = k + 1;
-    let mut i = 0;
-    while i < n {
-        if is_minus(s, starts, c) {
-            return true;
-        }
-        c = nav::next_at(nexts, c);
-        i += 1;
-    }
-    false
+    places.children(k).any(|c| is_minus(places, c))
 }
 
 // Whether the rule for a set of one member applies to n operands, of which m are such sets. The others must be just one, or
@@ -39,28 +32,36 @@ fn any_minus(s: &[u8], starts: &[u16; 2048], nexts: &[u16; 2048], k: usize) -> b
 fn is_apart(n: usize, m: usize) -> bool
     ensures { result ≡ apart_when n m }
 {
-    if m == 0 {
-        return false;
+    m != 0 && (n == 2 || m == 1)
+}
+
+// The operand that the rule for a set of one member takes apart: the first such set.
+fn apart_at(places: &Places<'_>, k: usize) -> Option<usize>
+    requires { InterAt places.now k }
+    ensures { ApartAt places.now k result }
+{
+    let single = crate::inter::singles::first_single(places, k)?;
+    let n = places.arity_at(k);
+    let m = crate::inter::singles::count_singles(places, k);
+    if is_apart(n, m) {
+        return Some(single);
     }
-    if n == 2 {
-        return true;
-    }
-    m == 1
+    None
 }
 
 // The intersection at place k equals ∅.
-pub fn decide_inter(s: &[u8], starts: &[u16; 2048], nexts: &[u16; 2048], k: usize) -> Decision
-    requires { InterPre s.now starts.now nexts.now k }
-    ensures { InterPost s.now starts.now nexts.now k result }
+pub fn decide_inter(places: &Places<'_>, k: usize) -> Option<Decision>
+    requires { InterAt places.now k }
+    ensures { InterDone places.now k result }
 {
-    let n = nav::arity_at(s, starts, k);
-    let m = crate::inter::singles::count_singles(s, starts, nexts, k);
-    if is_apart(n, m) {
-        let p = crate::inter::singles::first_single(s, starts, nexts, k);
-        return Decision::Apart { node: k, single: p };
+    if let Some(single) = apart_at(places, k) {
+        return Some(Decision::Apart {
+            node: k,
+            single: single,
+        });
     }
-    if any_minus(s, starts, nexts, k) {
-        return Decision::Within(k);
+    if any_minus(places, k) {
+        return Some(Decision::Within(k));
     }
-    Decision::Rests
+    None
 }

@@ -77,8 +77,8 @@ module _ (σ : ℕ → Ty) (s : List ℕ) (t : Tree) (h : Holds σ s t) where
       rw (held xs (drop (length xs) d)) (rw f.0 at m)
   on_outcome k c d x y kept e = stays
   on_outcome k c d x y (turned_down n) e = stays
-  on_outcome k c d unchanged x (wrote xs) e = let z : ◌≡◌ {A = ℕ} 0 1 = cc in absurd (omega arith)
-  on_outcome k c d no_place x (wrote xs) e = let z : ◌≡◌ {A = ℕ} 0 1 = cc in absurd (omega arith)
+  on_outcome k c d unchanged x (wrote xs) e = cc
+  on_outcome k c d no_place x (wrote xs) e = cc
 
   step_holds : (k : ℕ) (d : List ℕ) → HoldsAfter σ t (step_count (step s k (length d))) (held_after_step (step s k (length d)) s d)
   unfolding step

@@ -2,3 +2,4 @@ pub mod Runs
 pub mod Calls
 mod UnionFigure
 pub mod Sizes
+pub mod Answers

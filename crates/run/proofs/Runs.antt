@@ -28,7 +28,7 @@ pub record OneStep (t u : Tree) : Type 0 where
 
 first_from_lem : (n : ℕ) (t : Tree) (k : ℕ) (u : Tree) → first_from n t k ≡ next u → OneStep t u
 unfolding first_from
-first_from_lem zero t k u e = let z : ◌≡◌ {A = ℕ} 0 1 = cc in absurd (omega arith)
+first_from_lem zero t k u e = cc
 first_from_lem (suc n) t k u e = go (step_tree t k) refl (first_from n t (k + 1)) (first_from_lem n t (k + 1) u) e
   where
     go : (x : Stepped) → step_tree t k ≡ x → (f : First) → (f ≡ next u → OneStep t u) → or_next x f ≡ next u → OneStep t u

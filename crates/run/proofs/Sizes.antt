@@ -44,7 +44,7 @@ run_small s b budget c w n xs e = on (check s) refl e
   where
     on_ran : (t : Tree) → length (enc t) ≤ frame_limit → (x : Ran) → run_tree budget 0 t ≡ x → (short : Bool)
         → pick short (turned_down 12) (ended_by x) ≡ ended w n xs → (n ≤ budget) × (length xs ≤ frame_limit)
-    on_ran t l x r true e = let z : ◌≡◌ {A = ℕ} 0 1 = cc in absurd (omega arith)
+    on_ran t l x r true e = cc
     on_ran t l (ran v m u) r false e =
         let y : m ≡ n = cc in
         let z : enc u ≡ xs = cc in
@@ -54,4 +54,4 @@ run_small s b budget c w n xs e = on (check s) refl e
     on (accepted t) h e =
         let a = check_accepts s b t h in
         on_ran t (rw a.bytes a.fits) (run_tree budget 0 t) refl (ltb c frame_limit) e
-    on (refused k) h e = let z : ◌≡◌ {A = ℕ} 0 1 = cc in absurd (omega arith)
+    on (refused k) h e = cc

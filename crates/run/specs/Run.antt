@@ -1,13 +1,16 @@
 -- The run (document 01, "The answer record").
-use Rattle.std.specs.Prelude.{◌≡◌, ℕ, zero, suc, ◌+◌, ◌<◌, List, ◌++◌, length, drop, ltb}
+use Rattle.std.specs.Prelude.{◌≡◌, ℕ, zero, suc, ◌+◌, ◌<◌, List, ◌++◌, length, drop, ltb, Result, Ok, Err}
+use Rattle.frame.specs.declared.refusals.Refusal.{Refusal}
+use Rattle.frame.specs.Refusals.{refusal}
 use Rattle.frame.specs.Trees.{Tree, nodes}
 use Rattle.frame.specs.Tags.{pick}
 use Rattle.frame.specs.Encoding.{enc}
 use Rattle.frame.specs.Reading.{frame_limit}
 use Rattle.typing.specs.Check.{Checked, accepted, refused, check}
 use Rattle.step.specs.Step.{Stepped, changed, unchanged, no_place, step_tree}
-use Rattle.run.specs.declared.RunAnswer.{RunAnswer}
-use Rattle.run.specs.declared.RunAnswer.TheVariants.{Rest, Spent, Full, Refused}
+use Rattle.run.specs.declared.Ending.{Ending}
+use Rattle.run.specs.declared.Ending.TheVariants.{Rest, Spent, Full}
+use Rattle.run.specs.declared.Run.{Run}
 
 -- ---- "A run steps at the first place in prefix order where a rule applies."
 pub data First : Type 0 where
@@ -82,14 +85,17 @@ run s budget c = run_on budget c (check s)
 -- "Where an answer is an enum, a definition gives this paper's number and values for each case of the enum. The promises use that
 -- definition." "Its answer, and a run's, gives the frame's length." "The contract of each entry gives answer, count and every byte of the
 -- output afterwards, refusals too: by an equation with a definition": of the entry `run`, with `run_answer` and `run_output`.
-abbrev pub word_answer : Word → ℕ → ℕ → RunAnswer
-word_answer REST n l = Rest n l
-word_answer SPENT n l = Spent n l
-word_answer FULL n l = Full n l
+abbrev pub ending_for : Word → Ending
+ending_for REST = Rest
+ending_for SPENT = Spent
+ending_for FULL = Full
 
-abbrev pub run_answer : RunOutcome → RunAnswer
-run_answer (ended w n xs) = word_answer w n (length xs)
-run_answer (turned_down c) = Refused c
+abbrev pub word_answer : Word → ℕ → ℕ → Run
+word_answer w n l = record { ending = ending_for w; steps = n; length = l }
+
+abbrev pub run_answer : RunOutcome → Result Run Refusal
+run_answer (ended w n xs) = Ok (word_answer w n (length xs))
+run_answer (turned_down c) = Err (refusal c)
 
 -- "The output then holds the last tree from byte 0, and each byte after it is as before the run."; of a number: "Each answers its number
 -- alone and leaves the output's old bytes."

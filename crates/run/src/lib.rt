@@ -1,13 +1,23 @@
 // A run: steps at the first place where a rule applies.
 #![tactic(auto)]
 
-// What a run answers: the count of changing steps and the length of the frame. `specs/Run.antt` gives document 01's
-// word, number and values for each case (`run_answer`).
-#[derive(Drop)]
-pub enum RunAnswer {
-    Rest(u32, usize),
-    Spent(u32, usize),
-    Full(u32, usize),
-    // the number of document 01
-    Refused(u8),
+// Why a run ended that was not turned down.
+#[derive(Clone, Copy, Debug, PartialEq, Eq)]
+pub enum Ending {
+    // no rule applies anywhere
+    Rest,
+    // the budget is used, and some rule still applies
+    Spent,
+    // budget is left, but the next step would pass 4,096 bytes
+    Full,
+}
+
+// How a run ended. `specs/Run.antt` gives document 01's word and values (`run_answer`).
+#[derive(Clone, Copy, Debug, PartialEq, Eq)]
+pub struct Run {
+    pub ending: Ending,
+    // the count of changing steps
+    pub steps: u32,
+    // the length of the last frame
+    pub length: usize,
 }

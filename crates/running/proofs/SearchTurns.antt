@@ -1,67 +1,62 @@
 -- The ways out of decide_at, search and first_step of src/searching.rt, on plain values.
--- Main results: at_expression, at_decided; Searching, search_starts .. search_rests; read_as, as_framed, as_held, first_refused, first_searched.
+-- Main results: at_expression, at_decided; Searching, search_starts .. search_rests; stands_at, read_length, as_nexts, as_search, first_done.
 use mathlib.Core.Path.{◌≡◌, refl, sym, ap, ◌∙◌, subst}
 use mathlib.Core.Bool.{Bool, true, false}
 use mathlib.Core.List.{List, []}
 use Prim.Native.Nat.{ℕ, suc, ◌+◌, ◌-◌, ◌≤◌, ◌<◌}
 use native.Mathlib.Omega.{arith}
 use lib.ListN.{length}
+use Rattle.std.proofs.Common.{Option, Some, None, Ok}
 use Rattle.frame.specs.Trees.{Tree, nodes}
 use Rattle.frame.specs.Tags.{predicate}
 use Rattle.tags.proofs.FormTables.{expression_not, predicate_is}
-use Rattle.frame.specs.Encoding.{enc}
-use Rattle.frame.specs.Reading.{tree, parse, frame_limit}
+use Rattle.frame.specs.Reading.{parse, frame_limit}
 use Rattle.frame.specs.Spans.{Bytes}
 use Rattle.frame.specs.At.{IsAt}
 use Rattle.frame.specs.Places.{Ctx, found, find, replace}
-use Rattle.reading.specs.Post.{frame_answer, table_of}
-use Rattle.reading.specs.declared.FrameAnswer.TheVariants as F
+use Rattle.reading.specs.Post.{frame_answer}
+use Rattle.reading.specs.declared.FrameRead.{FrameRead}
 use Rattle.frame.proofs.Inversion.{true_not}
 use Rattle.frame.proofs.Splices.{find_some}
 use Rattle.heads.proofs.View.{parse_at}
-use Rattle.frame.proofs.Frames.{parse_back}
 use Rattle.typing.specs.Check.{accepted, check}
+use Rattle.checking.proofs.Accepted.{accepted_parse, read_framed}
 use Rattle.binding.specs.Bound.{BindingPost}
 use Rattle.typing.specs.Signature.{signature}
 use Rattle.typing.proofs.Checked.{check_accepts}
-use Rattle.typing.proofs.Decides.{accepted_wf, accepted_closed}
-use Rattle.nav.specs.PlaceTables.{Framed, Table, NextsPost, SortPost, sort_of}
-use Rattle.nav.proofs.SamePlaces.{framed_read}
+use Rattle.typing.proofs.Decides.{accepted_closed}
+use Rattle.nav.specs.AtPlaces.{PlacesOf, SortAt}
+use Rattle.nav.specs.declared.Places.{Places}
+use Rattle.nav.specs.PlaceTables.{Framed, NextsPre, NextsPost, sort_of}
 use Rattle.rules.specs.Change.{to, same}
 use Rattle.rules.specs.Dispatch.{dispatch}
-use Rattle.put.specs.Out.{Wrote}
-use Rattle.decision.specs.Decides.{is_rests}
-use Rattle.decision.specs.Dispatching.{DispatchPre, DispatchPost}
-use Rattle.decision.proofs.Series.{none_first}
+use Rattle.decision.specs.AtPlaces.{HereAt, DispatchAt}
+use Rattle.decision.specs.Decision.{Means, places_of}
 use Rattle.decision.specs.declared.Decision.{Decision}
-use Rattle.decision.specs.declared.Decision.TheVariants as D
-use Rattle.filling.specs.Operands.{Held}
+use Rattle.decision.specs.declared.kept.KeptChild.{KeptChild}
+use Rattle.decision.proofs.Series.{changes}
+use Rattle.filling.specs.Operands.{Held, HeldIn}
 use Rattle.step.specs.Step.{Stepped, is_predicate, step_tree}
 use Rattle.step.proofs.Steps.{step_predicate, step_expression}
 use Rattle.build.specs.SplicePosts.{Decided, SplicePre, SplicePost}
-use Rattle.decision.proofs.Series.{changes}
-use Rattle.run.specs.Run.{next, nowhere, or_next, first_from, first_step}
+use Rattle.run.specs.Run.{nowhere, or_next, first_from, first_step}
 use Rattle.running.specs.SearchPosts.{AtPost, SearchPre, SearchPost, FirstPost}
-use Rattle.turn.specs.declared.Next.{Next}
-use Rattle.turn.specs.declared.Next.TheVariants as N
 
 -- ---- `decide_at`
-module _ (s st nx : List ℕ) (k : ℕ) (b : Bool) (pb : SortPost s st k b) where
-  pub at_expression : b ≡ true → (lent : List ℕ) → length lent ≡ 256 → AtPost s st nx k lent D.Rests
-  at_expression e lent l =
+module _ (p : Places) (k : ℕ) (b : Bool) (pb : SortAt p k b) where
+  pub at_expression : b ≡ true → (lent : List KeptChild) → AtPost p k lent None
+  at_expression e lent =
       record {
-        long = l;
-        means = λ t n Γ v tb f p.
-            true_not (sym (expression_not (sort_of v) (sym (pb.sort t n Γ v tb.framed f) ∙ e)) ∙ p);
-        rests = λ t n Γ v tb f p. refl;
+        means = λ t Γ v tb f h.
+            true_not (sym (expression_not (sort_of v) (sym (pb.sort t p.count Γ v tb.framed f) ∙ e)) ∙ h);
+        rests = λ t Γ v tb f h. refl;
       }
 
-  pub at_decided : b ≡ false → (lent : List ℕ) (d : Decision) → DispatchPost s st nx k lent d → AtPost s st nx k lent d
-  at_decided e lent d pd =
+  pub at_decided : b ≡ false → (lent : List KeptChild) (r : Option Decision) → DispatchAt p k lent r → AtPost p k lent r
+  at_decided e lent r pr =
       record {
-        long = pd.long;
-        means = λ t n Γ v tb f p. pd.means t n Γ v tb f;
-        rests = λ t n Γ v tb f p. true_not (sym p ∙ predicate_is (sort_of v) (sym (pb.sort t n Γ v tb.framed f) ∙ e));
+        means = λ t Γ v tb f h. pr.means t p.count Γ v tb f;
+        rests = λ t Γ v tb f h. true_not (sym h ∙ predicate_is (sort_of v) (sym (pb.sort t p.count Γ v tb.framed f) ∙ e));
       }
 
 -- ---- `search`
@@ -77,142 +72,120 @@ first_is : (t : Tree) → first_step t ≡ first_from (nodes t) t 0
 unfolding first_step
 first_is t = refl
 
-module _ (s : List ℕ) (n : ℕ) (st nx leaves : List ℕ) where
+module _ (p : Places) where
   -- no place before k has a step
-  pub record Searching (k : ℕ) (kept : List ℕ) : Type 0 where
-    pub goes : (t : Tree) → Table s t st nx n → first_step t ≡ first_from (n - k) t k
-    pub long : length kept ≡ 256
-    pub upto : k ≤ n
+  pub record Searching (k : ℕ) : Type 0 where
+    pub goes : (t : Tree) → PlacesOf p t → first_step t ≡ first_from (p.count - k) t k
+    pub upto : k ≤ p.count
 
-  -- while it searches, nothing is written
-  pub pre_now : (scratch₀ scratch : List ℕ) → scratch ≡ scratch₀ → SearchPre s n st nx leaves scratch₀ → SearchPre s n st nx leaves scratch
-  pre_now scratch₀ scratch e p = record { t = p.t; table = p.table; held = p.held; room = ap length e ∙ p.room }
-
-  pub search_starts : (kept : List ℕ) → length kept ≡ 256 → Searching 0 kept
-  search_starts kept l =
+  pub search_starts : Searching 0
+  search_starts =
       record {
-        goes = λ t tb. (let z : n - 0 ≡ nodes t = omega (arith, tb.framed.size) in first_is t ∙ ap (λ (i : ℕ). first_from i t 0) (sym z));
-        long = l;
+        goes = λ t tb. (let z : p.count - 0 ≡ nodes t = omega (arith, tb.framed.size) in first_is t ∙ ap (λ (i : ℕ). first_from i t 0) (sym z));
         upto = omega arith;
       }
 
-  module _ (scratch : List ℕ) (p : SearchPre s n st nx leaves scratch) (k : ℕ) (inside : k < n) where
-    spot : (t : Tree) → Table s t st nx n → (Γ : Ctx) × ((v : Tree) × (find t [] k ≡ found Γ v))
+  module _ (h : SearchPre p) (k : ℕ) (inside : k < p.count) where
+    spot : (t : Tree) → PlacesOf p t → (Γ : Ctx) × ((v : Tree) × (find t [] k ≡ found Γ v))
     spot t tb = let v = find_some t [] k (omega (arith, tb.framed.size)) in (v.0, (v.1, v.2))
 
-    pub search_at : (kept : List ℕ) → Searching k kept → DispatchPre s st nx k kept
-    search_at kept g =
-        let h = spot p.t p.table in
-        record { here = record { t = p.t; n = n; table = p.table; Γ = h.0; v = h.1.0; there = h.1.1 }; long = g.long }
+    pub search_at : HereAt p k
+    search_at = let x = spot h.t h.table in record { t = h.t; n = p.count; table = h.table; Γ = x.0; v = x.1.0; there = x.1.1 }
 
-    module _ (kept : List ℕ) (d : Decision) (pd : AtPost s st nx k kept d) where
-      -- a decision that does not rest is made at a predicate
-      not_rests : is_rests d ≡ false → (t : Tree) → Table s t st nx n → Decided t k kept d
-      not_rests h t tb = go (is_predicate (spot t tb).1.0) refl
+    here_more : (t : Tree) → PlacesOf p t → first_from (p.count - k) t k ≡ or_next (step_tree t k) (first_from (p.count - (k + 1)) t (k + 1))
+    here_more t tb =
+        let z : p.count - k ≡ suc (p.count - (k + 1)) = omega arith in
+        ap (λ (i : ℕ). first_from i t k) z ∙ from_more t (p.count - (k + 1)) k
+
+    module _ (kept : List KeptChild) (r : Option Decision) (pr : AtPost p k kept r) where
+      -- a decision is made at a predicate
+      decided : (d : Decision) → r ≡ Some d → (t : Tree) → PlacesOf p t → Decided t k kept d
+      decided d e t tb = go (is_predicate (spot t tb).1.0) refl
         where
           go : (b : Bool) → is_predicate (spot t tb).1.0 ≡ b → Decided t k kept d
-          go true e =
+          go true z =
+              let x = spot t tb in
               record {
-                Γ = (spot t tb).0;
-                v = (spot t tb).1.0;
-                there = (spot t tb).1.1;
-                is_predicate_lem = e;
-                means = pd.means t n (spot t tb).0 (spot t tb).1.0 tb (spot t tb).1.1 e;
+                Γ = x.0;
+                v = x.1.0;
+                there = x.1.1;
+                is_predicate_lem = z;
+                means = subst (λ (y : Option Decision). Means t x.1.0 x.0 (places_of kept) y (dispatch x.0 x.1.0)) e (pr.means t x.0 x.1.0 tb x.1.1 z);
               }
-          go false e = true_not (sym h ∙ ap is_rests (pd.rests t n (spot t tb).0 (spot t tb).1.0 tb (spot t tb).1.1 e))
+          go false z = let x : r ≡ None = pr.rests t (spot t tb).0 (spot t tb).1.0 tb (spot t tb).1.1 z in cc
 
-      pub search_splice : is_rests d ≡ false → SplicePre s n st nx leaves k kept d scratch
-      search_splice h = record {
-        t = p.t;
-        table = p.table;
-        held = p.held;
-        decided = not_rests h p.t
-            p.table;
-        long = pd.long;
-        room = p.room;
+      pub search_splice : (d : Decision) → r ≡ Some d → SplicePre p k kept d
+      search_splice d e = record { t = h.t; table = h.table; held = h.held; decided = decided d e h.t h.table }
+
+      pub search_writes : Searching k → (d : Decision) → r ≡ Some d → (q : Option (List ℕ)) → SplicePost p k kept d q → SearchPost p q true
+      search_writes g d e q ps = record {
+        gives = λ t tb hd.
+            (let x = decided d e t tb in
+            let c = changes t x.v x.Γ (places_of kept) d (dispatch x.Γ x.v) x.means in
+            let z = step_predicate t k x.Γ x.v x.there x.is_predicate_lem (to c.0 c.1.0) c.1.1 in (
+              replace t k c.1.0,
+              g.goes t tb ∙ here_more t tb ∙ ap (λ (y : Stepped). or_next y (first_from (p.count - (k + 1)) t (k + 1))) z,
+              ps.wrote t tb hd x c.0 c.1.0 c.1.1,
+            ));
       }
 
-      here_more : (t : Tree) → Table s t st nx n → first_from (n - k) t k ≡ or_next (step_tree t k) (first_from (n - (k + 1)) t (k + 1))
-      here_more t tb = let z : n - k ≡ suc (n - (k + 1)) = omega arith in ap (λ (i : ℕ). first_from i t k) z ∙ from_more t (n - (k + 1)) k
-
-      pub search_writes : (old : List ℕ) → Searching k old → is_rests d ≡ false → (q : List ℕ) (m : ℕ)
-          → SplicePost s n st nx leaves k kept d q m → SearchPost s n st nx leaves q (N.Writes m)
-      search_writes old g h q m ps = record { gives = λ t tb hd. given t tb hd; room = (given p.t p.table p.held).2.whole }
+      pub search_next : Searching k → r ≡ None → Searching (k + 1)
+      search_next g e = record { goes = λ t tb. g.goes t tb ∙ here_more t tb ∙ later t tb; upto = omega arith }
         where
-          given : (t : Tree) → Table s t st nx n → Held s st leaves n t → (u : Tree) × (first_step t ≡ next u) × Wrote q m (enc u)
-          given t tb hd =
-              let x = not_rests h t tb in
-              let c = changes t x.v x.Γ kept d (dispatch x.Γ x.v) h x.means in
-              let e = step_predicate t k x.Γ x.v x.there x.is_predicate_lem (to c.0 c.1.0) c.1.1 in (
-                replace t k c.1.0,
-                g.goes t tb ∙ here_more t tb ∙ ap
-                    (λ (y : Stepped). or_next y (first_from (n - (k + 1)) t (k + 1))) e,
-                ps.wrote t tb hd x c.0 c.1.0 c.1.1,
-              )
-
-      pub search_next : (old : List ℕ) → Searching k old → is_rests d ≡ true → Searching (k + 1) kept
-      search_next old g h = record { goes = λ t tb. g.goes t tb ∙ here_more t tb ∙ later t tb; long = pd.long; upto = omega arith }
-        where
-          later : (t : Tree) → Table s t st nx n → or_next (step_tree t k) (first_from (n - (k + 1)) t (k + 1)) ≡ first_from (n - (k + 1)) t (k + 1)
+          later : (t : Tree) → PlacesOf p t
+              → or_next (step_tree t k) (first_from (p.count - (k + 1)) t (k + 1)) ≡ first_from (p.count - (k + 1)) t (k + 1)
           later t tb = go (is_predicate (spot t tb).1.0) refl
             where
               go : (b : Bool) → is_predicate (spot t tb).1.0 ≡ b
-                  → or_next (step_tree t k) (first_from (n - (k + 1)) t (k + 1)) ≡ first_from (n - (k + 1)) t (k + 1)
-              go true e =
-                  let c = none_first t (spot t tb).1.0 (spot t tb).0 kept d (dispatch (spot t tb).0 (spot t tb).1.0) h
-                  (pd.means t n (spot t tb).0 (spot t tb).1.0 tb (spot t tb).1.1 e) in
-                  ap (λ (y : Stepped). or_next y (first_from (n - (k + 1)) t (k + 1)))
-                  (step_predicate t k (spot t tb).0 (spot t tb).1.0 (spot t tb).1.1 e same c)
-              go false e = ap (λ (y : Stepped). or_next y (first_from (n - (k + 1)) t (k + 1)))
-                  (step_expression t k (spot t tb).0 (spot t tb).1.0 (spot t tb).1.1 e)
+                  → or_next (step_tree t k) (first_from (p.count - (k + 1)) t (k + 1)) ≡ first_from (p.count - (k + 1)) t (k + 1)
+              go true z =
+                  let x = spot t tb in
+                  let c = subst (λ (y : Option Decision). Means t x.1.0 x.0 (places_of kept) y (dispatch x.0 x.1.0)) e (pr.means t x.0 x.1.0 tb x.1.1 z) in
+                  ap (λ (y : Stepped). or_next y (first_from (p.count - (k + 1)) t (k + 1))) (step_predicate t k x.0 x.1.0 x.1.1 z same c)
+              go false z = ap (λ (y : Stepped). or_next y (first_from (p.count - (k + 1)) t (k + 1)))
+                  (step_expression t k (spot t tb).0 (spot t tb).1.0 (spot t tb).1.1 z)
 
-  pub search_rests : (scratch : List ℕ) → SearchPre s n st nx leaves scratch → (k : ℕ) (kept : List ℕ) → Searching k kept → n ≤ k
-      → SearchPost s n st nx leaves scratch N.Rests
-  search_rests scratch p k kept g h =
-      record {
-        gives = λ t tb hd. (let z : n - k ≡ 0 = omega arith in g.goes t tb ∙ ap (λ (i : ℕ). first_from i t k) z ∙ from_none t k);
-        room = p.room;
-      }
+  pub search_rests : (q : Option (List ℕ)) (k : ℕ) → Searching k → p.count ≤ k → SearchPost p q false
+  search_rests q k g l = record {
+    gives = λ t tb hd.
+        (let z : p.count - k ≡ 0 = omega arith in g.goes t tb ∙ ap (λ (i : ℕ). first_from i t k) z ∙ from_none t k);
+  }
 
 -- ---- `first_step`
--- an accepted frame is read as its tree
 module _ (s : List ℕ) (b : Bytes s) (t : Tree) (e : check s ≡ accepted t) where
-  pub read_as : parse s ≡ tree t
-  read_as =
-      let a = check_accepts s b t e in
-      ap parse (sym a.bytes) ∙ parse_back t (accepted_wf (signature t) t [] predicate a.accepted) (rw a.bytes a.fits)
-
   pub stands_at : IsAt s predicate 0 t (length s)
-  stands_at = parse_at s b t read_as
+  stands_at = parse_at s b t (accepted_parse s b t e)
 
   pub read_length : length s ≤ frame_limit
   read_length = (check_accepts s b t e).fits
 
-  module _ (n : ℕ) (en : F.Nodes n ≡ frame_answer (parse s)) (st : List ℕ) (es : st ≡ table_of (parse s)) where
-    nodes_is : n ≡ nodes t
-    nodes_is = let z : F.Nodes n ≡ F.Nodes (nodes t) = en ∙ ap frame_answer read_as in cc
+  module _ (f : FrameRead) (ef : Ok f ≡ frame_answer (parse s)) where
+    framed_as : Framed s t f.starts f.nodes
+    framed_as = read_framed s b f ef t (accepted_parse s b t e)
 
-    pub as_framed : Framed s t st n
-    as_framed = subst (λ (i : ℕ). Framed s t st i) (sym nodes_is) (framed_read s b t read_as st es)
+    pub as_nexts : (nx : List ℕ) → length nx ≡ 2048 → NextsPre s f.nodes f.starts nx
+    as_nexts nx l = record { t = t; framed = framed_as; long = l }
 
-    pub as_held : (l₀ l₁ : List ℕ) (r : Bool) → BindingPost s l₀ l₁ r → Held s st l₁ n t
-    as_held l₀ l₁ r pb =
-        let a = check_accepts s b t e in
-        let c = accepted_closed (signature t) t [] predicate a.accepted in
-        record { framed = as_framed; leafs = pb.leaves (pb.answer t stands_at ∙ c) t stands_at; accepted = a.accepted }
+    module _ (l₀ l₁ : List ℕ) (r : Bool) (pb : BindingPost s l₀ l₁ r) (nx : List ℕ) (pn : NextsPost s f.nodes f.starts nx)
+        (p : Places) (ez : p.bytes.now ≡ s) (ec : p.count ≡ f.nodes) (es : p.starts.now ≡ f.starts) (en : p.nexts.now ≡ nx) (el : p.leaves.now ≡ l₁) where
+      table_as : PlacesOf p t
+      table_as = rw (ez, es, en, ec) (pn.table t framed_as)
 
-  pub read_not {ℓ} : {X : Type ℓ} (c : ℕ) → F.Refused c ≡ frame_answer (parse s) → X
-  read_not c z = let y : F.Refused c ≡ F.Nodes (nodes t) = z ∙ ap frame_answer read_as in let x : ◌≡◌ {A = ℕ} 0 1 = cc in absurd (omega arith)
+      held_as : HeldIn p t
+      held_as =
+          let a = check_accepts s b t e in
+          let c = accepted_closed (signature t) t [] predicate a.accepted in
+          let x : Held s f.starts l₁ f.nodes t =
+          record { framed = framed_as; leafs = pb.leaves (pb.answer t stands_at ∙ c) t stands_at; accepted = a.accepted } in
+          rw (ez, es, el, ec) x
 
-module _ (s : List ℕ) (b : Bytes s) where
-  pub first_refused : (scratch : List ℕ) → length scratch ≡ 4096 → (c : ℕ) → F.Refused c ≡ frame_answer (parse s) → FirstPost s scratch N.Rests
-  first_refused scratch l c z = record { gives = λ t e. read_not s b t e c z; room = l }
+      pub as_search : SearchPre p
+      as_search = record { t = t; table = table_as; held = held_as }
 
-  pub first_searched : (n : ℕ) → F.Nodes n ≡ frame_answer (parse s) → (st : List ℕ) → st ≡ table_of (parse s) → (l₀ l₁ : List ℕ) (r : Bool)
-      → BindingPost s l₀ l₁ r → (nx : List ℕ) → NextsPost s n st nx → (scratch : List ℕ) (x : Next)
-      → SearchPost s n st nx l₁ scratch x → FirstPost s scratch x
-  first_searched n en st es l₀ l₁ r pb nx pn scratch x ps =
-      record {
-        gives = λ t e. ps.gives t (pn.table t (as_framed s b t e n en st es)) (as_held s b t e n en st es l₀ l₁ r pb);
-        room = ps.room;
-      }
+pub first_done : (s : List ℕ) → Bytes s → (f : FrameRead) → Ok f ≡ frame_answer (parse s) → (l₀ l₁ : List ℕ) (r : Bool) → BindingPost s l₀ l₁ r
+    → (nx : List ℕ) → NextsPost s f.nodes f.starts nx → (p : Places) → p.bytes.now ≡ s → p.count ≡ f.nodes → p.starts.now ≡ f.starts → p.nexts.now ≡ nx
+    → p.leaves.now ≡ l₁ → (q : Option (List ℕ)) (x : Bool) → SearchPost p q x → FirstPost s q x
+first_done s b f ef l₀ l₁ r pb nx pn p ez ec es en el q x ps = record {
+  gives = λ t e.
+      ps.gives t (table_as s b t e f ef l₀ l₁ r pb nx pn p ez ec es en el) (held_as s b t e f ef l₀ l₁ r pb nx pn p ez ec es en el);
+}

@@ -1,46 +1,37 @@
 -- What the search for the first step asks and answers, by `first_step` of run/specs/Run.antt.
-use Rattle.std.specs.Prelude.{◌≡◌, true, false, List, [], ℕ, length}
+use Rattle.std.specs.Prelude.{◌≡◌, Bool, true, false, List, [], ℕ, Option, None}
+use Rattle.std.specs.Bool.{then_some}
 use Rattle.frame.specs.Trees.{Tree}
 use Rattle.frame.specs.Places.{Ctx, found, find}
 use Rattle.typing.specs.Check.{accepted, check}
-use Rattle.nav.specs.PlaceTables.{Table}
+use Rattle.nav.specs.AtPlaces.{PlacesOf}
+use Rattle.nav.specs.declared.Places.{Places}
 use Rattle.rules.specs.Dispatch.{dispatch}
-use Rattle.decision.specs.Decision.{Means}
-use Rattle.decision.specs.Dispatching.{DispatchPre}
+use Rattle.decision.specs.Decision.{Means, places_of}
 use Rattle.decision.specs.declared.Decision.{Decision}
-use Rattle.decision.specs.declared.Decision.TheVariants as D
-use Rattle.filling.specs.Operands.{Held}
+use Rattle.decision.specs.declared.kept.KeptChild.{KeptChild}
+use Rattle.filling.specs.Operands.{HeldIn}
 use Rattle.step.specs.Step.{is_predicate}
 use Rattle.run.specs.Run.{first_step}
 use Rattle.turn.specs.TurnPosts.{Gives}
-use Rattle.turn.specs.declared.Next.{Next}
 
 -- ---- what the rules decide at a place: nothing at an expression
-abbrev pub AtPre : List ℕ → List ℕ → List ℕ → ℕ → List ℕ → Type 0
-AtPre s st nx k lent = DispatchPre s st nx k lent
-
-pub record AtPost (s st nx : List ℕ) (k : ℕ) (lent : List ℕ) (r : Decision) : Type 0 where
-  pub long : length lent ≡ 256
-  pub means : (t : Tree) (n : ℕ) (Γ : Ctx) (v : Tree) → Table s t st nx n → find t [] k ≡ found Γ v → is_predicate v ≡ true
-      → Means t v Γ lent r (dispatch Γ v)
-  pub rests : (t : Tree) (n : ℕ) (Γ : Ctx) (v : Tree) → Table s t st nx n → find t [] k ≡ found Γ v → is_predicate v ≡ false → r ≡ D.Rests
+pub record AtPost (p : Places) (k : ℕ) (lent : List KeptChild) (r : Option Decision) : Type 0 where
+  pub means : (t : Tree) (Γ : Ctx) (v : Tree) → PlacesOf p t → find t [] k ≡ found Γ v → is_predicate v ≡ true → Means t v Γ (places_of lent) r (dispatch Γ v)
+  pub rests : (t : Tree) (Γ : Ctx) (v : Tree) → PlacesOf p t → find t [] k ≡ found Γ v → is_predicate v ≡ false → r ≡ None
 
 -- ---- the first step
-pub record SearchPre (s : List ℕ) (n : ℕ) (st nx leaves scratch : List ℕ) : Type 0 where
+pub record SearchPre (p : Places) : Type 0 where
   pub t : Tree
-  pub table : Table s t st nx n
-  pub held : Held s st leaves n t
-  pub room : length scratch ≡ 4096
+  pub table : PlacesOf p t
+  pub held : HeldIn p t
 
-pub record SearchPost (s : List ℕ) (n : ℕ) (st nx leaves scratch : List ℕ) (r : Next) : Type 0 where
-  pub gives : (t : Tree) → Table s t st nx n → Held s st leaves n t → Gives r scratch (first_step t)
-  pub room : length scratch ≡ 4096
+-- r says whether a rule applies anywhere; then the frame after the first step was written
+pub record SearchPost (p : Places) (q : Option (List ℕ)) (r : Bool) : Type 0 where
+  pub gives : (t : Tree) → PlacesOf p t → HeldIn p t → Gives (then_some r q) (first_step t)
 
-pub record FirstPre (s scratch : List ℕ) : Type 0 where
-  pub t : Tree
-  pub checks : check s ≡ accepted t
-  pub room : length scratch ≡ 4096
+abbrev pub FirstPre : List ℕ → Type 0
+FirstPre s = (t : Tree) × (check s ≡ accepted t)
 
-pub record FirstPost (s scratch : List ℕ) (r : Next) : Type 0 where
-  pub gives : (t : Tree) → check s ≡ accepted t → Gives r scratch (first_step t)
-  pub room : length scratch ≡ 4096
+pub record FirstPost (s : List ℕ) (q : Option (List ℕ)) (r : Bool) : Type 0 where
+  pub gives : (t : Tree) → check s ≡ accepted t → Gives (then_some r q) (first_step t)

@@ -1,78 +1,63 @@
 // The first place in prefix order where a rule applies, and the frame after a step there.
 ghost use Rattle.std.specs.Prelude.{◌≡◌, length};
-ghost use Rattle.running.specs.SearchPosts.{AtPre, AtPost, SearchPre, SearchPost, FirstPre, FirstPost};
+ghost use Rattle.decision.specs.AtPlaces.{HereAt};
+ghost use Rattle.running.specs.SearchPosts.{AtPost, SearchPre, SearchPost, FirstPre, FirstPost};
 
 use binding::binding_ok;
 use build::splicing::splice;
-use decision::{Decision, rests};
-use nav::{is_expression_at, nexts};
-use reading::FrameAnswer;
+use decision::Decision;
+use decision::kept::Kept;
+use nav::{Places, nexts};
+use put::Writer;
 use rewriter::dispatch::decide;
-use turn::Next;
 
 // What the rules decide at place k; at an expression, nothing.
-fn decide_at(
-    s: &[u8],
-    starts: &[u16; 2048],
-    nexts: &[u16; 2048],
-    k: usize,
-    kept: &mut [u16; 256],
-) -> Decision
-    requires { AtPre s.now starts.now nexts.now k kept.old }
-    ensures { AtPost s.now starts.now nexts.now k kept.new result }
+fn decide_at(places: &Places<'_>, k: usize, kept: &mut Kept) -> Option<Decision>
+    requires { HereAt places.now k }
+    ensures { AtPost places.now k kept.new result }
 {
-    if is_expression_at(s, starts, k) {
-        return Decision::Rests;
+    if places.is_expression_at(k) {
+        return None;
     }
-    decide(s, starts, nexts, k, kept)
+    decide(places, k, kept)
 }
 
-// The first place in prefix order where a rule applies, and the new frame.
-fn search(
-    s: &[u8],
-    n: usize,
-    starts: &[u16; 2048],
-    nexts: &[u16; 2048],
-    leaves: &[u16; 2048],
-    scratch: &mut [u8; 4096],
-) -> Next
-    requires { SearchPre s.now n starts.now nexts.now leaves.now scratch.old }
-    ensures { SearchPost s.now n starts.now nexts.now leaves.now scratch.new result }
+// Whether a rule applies anywhere. The frame after a step at the first such place in prefix order goes to the writer.
+fn search(places: &Places<'_>, out: &mut Writer) -> bool
+    requires { SearchPre places.now }
+    ensures { SearchPost places.now out.new result }
 {
-    let mut kept = [0u16; 256];
-    let mut k = 0;
-    while k < n {
-        let d = decide_at(s, starts, nexts, k, &mut kept);
-        if !rests(d) {
-            let m = splice(s, n, starts, nexts, leaves, k, &kept, d, scratch);
-            return Next::Writes(m);
+    let mut kept = Kept::new();
+    for k in 0..places.count {
+        if let Some(decision) = decide_at(places, k, &mut kept) {
+            splice(places, k, &kept, decision, out);
+            return true;
         }
-        k += 1;
     }
-    Next::Rests
+    false
 }
 
-// The first step of an accepted frame. What was accepted once stays accepted from step to step: so the frame is read again,
-// but neither its names nor its types are checked again. The tables are lent, whatever they hold, so that a run clears them once.
+// The first step of an accepted frame, in the same way. What was accepted once stays accepted from step to step: so the frame is read
+// again, but neither its names nor its types are checked again. The tables are lent, whatever they hold, so that a run clears them once.
 pub fn first_step(
-    s: &[u8],
+    frame: &[u8],
     leaves: &mut [u16; 2048],
     table: &mut [u16; 2048],
-    scratch: &mut [u8; 4096],
-) -> Next
-    requires { FirstPre s.now scratch.old × (length leaves.old ≡ 2048) × (length table.old ≡ 2048) }
-    ensures { FirstPost s.now scratch.new result × (length leaves.new ≡ 2048) × (length table.new ≡ 2048) }
+    out: &mut Writer,
+) -> bool
+    requires { FirstPre frame.now × (length leaves.old ≡ 2048) × (length table.old ≡ 2048) }
+    ensures { FirstPost frame.now out.new result × (length leaves.new ≡ 2048) × (length table.new ≡ 2048) }
 {
-    let read = reading::read_again(s);
-    let answer = read.answer;
-    match answer {
-        FrameAnswer::Refused(_c) => Next::Rests,
-        FrameAnswer::Nodes(n) => {
-            let starts = read.starts;
-            // an accepted frame is closed: only the table is wanted
-            binding_ok(s, leaves);
-            nexts(s, n, &starts, table);
-            search(s, n, &starts, table, leaves, scratch)
-        }
-    }
+    let read = reading::read_again(frame);
+    // an accepted frame is closed: only the table is wanted
+    binding_ok(frame, leaves);
+    nexts(frame, read.nodes, &read.starts, table);
+    let places = Places {
+        bytes: frame,
+        count: read.nodes,
+        starts: &read.starts,
+        nexts: table,
+        leaves: leaves,
+    };
+    search(&places, out)
 }

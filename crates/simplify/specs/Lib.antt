@@ -1,3 +1,1 @@
-pub mod Posts
-pub mod LinePosts
-pub mod StreamPosts
+pub mod Prints

@@ -89,13 +89,13 @@ step_turned_down s k c n e = on_check (check s) refl e
 
     too_long : (t : Tree) (place : ℕ) (u : Tree) → check s ≡ accepted t → step_tree t k ≡ changed place u → (x : Outcome) → Ends t k c x
         → fit c (enc u) ≡ x → x ≡ turned_down n → TurnedDown s k c n
-    too_long t place u a z _ (as_changed q w y l m) f e = let i : ◌≡◌ {A = ℕ} 0 1 = cc in absurd (omega arith)
-    too_long t place u a z _ (as_unchanged y) f e = let i : ◌≡◌ {A = ℕ} 0 1 = cc in absurd (omega arith)
+    too_long t place u a z _ (as_changed q w y l m) f e = cc
+    too_long t place u a z _ (as_unchanged y) f e = cc
     too_long t place u a z _ (as_too_long q w y l) f e = subst (TurnedDown s k c) (number _ 12 e refl) (by_length t q w a y l)
 
     on_step : (t : Tree) → check s ≡ accepted t → (x : Stepped) → step_tree t k ≡ x → outcome_of c x ≡ turned_down n → TurnedDown s k c n
     on_step t a (changed p u) z e = too_long t p u a z (fit c (enc u)) (ends_fit t k c p u z) refl e
-    on_step t a unchanged z e = let i : ◌≡◌ {A = ℕ} 0 1 = cc in absurd (omega arith)
+    on_step t a unchanged z e = cc
     on_step t a no_place z e = subst (TurnedDown s k c) (number _ 11 e refl) (by_place t a z)
 
     on_check : (x : Checked) → check s ≡ x → outcome_on k c x ≡ turned_down n → TurnedDown s k c n

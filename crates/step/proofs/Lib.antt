@@ -1,3 +1,4 @@
 pub mod Places
 pub mod Steps
 mod Ends
+pub mod Answers

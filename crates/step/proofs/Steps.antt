@@ -6,7 +6,6 @@ use mathlib.Core.Path.{◌≡◌, refl, sym, ap, ◌∙◌}
 use mathlib.Core.Bool.{Bool, true, false}
 use mathlib.Core.List.{List, []}
 use Prim.Native.Nat.{ℕ, ◌≤◌}
-use native.Mathlib.Omega.{arith}
 use lib.ListN.{length}
 use lib.Dec.{ltb}
 use borrow.Author.Tests.{ltb-false}
@@ -82,16 +81,16 @@ step_inv t k place u e = on_found (find t [] k) refl e
           (let y : q ≡ place = cc in ap (λ (i : ℕ). to i w) y);
       result = cc;
     }
-    on_change Γ v f p same d e = let z : ◌≡◌ {A = ℕ} 0 1 = cc in absurd (omega arith)
+    on_change Γ v f p same d e = cc
 
     on_sort : (Γ : Ctx) (v : Tree) → find t [] k ≡ found Γ v → (b : Bool) → is_predicate v ≡ b
         → pick b (step_change t k (dispatch Γ v)) no_place ≡ changed place u → StepInv t k place u
     on_sort Γ v f true p e = on_change Γ v f p (dispatch Γ v) refl e
-    on_sort Γ v f false p e = let z : ◌≡◌ {A = ℕ} 0 1 = cc in absurd (omega arith)
+    on_sort Γ v f false p e = cc
 
     on_found : (x : Found) → find t [] k ≡ x → step_found t k x ≡ changed place u → StepInv t k place u
     on_found (found Γ v) f e = on_sort Γ v f (is_predicate v) refl e
-    on_found absent f e = let z : ◌≡◌ {A = ℕ} 0 1 = cc in absurd (omega arith)
+    on_found absent f e = cc
 
 -- an accepted tree that is a predicate's is accepted as one
 pub as_predicate : (σ : ℕ → Ty) (v : Tree) (Γ : Ctx) (e : Sort) → is_predicate v ≡ true → Accepted σ v Γ e → Accepted σ v Γ predicate
@@ -152,8 +151,8 @@ fit_wrote c ys xs e = go (ltb frame_limit (length ys)) refl (ltb c (length ys)) 
   where
     go : (a : Bool) → ltb frame_limit (length ys) ≡ a → (b : Bool) → pick a (turned_down 12) (pick b (turned_down 12) (wrote ys)) ≡ wrote xs
         → (ys ≡ xs) × (length ys ≤ frame_limit)
-    go true p b e = let z : ◌≡◌ {A = ℕ} 0 1 = cc in absurd (omega arith)
-    go false p true e = let z : ◌≡◌ {A = ℕ} 0 1 = cc in absurd (omega arith)
+    go true p b e = cc
+    go false p true e = cc
     go false p false e = (cc, ltb-false frame_limit (length ys) p)
 
 -- a frame that a step writes is the frame of an accepted tree, one step from the frame that it read
@@ -178,9 +177,9 @@ step_wrote s b k c xs e = on_check (check s) refl e
           checks = rw (← f.0)
               (check_back (signature t) u w f.1);
         }
-    on_step t a unchanged x e = let z : ◌≡◌ {A = ℕ} 0 1 = cc in absurd (omega arith)
-    on_step t a no_place x e = let z : ◌≡◌ {A = ℕ} 0 1 = cc in absurd (omega arith)
+    on_step t a unchanged x e = cc
+    on_step t a no_place x e = cc
 
     on_check : (x : Checked) → check s ≡ x → outcome_on k c x ≡ wrote xs → Wrote s k xs
     on_check (accepted t) x e = on_step t (check_accepts s b t x) (step_tree t k) refl e
-    on_check (refused n) x e = let z : ◌≡◌ {A = ℕ} 0 1 = cc in absurd (omega arith)
+    on_check (refused n) x e = cc

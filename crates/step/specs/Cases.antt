@@ -2,8 +2,10 @@
 -- the whole step on bytes, at place 0, with an output of 4,096 bytes. Frames stand here as document 01 writes them. ("the others, and
 -- frames made at random, are run through the port and the Rust built from the repository and compared": docs/COMPARISON.md.) Then what
 -- a step answers, and what it leaves in the lent output, for each way in which it ends.
-use Rattle.std.specs.Prelude.{◌≡◌, refl, List, [], ◌∷◌, map, ℕ}
+use Rattle.std.specs.Prelude.{◌≡◌, refl, List, [], ◌∷◌, map, ℕ, Result, Ok, Err}
 use Prim.Native.String.{String, ◌++◌}
+use Rattle.frame.specs.declared.refusals.Refusal.{Refusal}
+use Rattle.frame.specs.declared.refusals.Refusal.TheVariants.{EndsInside, NoRoom}
 use Rattle.frame.specs.Lines.{digit_of, read_line}
 use Rattle.frame.specs.Texts.{bytes}
 use Rattle.frame.specs.Trees.{nodes}
@@ -25,8 +27,8 @@ use Rattle.rules.specs.EqualsEmptySet.{any_single, first_single, any_minus, minu
 use Rattle.rules.specs.EqualsType.{rewrite_equals_type}
 use Rattle.rules.specs.Dispatch.{dispatch}
 use Rattle.step.specs.Step.{Outcome, wrote, kept, turned_down, step_tree, fit, step, step_answer, step_output}
-use Rattle.step.specs.declared.StepAnswer.{StepAnswer}
-use Rattle.step.specs.declared.StepAnswer.TheVariants.{Changed, Unchanged, Refused}
+use Rattle.step.specs.declared.Step.{Step}
+use Rattle.step.specs.declared.Step.TheVariants.{Changed, Unchanged}
 
 data Case : Type 0 where
   -- a frame, and the frame that it is changed to
@@ -121,24 +123,24 @@ starred_cases = refl
 -- ---- answers and outputs
 data Lent : Type 0 where
   -- how a step ends, and the bytes of the lent output; what it answers, and the bytes afterwards
-  lent : Outcome → String → StepAnswer → String → Lent
+  lent : Outcome → String → Result Step Refusal → String → Lent
 
 outputs : List Lent
 outputs =
     -- "A changed step writes the whole new frame from byte 0; later bytes are kept. Its answer, and a run's, gives the frame's length."
-    lent (wrote (bytes "0263")) "A1A2A3A4" (Changed 2) "0263A3A4"
-    ∷ lent (wrote (bytes "0263")) "A1A2" (Changed 2) "0263"
+    lent (wrote (bytes "0263")) "A1A2A3A4" (Ok (Changed 2)) "0263A3A4"
+    ∷ lent (wrote (bytes "0263")) "A1A2" (Ok (Changed 2)) "0263"
     -- "Unchanged writes nothing."
-    ∷ lent kept "A1A2A3A4" Unchanged "A1A2A3A4"
+    ∷ lent kept "A1A2A3A4" (Ok Unchanged) "A1A2A3A4"
     -- "Each answers its number alone and leaves the output's old bytes."
-    ∷ lent (turned_down 3) "A1A2A3A4" (Refused 3) "A1A2A3A4"
-    ∷ lent (turned_down 12) "A1" (Refused 12) "A1"
+    ∷ lent (turned_down 3) "A1A2A3A4" (Err EndsInside) "A1A2A3A4"
+    ∷ lent (turned_down 12) "A1" (Err NoRoom) "A1"
     ∷ []
 
-abbrev answered_for : Lent → StepAnswer × List ℕ
+abbrev answered_for : Lent → Result Step Refusal × List ℕ
 answered_for (lent o d a e) = (step_answer o, step_output o (bytes d))
 
-abbrev afterwards : Lent → StepAnswer × List ℕ
+abbrev afterwards : Lent → Result Step Refusal × List ℕ
 afterwards (lent o d a e) = (a, bytes e)
 
 output_cases : map answered_for outputs ≡ map afterwards outputs

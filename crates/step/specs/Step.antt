@@ -1,5 +1,7 @@
 -- One step at a place (document 01, "The answer record" and numbers 2 to 12).
-use Rattle.std.specs.Prelude.{ℕ, Bool, List, [], ◌++◌, length, drop, ltb}
+use Rattle.std.specs.Prelude.{ℕ, Bool, List, [], ◌++◌, length, drop, ltb, Result, Ok, Err}
+use Rattle.frame.specs.declared.refusals.Refusal.{Refusal}
+use Rattle.frame.specs.Refusals.{refusal}
 use Rattle.frame.specs.Trees.{Tree, tag_of}
 use Rattle.frame.specs.Tags.{pick, predicate, same_sort, form_of}
 use Rattle.frame.specs.Encoding.{enc}
@@ -8,8 +10,8 @@ use Rattle.frame.specs.Places.{Found, found, absent, find, replace}
 use Rattle.typing.specs.Check.{Checked, accepted, refused, check}
 use Rattle.rules.specs.Change.{Change, to, same}
 use Rattle.rules.specs.Dispatch.{dispatch}
-use Rattle.step.specs.declared.StepAnswer.{StepAnswer}
-use Rattle.step.specs.declared.StepAnswer.TheVariants.{Changed, Unchanged, Refused}
+use Rattle.step.specs.declared.Step.{Step}
+use Rattle.step.specs.declared.Step.TheVariants.{Changed, Unchanged}
 
 -- ---- on trees
 pub data Stepped : Type 0 where
@@ -61,10 +63,10 @@ step s k c = outcome_on k c (check s)
 -- definition." "Its answer [..] gives the frame's length." "The contract of each entry gives answer, count and every byte of the output
 -- afterwards, refusals too: by an equation with a definition": of the entry `step`, with `step_answer` and `step_output`. So it shuts out
 -- "a step that is always unchanged", "an answer of ⊤ for every node", "refusing every frame".
-abbrev pub step_answer : Outcome → StepAnswer
-step_answer (wrote xs) = Changed (length xs)
-step_answer kept = Unchanged
-step_answer (turned_down n) = Refused n
+abbrev pub step_answer : Outcome → Result Step Refusal
+step_answer (wrote xs) = Ok (Changed (length xs))
+step_answer kept = Ok Unchanged
+step_answer (turned_down n) = Err (refusal n)
 
 -- the output afterwards, whose bytes were d: "A changed step writes the whole new frame from byte 0; later bytes are
 -- kept. [..] Unchanged writes nothing." "Each answers its number alone and leaves the output's old bytes."

@@ -1,12 +1,10 @@
 // One step at a place of a frame.
 #![tactic(auto)]
 
-// What a step answers. `specs/Step.antt` gives document 01's number and values for each case (`step_answer`).
-#[derive(Drop)]
-pub enum StepAnswer {
+// How a step ends that is not turned down. `specs/Step.antt` gives document 01's values for each case (`step_answer`).
+#[derive(Clone, Copy, Debug, PartialEq, Eq)]
+pub enum Step {
     // the length of the new frame
     Changed(usize),
     Unchanged,
-    // the number of document 01
-    Refused(u8),
 }

@@ -1,8 +1,8 @@
-mod Machine
-mod OwnTurns
-mod OwnResults
-mod OpenTurns
-mod StackBelow
-mod StackTurns
-mod StepTurns
-mod TreeTurns
+pub mod OwnResults
+pub mod OwnTurns
+pub mod OpenTurns
+pub mod Machine
+pub mod StackBelow
+pub mod StackTurns
+pub mod StepTurns
+pub mod TreeTurns

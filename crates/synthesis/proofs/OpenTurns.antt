@@ -1,13 +1,13 @@
 -- The ways out of `open_node`: what the head that is read says of the tree that stands there.
--- Main results: own_at, open_own, open_small, open_bad, open_to.
+-- Main results: own_stands, open_own, open_small, open_bad, open_to.
 use mathlib.Core.Path.{◌≡◌, refl, sym, ap, ◌∙◌, subst}
 use mathlib.Core.Bool.{Bool, true, false, ◌&&◌}
 use mathlib.Core.List.{List, [], ◌∷◌}
 use Prim.Native.Nat.{ℕ, ◌+◌, ◌≤◌, ◌<◌}
 use native.Mathlib.Omega.{arith}
 use lib.ListN.{length, set}
-use lib.Dec.{ltb, leb, eqb}
-use borrow.Author.Tests.{eq-eqb, eqb-true, eqb-false, lt-leb}
+use lib.Dec.{ltb, leb}
+use borrow.Author.Tests.{eq-eqb, lt-leb}
 use Rattle.frame.specs.Types.{Ty}
 use Rattle.frame.specs.Trees.{head, Tree, node, Forest, count, nil, cons, nodes, nodes_in}
 use Rattle.frame.specs.Tags.{pick, Sort, Class, class_of}
@@ -18,24 +18,25 @@ use Rattle.frame.specs.Places.{Ctx, under}
 use Rattle.frame.specs.Sameness.{same_ty, same_tys}
 use Rattle.frame.specs.Spans.{Bytes, Spans}
 use Rattle.heads.specs.HeadPost.{payload_in, KnownPost}
-use Rattle.heads.specs.declared.KnownHead.{KnownHead}
+use Rattle.heads.specs.declared.Head.{Head as ReadHead}
+use Rattle.tags.specs.declared.forms.Sort.{Sort as CodeSort}
 use Rattle.heads.proofs.View.{View, KnownView, known_view}
 use Rattle.frame.proofs.Spans.{span_left}
 use Rattle.frame.proofs.Inversion.{many_count}
 use Rattle.typing.specs.Typing.{carried_ty, type_at, wants, shape, node_typed, types_in, typed_tree, typed_forest}
 use Rattle.type_rules.specs.Patterns.{own_types}
-use Rattle.type_rules.specs.RuleNumbers.{rule_number}
+use Rattle.std.proofs.Common.{Option, Some, None}
+use Rattle.type_rules.specs.CodeRules.{own_at}
+use Rattle.type_rules.specs.declared.Own.{Own}
+use Rattle.type_rules.specs.declared.Own.TheVariants.{Carried, Bound}
 use Rattle.type_rules.specs.Patterns.{Operands}
 use Rattle.frame.specs.At.{IsAt}
-use Rattle.synthesis.specs.TypingPosts.{own_place, OwnAt, OwnPre, Owning, OwnPost, LeafAt, OpenPre, OpenPost}
-use Rattle.patterns.specs.declared.Typed.{Typed}
-use Rattle.patterns.specs.declared.Typed.TheVariants as T
+use Rattle.synthesis.specs.TypingPosts.{place_by, own_place, OwnAt, OwnPre, Owning, OwnPost, LeafAt, OpenPre, OpenPost}
 use Rattle.synthesis.specs.declared.stack.OpenNode.{OpenNode}
-use Rattle.synthesis.specs.declared.Opened.TheVariants as O
-use Rattle.type_rules.proofs.RuleTables.{carried_own, bound_own}
+use Rattle.synthesis.specs.declared.Opened.{Opened}
 use Rattle.type_rules.proofs.RuleShapes.{head_eq}
-use Rattle.synthesis.proofs.OwnTurns.{type_wf}
-use Rattle.synthesis.proofs.OwnResults.{own_result, own_cases, carries_one, bound_only}
+use Rattle.synthesis.proofs.OwnTurns.{type_wf, own_one, own_nothing}
+use Rattle.synthesis.proofs.OwnResults.{own_result, carries_one, bound_only}
 
 -- ---- what a view says
 count_few : (ks : Forest) → count ks ≤ nodes_in ks
@@ -48,45 +49,47 @@ one_type [] h = absurd (omega arith)
 one_type (v ∷ []) h = (v, refl)
 one_type (v ∷ w ∷ us) h = absurd (omega arith)
 
-module _ {s : List ℕ} {at : ℕ} {e : Sort} {t : Tree} {q tag n tp p k : ℕ} {a b : Bool} (bs : Bytes s) (v : View s e at t q tag n tp p k a b) where
+module _ {s : List ℕ} {at : ℕ} {e : Sort} {t : Tree} {q tag n tp p k : ℕ} {a b : CodeSort} (bs : Bytes s) (v : View s e at t q tag n tp p k a b) where
   view_arity : Operands (class_of tag) (number_in tag n v.us (count v.ks)) (count v.ks)
   view_arity = (many_count _ _ p v.ks q v.below.1 ∙ ap length v.top.sorts, v.top.wf.range)
 
   module _ (Γ : Ctx) (leaf : ℕ) (lf : LeafAt t Γ s leaf) where
-    of_bound : rule_number (class_of tag) ≡ 6 → Spans s leaf (leaf + length (enc_ty (type_at Γ n))) (enc_ty (type_at Γ n))
+    of_bound : own_at (class_of tag) ≡ Some Bound → Spans s leaf (leaf + length (enc_ty (type_at Γ n))) (enc_ty (type_at Γ n))
     of_bound h =
         let g = bound_only tag h (ltb tag 902) refl in
         let l = subst (λ (x : Tree). LeafAt x Γ s leaf) v.is lf in
         subst (λ (b : Bool). pick {X = Type 0} b (Spans s leaf (leaf + length (enc_ty (type_at Γ n))) (enc_ty (type_at Γ n)))
         (Unit {0})) (eq-eqb tag 3 g) l
 
-    of_carried : 0 < rule_number (class_of tag) → rule_number (class_of tag) < 6 → (x : ℕ) × Spans s tp x (enc_ty (carried_ty v.us))
+    of_carried : own_at (class_of tag) ≡ Some Carried → (x : ℕ) × Spans s tp x (enc_ty (carried_ty v.us))
     unfolding enc_tys
-    of_carried l h =
-        let o = one_type v.us (v.top.wf.many ∙ carries_one (class_of tag) _ l h) in
+    of_carried h =
+        let o = one_type v.us (v.top.wf.many ∙ carries_one (class_of tag) _ h) in
         let a = subst (λ (us : List Ty). Spans s tp p (enc_tys us)) o.1 v.top.types in (
           tp + length (enc_ty o.0),
           subst (λ (us : List Ty). Spans s tp (tp + length (enc_ty o.0)) (enc_ty (carried_ty us))) (sym o.1)
               (span_left (enc_ty o.0) [] a),
         )
 
-    pub own_at : OwnAt (class_of tag) n v.us Γ s (own_place (class_of tag) tp leaf)
-    own_at = record { stands = λ u eq. by (eqb (rule_number (class_of tag)) 6) refl u eq }
+    pub own_stands : OwnAt (class_of tag) n v.us Γ s (own_place (class_of tag) tp leaf)
+    own_stands = record { stands = λ u eq. by (own_at (class_of tag)) refl u eq }
       where
-        by : (b : Bool) → eqb (rule_number (class_of tag)) 6 ≡ b → (u : Ty) → own_types (class_of tag) n v.us Γ ≡ u ∷ []
-            → (x : ℕ) × Spans s (pick b leaf tp) x (enc_ty u) × TyWf u
-        by true eb u eq =
-            let h = eqb-true (rule_number (class_of tag)) 6 eb in
-            let z : type_at Γ n ≡ u = head_eq (sym (bound_own (class_of tag) n v.us Γ h) ∙ eq) in
-            let a = of_bound h in
+        by : (k : Option Own) → own_at (class_of tag) ≡ k → (u : Ty) → own_types (class_of tag) n v.us Γ ≡ u ∷ []
+            → (x : ℕ) × Spans s (place_by k tp leaf) x (enc_ty u) × TyWf u
+        by (Some Bound) e u eq =
+            let z : type_at Γ n ≡ u = head_eq (sym (own_one (class_of tag) Bound e n v.us Γ) ∙ eq) in
+            let a = of_bound e in
             let b = subst (λ (w : Ty). Spans s leaf (leaf + length (enc_ty w)) (enc_ty w)) z a in
             (leaf + length (enc_ty u), b, type_wf s bs u leaf (leaf + length (enc_ty u)) b)
-        by false eb u eq =
-            let c = own_cases (class_of tag) n v.us Γ u eq (eqb-false (rule_number (class_of tag)) 6 eb) in
-            let z : carried_ty v.us ≡ u = head_eq (sym (carried_own (class_of tag) n v.us Γ c.0 c.1) ∙ eq) in
-            let a = of_carried c.0 c.1 in
+        by (Some Carried) e u eq =
+            let z : carried_ty v.us ≡ u = head_eq (sym (own_one (class_of tag) Carried e n v.us Γ) ∙ eq) in
+            let a = of_carried e in
             let b = subst (λ (w : Ty). Spans s tp a.0 (enc_ty w)) z a.1 in
             (a.0, b, type_wf s bs u tp a.0 b)
+        by None e u eq = let z : ◌≡◌ {A = List Ty} [] (u ∷ []) = sym (own_nothing (class_of tag) e n v.us Γ) ∙ eq in cc
+
+abbrev opened_at : ℕ → ℕ → OpenNode → Opened
+opened_at p m nd = record { at = p; end = m; node = nd }
 
 -- a node whose own type is too long
 too_long : (g n : ℕ) (us : List Ty) (ks : Forest) (Γ : Ctx) (u : Ty) → own_types (class_of g) n us Γ ≡ u ∷ [] → 64 < length (enc_ty u)
@@ -105,7 +108,7 @@ too_long g n us ks Γ u e h =
     no_way false b c = refl
 
 -- ---- the ways out
-module _ {s : List ℕ} {at : ℕ} {h : KnownHead} (bs : Bytes s) (kn : KnownPost s at h) (leaf : ℕ) (o : List ℕ) (end : ℕ) where
+module _ {s : List ℕ} {at : ℕ} {h : ReadHead} (bs : Bytes s) (kn : KnownPost s at h) (leaf : ℕ) (o : List ℕ) (end : ℕ) where
   -- its class and its payload
   abbrev c : Class
   c = class_of h.tag
@@ -119,7 +122,7 @@ module _ {s : List ℕ} {at : ℕ} {h : KnownHead} (bs : Bytes s) (kn : KnownPos
   pub open_own : OpenPre s at leaf o end → OwnPre c s (own_place c h.types leaf) o end
   open_own x =
       let v = seen x.sort x.tree x.to x.stands in
-      record { n = n; us = v.us; Γ = x.Γ; own = own_at bs v x.Γ leaf x.leafs; room = x.room }
+      record { n = n; us = v.us; Γ = x.Γ; own = own_stands bs v x.Γ leaf x.leafs; room = x.room }
 
   -- the numbers of the node's record are small
   pub open_small : OpenPre s at leaf o end → (h.tag < 65536) × (h.count < 65536) × (end < 4294967296)
@@ -131,24 +134,24 @@ module _ {s : List ℕ} {at : ℕ} {h : KnownHead} (bs : Bytes s) (kn : KnownPos
         omega (arith, x.low),
       )
 
-  module _ (types : List ℕ) (r : Typed) (op : OwnPost c s (own_place c h.types leaf) o end types r) where
+  module _ (types : List ℕ) (r : Option ℕ) (op : OwnPost c s (own_place c h.types leaf) o end types r) where
     owning : (e : Sort) (t : Tree) (q : ℕ) (Γ : Ctx) (w : IsAt s e at t q) → LeafAt t Γ s leaf → Owning r c n (seen e t q w).us Γ o end types
-    owning e t q Γ w lf = let v = seen e t q w in op.answer n v.us Γ (own_at bs v Γ leaf lf)
+    owning e t q Γ w lf = let v = seen e t q w in op.answer n v.us Γ (own_stands bs v Γ leaf lf)
 
-    pub open_bad : r ≡ T.Bad → (t₀ l₀ f₀ : List ℕ) (top : ℕ) (t₁ l₁ f₁ : List ℕ) → OpenPost s at leaf t₀ l₀ f₀ top o end t₁ l₁ f₁ types O.Bad
+    pub open_bad : r ≡ None → (t₀ l₀ f₀ : List ℕ) (top : ℕ) (t₁ l₁ f₁ : List ℕ) → OpenPost s at leaf t₀ l₀ f₀ top o end t₁ l₁ f₁ types None
     open_bad z t₀ l₀ f₀ top t₁ l₁ f₁ =
         record {
           answer = λ e t q Γ w lf. (let v = seen e t q w in
-              let a = subst (λ (x : Typed). Owning x c n v.us Γ o end types) z (owning e t q Γ w lf) in
+              let a = subst (λ (x : Option ℕ). Owning x c n v.us Γ o end types) z (owning e t q Γ w lf) in
               ap (λ (x : Tree). typed_tree x Γ) v.is ∙ too_long h.tag n v.us v.ks Γ a.0 a.1 a.2);
         }
 
-    pub open_to : (m : ℕ) → r ≡ T.Is m → (nd : OpenNode) (t₀ l₀ f₀ : List ℕ) (top : ℕ) (t₁ l₁ f₁ : List ℕ) → t₁ ≡ set t₀ top h.tag
-        → l₁ ≡ set l₀ top h.count → f₁ ≡ set f₀ top end → OpenPost s at leaf t₀ l₀ f₀ top o end t₁ l₁ f₁ types (O.To h.children m nd)
+    pub open_to : (m : ℕ) → r ≡ Some m → (nd : OpenNode) (t₀ l₀ f₀ : List ℕ) (top : ℕ) (t₁ l₁ f₁ : List ℕ) → t₁ ≡ set t₀ top h.tag
+        → l₁ ≡ set l₀ top h.count → f₁ ≡ set f₀ top end → OpenPost s at leaf t₀ l₀ f₀ top o end t₁ l₁ f₁ types (Some (opened_at h.children m nd))
     open_to m z nd t₀ l₀ f₀ top t₁ l₁ f₁ zt zl zf =
         record {
           answer = λ e t q Γ w lf. (let v = seen e t q w in
-              let a = subst (λ (x : Typed). Owning x c n v.us Γ o end types) z (owning e t q Γ w lf) in
+              let a = subst (λ (x : Option ℕ). Owning x c n v.us Γ o end types) z (owning e t q Γ w lf) in
               let d = v.within in
               record {
                 tag = h.tag;

@@ -1,12 +1,12 @@
 -- The classes of nodes that have a type by themselves: which type it is, and what it takes to have one.
--- Main results: own_result, own_cases, carries_one, bound_only.
+-- Main results: own_result, carries_one, bound_only.
 use mathlib.Core.Path.{◌≡◌, refl, ap}
 use mathlib.Core.Bool.{Bool, true, false}
 use mathlib.Core.List.{List, [], ◌∷◌}
-use Prim.Native.Nat.{ℕ, ◌<◌}
+use Prim.Native.Nat.{ℕ}
 use native.Mathlib.Omega.{arith}
 use lib.Dec.{ltb, eqb}
-use borrow.Author.Tests.{eq-eqb, eqb-true, ltb-true, ltb-false}
+use borrow.Author.Tests.{eqb-true, ltb-true, ltb-false}
 use Rattle.frame.specs.Types.{Ty}
 use Rattle.frame.specs.Tags.{
   pick,
@@ -72,7 +72,10 @@ use Rattle.frame.specs.Places.{Ctx}
 use Rattle.frame.proofs.EveryTag.{along_rows, every_tag, unlisted_past}
 use Rattle.typing.specs.Typing.{result}
 use Rattle.type_rules.specs.Patterns.{own_types}
-use Rattle.type_rules.specs.RuleNumbers.{rule_number}
+use Rattle.std.proofs.Common.{Option, Some, None, subst}
+use Rattle.type_rules.specs.CodeRules.{own_at}
+use Rattle.type_rules.specs.declared.Own.{Own}
+use Rattle.type_rules.specs.declared.Own.TheVariants.{Carried, Bound}
 use Rattle.type_rules.proofs.RuleShapes.{head_eq}
 
 -- ---- the classes that have a type by themselves
@@ -134,128 +137,77 @@ own_result quantified_set n us Γ ts u e = nil_not e
 own_result comprehension n us Γ ts u e = nil_not e
 own_result unlisted n us Γ ts u e = nil_not e
 
-pub own_cases : (c : Class) (n : ℕ) (us : List Ty) (Γ : Ctx) (u : Ty) → own_types c n us Γ ≡ u ∷ [] → (rule_number c ≡ 6 → ⊥)
-    → (0 < rule_number c) × (rule_number c < 6)
-unfolding rule_number
-own_cases literal_pred n us Γ u e h = nil_not e
-own_cases equality n us Γ u e h = nil_not e
-own_cases order n us Γ u e h = nil_not e
-own_cases membership n us Γ u e h = nil_not e
-own_cases inclusion n us Γ u e h = nil_not e
-own_cases binary_pred n us Γ u e h = nil_not e
-own_cases associative_pred n us Γ u e h = nil_not e
-own_cases negation n us Γ u e h = nil_not e
-own_cases quantified_pred n us Γ u e h = nil_not e
-own_cases finite n us Γ u e h = nil_not e
-own_cases partition n us Γ u e h = nil_not e
-own_cases identifier n us Γ u e h = omega arith
-own_cases bound n us Γ u e h = absurd (h refl)
-own_cases literal n us Γ u e h = nil_not e
-own_cases set_extension n us Γ u e h = nil_not e
-own_cases maplet n us Γ u e h = nil_not e
-own_cases relation_set n us Γ u e h = nil_not e
-own_cases set_minus n us Γ u e h = nil_not e
-own_cases cartesian n us Γ u e h = nil_not e
-own_cases direct_product n us Γ u e h = nil_not e
-own_cases parallel_product n us Γ u e h = nil_not e
-own_cases domain_restriction n us Γ u e h = nil_not e
-own_cases range_restriction n us Γ u e h = nil_not e
-own_cases up_to n us Γ u e h = nil_not e
-own_cases arithmetic n us Γ u e h = nil_not e
-own_cases function_image n us Γ u e h = nil_not e
-own_cases relational_image n us Γ u e h = nil_not e
-own_cases set_operation n us Γ u e h = nil_not e
-own_cases backward_composition n us Γ u e h = nil_not e
-own_cases forward_composition n us Γ u e h = nil_not e
-own_cases override n us Γ u e h = nil_not e
-own_cases sum n us Γ u e h = nil_not e
-own_cases integer_set n us Γ u e h = nil_not e
-own_cases bool_set n us Γ u e h = nil_not e
-own_cases truth_value n us Γ u e h = nil_not e
-own_cases integer_relation n us Γ u e h = nil_not e
-own_cases empty_set n us Γ u e h = omega arith
-own_cases projection1 n us Γ u e h = omega arith
-own_cases projection2 n us Γ u e h = omega arith
-own_cases identity n us Γ u e h = omega arith
-own_cases bool_expr n us Γ u e h = nil_not e
-own_cases cardinal n us Γ u e h = nil_not e
-own_cases powerset n us Γ u e h = nil_not e
-own_cases generalised n us Γ u e h = nil_not e
-own_cases domain n us Γ u e h = nil_not e
-own_cases range n us Γ u e h = nil_not e
-own_cases extremum n us Γ u e h = nil_not e
-own_cases converse n us Γ u e h = nil_not e
-own_cases unary_minus n us Γ u e h = nil_not e
-own_cases quantified_set n us Γ u e h = nil_not e
-own_cases comprehension n us Γ u e h = nil_not e
-own_cases unlisted n us Γ u e h = nil_not e
-
 -- and which carry one type
-pub carries_one : (c : Class) (x : ℕ) → 0 < rule_number c → rule_number c < 6 → types_of (form_at c).layout (form_at c).carried x ≡ 1
-unfolding rule_number form_at
-carries_one literal_pred x l h = absurd (omega arith)
-carries_one equality x l h = absurd (omega arith)
-carries_one order x l h = absurd (omega arith)
-carries_one membership x l h = absurd (omega arith)
-carries_one inclusion x l h = absurd (omega arith)
-carries_one binary_pred x l h = absurd (omega arith)
-carries_one associative_pred x l h = absurd (omega arith)
-carries_one negation x l h = absurd (omega arith)
-carries_one quantified_pred x l h = absurd (omega arith)
-carries_one finite x l h = absurd (omega arith)
-carries_one partition x l h = absurd (omega arith)
-carries_one identifier x l h = refl
-carries_one bound x l h = absurd (omega arith)
-carries_one literal x l h = absurd (omega arith)
-carries_one set_extension x l h = absurd (omega arith)
-carries_one maplet x l h = absurd (omega arith)
-carries_one relation_set x l h = absurd (omega arith)
-carries_one set_minus x l h = absurd (omega arith)
-carries_one cartesian x l h = absurd (omega arith)
-carries_one direct_product x l h = absurd (omega arith)
-carries_one parallel_product x l h = absurd (omega arith)
-carries_one domain_restriction x l h = absurd (omega arith)
-carries_one range_restriction x l h = absurd (omega arith)
-carries_one up_to x l h = absurd (omega arith)
-carries_one arithmetic x l h = absurd (omega arith)
-carries_one function_image x l h = absurd (omega arith)
-carries_one relational_image x l h = absurd (omega arith)
-carries_one set_operation x l h = absurd (omega arith)
-carries_one backward_composition x l h = absurd (omega arith)
-carries_one forward_composition x l h = absurd (omega arith)
-carries_one override x l h = absurd (omega arith)
-carries_one sum x l h = absurd (omega arith)
-carries_one integer_set x l h = absurd (omega arith)
-carries_one bool_set x l h = absurd (omega arith)
-carries_one truth_value x l h = absurd (omega arith)
-carries_one integer_relation x l h = absurd (omega arith)
-carries_one empty_set x l h = refl
-carries_one projection1 x l h = refl
-carries_one projection2 x l h = refl
-carries_one identity x l h = refl
-carries_one bool_expr x l h = absurd (omega arith)
-carries_one cardinal x l h = absurd (omega arith)
-carries_one powerset x l h = absurd (omega arith)
-carries_one generalised x l h = absurd (omega arith)
-carries_one domain x l h = absurd (omega arith)
-carries_one range x l h = absurd (omega arith)
-carries_one extremum x l h = absurd (omega arith)
-carries_one converse x l h = absurd (omega arith)
-carries_one unary_minus x l h = absurd (omega arith)
-carries_one quantified_set x l h = absurd (omega arith)
-carries_one comprehension x l h = absurd (omega arith)
-carries_one unlisted x l h = absurd (omega arith)
+pub carries_one : (c : Class) (x : ℕ) → own_at c ≡ Some Carried → types_of (form_at c).layout (form_at c).carried x ≡ 1
+unfolding form_at
+carries_one literal_pred x e = cc
+carries_one equality x e = cc
+carries_one order x e = cc
+carries_one membership x e = cc
+carries_one inclusion x e = cc
+carries_one binary_pred x e = cc
+carries_one associative_pred x e = cc
+carries_one negation x e = cc
+carries_one quantified_pred x e = cc
+carries_one finite x e = cc
+carries_one partition x e = cc
+carries_one identifier x e = refl
+carries_one bound x e = cc
+carries_one literal x e = cc
+carries_one set_extension x e = cc
+carries_one maplet x e = cc
+carries_one relation_set x e = cc
+carries_one set_minus x e = cc
+carries_one cartesian x e = cc
+carries_one direct_product x e = cc
+carries_one parallel_product x e = cc
+carries_one domain_restriction x e = cc
+carries_one range_restriction x e = cc
+carries_one up_to x e = cc
+carries_one arithmetic x e = cc
+carries_one function_image x e = cc
+carries_one relational_image x e = cc
+carries_one set_operation x e = cc
+carries_one backward_composition x e = cc
+carries_one forward_composition x e = cc
+carries_one override x e = cc
+carries_one sum x e = cc
+carries_one integer_set x e = cc
+carries_one bool_set x e = cc
+carries_one truth_value x e = cc
+carries_one integer_relation x e = cc
+carries_one empty_set x e = refl
+carries_one projection1 x e = refl
+carries_one projection2 x e = refl
+carries_one identity x e = refl
+carries_one bool_expr x e = cc
+carries_one cardinal x e = cc
+carries_one powerset x e = cc
+carries_one generalised x e = cc
+carries_one domain x e = cc
+carries_one range x e = cc
+carries_one extremum x e = cc
+carries_one converse x e = cc
+carries_one unary_minus x e = cc
+carries_one quantified_set x e = cc
+carries_one comprehension x e = cc
+carries_one unlisted x e = cc
 
-bound_right : along_rows (λ g c. pick (eqb (rule_number c) 6) (eqb g 3) true) 902 0 table ≡ true
-unfolding rule_number
+is_bound : Option Own → Bool
+is_bound (Some Bound) = true
+is_bound (Some Carried) = false
+is_bound None = false
+
+bound_right : along_rows (λ g c. pick (is_bound (own_at c)) (eqb g 3) true) 902 0 table ≡ true
+unfolding is_bound
 bound_right = refl
 
-pub bound_only : (g : ℕ) → rule_number (class_of g) ≡ 6 → (b : Bool) → ltb g 902 ≡ b → g ≡ 3
-unfolding rule_number
+pub bound_only : (g : ℕ) → own_at (class_of g) ≡ Some Bound → (b : Bool) → ltb g 902 ≡ b → g ≡ 3
+unfolding is_bound
 bound_only g h true e =
-    let t = every_tag (λ i c. pick (eqb (rule_number c) 6) (eqb i 3) true) 902 bound_right g (ltb-true g 902 e) in
-    eqb-true g 3 (rw (eq-eqb (rule_number (class_of g)) 6 h) at t)
+    let t = every_tag (λ i c. pick (is_bound (own_at c)) (eqb i 3) true) 902 bound_right g (ltb-true g 902 e) in
+    eqb-true g 3 (subst (λ (o : Option Own). pick (is_bound o) (eqb g 3) true ≡ true) h t)
 bound_only g h false e =
     let l = ltb-false g 902 e in
-    let z = ap rule_number (unlisted_past g (omega arith)) in
-    absurd (omega arith)
+    let z : own_at (class_of g) ≡ None = ap own_at (unlisted_past g (omega arith)) in
+    cc (h, z)

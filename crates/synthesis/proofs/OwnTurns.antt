@@ -1,33 +1,31 @@
--- The ways out of `put_type`, `own_type` and `close_top`.
--- Main results: put_bad, put_is; own_put, own_none; close_bad, close_last, close_on; type_wf (bytes of a buffer make a well formed type).
-use mathlib.Core.Path.{◌≡◌, refl, sym, ap₂, ◌∙◌, subst}
+-- The ways out of `put_type` and `own_type`, and what closing a node answers.
+-- Main results: put_is; own_put, own_none; own_one, own_nothing, place_of; close_bad, close_last, close_on; type_wf (bytes of a buffer make a well formed type).
+use mathlib.Core.Path.{◌≡◌, refl, sym, ap, ap₂, ◌∙◌, subst}
 use mathlib.Core.Bool.{Bool, true, false}
 use mathlib.Core.List.{List, [], ◌∷◌, append-nil}
-use Prim.Native.Nat.{ℕ, ◌+◌, ◌-◌, ◌≤◌, ◌<◌}
+use Prim.Native.Nat.{ℕ, ◌+◌, ◌-◌, ◌≤◌}
 use native.Mathlib.Omega.{arith}
 use lib.ListN.{length}
 use lib.Dec.{eqb}
 use borrow.Author.Tests.{eq-eqb, ne_eqb}
 use Rattle.frame.specs.Types.{Ty, bool, int, given, pow, prod}
-use Rattle.frame.specs.Tags.{pick, Class, class_of}
+use Rattle.frame.specs.Tags.{Class, class_of}
 use Rattle.frame.specs.Encoding.{enc_ty, enc_tys, enc_number}
 use Rattle.frame.specs.WellFormed.{TyWf}
 use Rattle.frame.specs.Places.{Ctx}
 use Rattle.frame.specs.Spans.{Bytes, Spans}
 use Rattle.frame.proofs.Spans.{span_nil, span_first, span_left, span_right}
 use Rattle.type_rules.specs.Patterns.{own_types, Judged, typed, wrong, judge, rule_at}
-use Rattle.type_rules.specs.RuleNumbers.{rule_number}
+use Rattle.type_rules.specs.CodeRules.{own_at, own_by, own_type}
+use Rattle.type_rules.specs.declared.Own.{Own}
 use Rattle.heads.specs.TypeEnds.{EndOf}
 use Rattle.copies.specs.Copies.{Copied}
 use Rattle.patterns.specs.PatternPosts.{RowAt, Judging, JudgePost}
-use Rattle.synthesis.specs.TypingPosts.{PutPre, Putting, PutPost, OwnPre, Owning, OwnPost, state_of, closed_to, Closing, ClosePost}
-use Rattle.patterns.specs.declared.Typed.{Typed}
-use Rattle.patterns.specs.declared.Typed.TheVariants as T
-use Rattle.synthesis.specs.declared.State.{State}
-use Rattle.synthesis.specs.declared.Turned.{Turned}
-use Rattle.synthesis.specs.declared.Turned.TheVariants as U
+use Rattle.synthesis.specs.TypingPosts.{PutPre, Putting, PutPost, place_by, OwnPre, Owning, OwnPost, state_of, closed_to, Closing, ClosePost}
+use Rattle.synthesis.specs.Turns.{State, Turned, climbs, finishes}
+use Rattle.std.proofs.Common.{Option, Some, None}
 use Rattle.copies.proofs.CopyLaws.{copied_span}
-use Rattle.type_rules.proofs.RuleTables.{carried_own, bound_own, none_own}
+use Rattle.type_rules.proofs.OwnTags.{own_types_by}
 
 -- ---- a type that stands in bytes is well formed
 pub type_wf : (s : List ℕ) → Bytes s → (t : Ty) (at e : ℕ) → Spans s at e (enc_ty t) → TyWf t
@@ -47,13 +45,7 @@ type_wf s bs (prod t u) at e a =
 
 -- ---- put_type
 module _ (s : List ℕ) (p : ℕ) (types : List ℕ) (end q : ℕ) (en : EndOf s p q) where
-  pub put_room : PutPre s p types end → (p ≤ q) × (q ≤ length s)
-  put_room a = let z = en.is a.type a.to a.span in omega (arith, a.span.long, a.span.within)
-
-  pub put_bad : 64 < q - p → PutPost s p types end types T.Bad
-  put_bad h = record { answer = λ u e a. omega (arith, en.is u e a, a.long) }
-
-  pub put_is : PutPre s p types end → q - p ≤ 64 → (o : List ℕ) → Copied s p (q - p) types o end → PutPost s p types end o (T.Is (end + (q - p)))
+  pub put_is : PutPre s p types end → q - p ≤ 64 → (o : List ℕ) → Copied s p (q - p) types o end → PutPost s p types end o (Some (end + (q - p)))
   put_is a h o c =
       record {
         answer = λ u e b. (let z = en.is u e b in (
@@ -74,10 +66,10 @@ module _ (c : Class) (s : List ℕ) (p : ℕ) (types : List ℕ) (end : ℕ) whe
         let b = a.own.stands u.0 u.1 in
         record { type = u.0; to = b.0; span = b.1; room = a.room }
 
-    owned : (r : Typed) (o : List ℕ) (n : ℕ) (us : List Ty) (Γ : Ctx) (u : Ty) → own_types c n us Γ ≡ u ∷ [] → TyWf u
+    owned : (r : Option ℕ) (o : List ℕ) (n : ℕ) (us : List Ty) (Γ : Ctx) (u : Ty) → own_types c n us Γ ≡ u ∷ [] → TyWf u
         → Putting r u types end o → Owning r c n us Γ types end o
     unfolding enc_tys
-    owned (T.Is m) o n us Γ u z w a = (
+    owned (Some m) o n us Γ u z w a = (
       subst (RowAt o end m) (sym z) (record {
         span = subst (λ (xs : List ℕ). Spans o end m xs) (sym (append-nil (enc_ty u)))
             a.2;
@@ -86,9 +78,9 @@ module _ (c : Class) (s : List ℕ) (p : ℕ) (types : List ℕ) (end : ℕ) whe
       omega (arith, a.0, a.1),
       a.3,
     )
-    owned T.Bad o n us Γ u z w a = (u, z, a)
+    owned None o n us Γ u z w a = (u, z, a)
 
-    pub own_put : (o : List ℕ) (r : Typed) → PutPost s p types end o r → OwnPost c s p types end o r
+    pub own_put : (o : List ℕ) (r : Option ℕ) → PutPost s p types end o r → OwnPost c s p types end o r
     own_put o r a =
         record {
           answer = λ n us Γ own. (let u = one n us Γ in
@@ -96,7 +88,7 @@ module _ (c : Class) (s : List ℕ) (p : ℕ) (types : List ℕ) (end : ℕ) whe
               owned r o n us Γ u.0 u.1 b.2 (a.answer u.0 b.0 b.1));
         }
 
-  pub own_none : ((n : ℕ) (us : List Ty) (Γ : Ctx) → own_types c n us Γ ≡ []) → OwnPre c s p types end → OwnPost c s p types end types (T.Is end)
+  pub own_none : ((n : ℕ) (us : List Ty) (Γ : Ctx) → own_types c n us Γ ≡ []) → OwnPre c s p types end → OwnPost c s p types end types (Some end)
   unfolding enc_tys
   own_none f a =
       record {
@@ -107,45 +99,36 @@ module _ (c : Class) (s : List ℕ) (p : ℕ) (types : List ℕ) (end : ℕ) whe
         );
       }
 
--- by the number of the rule
-module _ (c : Class) (r : ℕ) (er : r ≡ rule_number c) where
-  pub bound_one : r ≡ 6 → (n : ℕ) (us : List Ty) (Γ : Ctx) → (u : Ty) × (own_types c n us Γ ≡ u ∷ [])
-  bound_one h n us Γ = (_, bound_own c n us Γ (sym er ∙ h))
+-- by where the type is from
+pub own_one : (c : Class) (k : Own) → own_at c ≡ Some k → (n : ℕ) (us : List Ty) (Γ : Ctx) → own_types c n us Γ ≡ own_type k n us Γ ∷ []
+own_one c k e n us Γ = own_types_by c n us Γ ∙ ap (λ (o : Option Own). own_by o n us Γ) e
 
-  pub carried_one : (r ≡ 0 → ⊥) → r < 6 → (n : ℕ) (us : List Ty) (Γ : Ctx) → (u : Ty) × (own_types c n us Γ ≡ u ∷ [])
-  carried_one z h n us Γ = (_, carried_own c n us Γ (omega arith) (omega arith))
+pub own_nothing : (c : Class) → own_at c ≡ None → (n : ℕ) (us : List Ty) (Γ : Ctx) → own_types c n us Γ ≡ []
+own_nothing c e n us Γ = own_types_by c n us Γ ∙ ap (λ (o : Option Own). own_by o n us Γ) e
 
-  pub zero_none : r ≡ 0 → (n : ℕ) (us : List Ty) (Γ : Ctx) → own_types c n us Γ ≡ []
-  zero_none h n us Γ = none_own c n us Γ (λ l. absurd (omega arith))
-
-  pub later_none : (r ≡ 6 → ⊥) → 6 ≤ r → (n : ℕ) (us : List Ty) (Γ : Ctx) → own_types c n us Γ ≡ []
-  later_none z h n us Γ = none_own c n us Γ (λ l. omega arith)
-
-  pub place_bound : r ≡ 6 → (carried leaf : ℕ) → leaf ≡ pick (eqb (rule_number c) 6) leaf carried
-  place_bound h carried leaf = rw (eq-eqb (rule_number c) 6 (sym er ∙ h))
-
-  pub place_carried : (r ≡ 6 → ⊥) → (carried leaf : ℕ) → carried ≡ pick (eqb (rule_number c) 6) leaf carried
-  place_carried h carried leaf = rw (ne_eqb (rule_number c) 6 (λ z. h (er ∙ z)))
+-- its place
+pub place_of : (c : Class) (k : Own) → own_at c ≡ Some k → (carried leaf : ℕ) → place_by (Some k) carried leaf ≡ place_by (own_at c) carried leaf
+place_of c k e carried leaf = ap (λ (o : Option Own). place_by o carried leaf) (sym e)
 
 pub put_pre_at : {s types : List ℕ} {p q end : ℕ} → p ≡ q → PutPre s q types end → PutPre s p types end
 put_pre_at {s} {types} {end} z a = subst (λ (i : ℕ). PutPre s i types end) (sym z) a
 
-pub own_post_at : {s o types : List ℕ} {p q end : ℕ} {r : Typed} → p ≡ q → PutPost s p o end types r → PutPost s q o end types r
+pub own_post_at : {s o types : List ℕ} {p q end : ℕ} {r : Option ℕ} → p ≡ q → PutPost s p o end types r → PutPost s q o end types r
 own_post_at {s} {o} {types} {end} {r} z a = subst (λ (i : ℕ). PutPost s i o end types r) z a
 
--- ---- close_top
-module _ (tag : ℕ) (st : State) (o : List ℕ) (from : ℕ) (p : List ℕ) (t : Typed) (jp : JudgePost (rule_at (class_of tag)) o from st.end p t) where
+-- ---- a node is closed
+module _ (tag : ℕ) (st : State) (o : List ℕ) (from : ℕ) (p : List ℕ) (t : Option ℕ) (jp : JudgePost (rule_at (class_of tag)) o from st.end p t) where
   closes : (r : Turned) → ((j : Judged) → Judging j o from p t → Closing j st o from p r) → ClosePost tag st o from p r
   closes r f = record { answer = λ ts row. f (judge (rule_at (class_of tag)) ts) (jp.answer ts row) }
 
-  pub close_bad : t ≡ T.Bad → ClosePost tag st o from p (U.Done T.Bad)
-  close_bad z = closes (U.Done T.Bad) go
+  pub close_bad : t ≡ None → ClosePost tag st o from p (finishes None)
+  close_bad z = closes (finishes None) go
     where
-      go : (j : Judged) → Judging j o from p t → Closing j st o from p (U.Done T.Bad)
+      go : (j : Judged) → Judging j o from p t → Closing j st o from p (finishes None)
       go (typed xs) a = let w : ◌≡◌ {A = ℕ} 0 1 = cc (a.0, z) in absurd (omega arith)
       go wrong a = refl
 
-  module _ (m : ℕ) (z : t ≡ T.Is m) where
+  module _ (m : ℕ) (z : t ≡ Some m) where
     closed_to_lem : (b : Bool) → eqb st.top 0 ≡ b → ClosePost tag st o from p (closed_to b st m)
     closed_to_lem b eb = closes (closed_to b st m) go
       where
@@ -153,8 +136,8 @@ module _ (tag : ℕ) (st : State) (o : List ℕ) (from : ℕ) (p : List ℕ) (t 
         go (typed xs) a = let w : m ≡ from + length xs = cc (a.0, z) in (ap₂ (λ (x : Bool) (i : ℕ). closed_to x st i) (sym eb) w, a.1, a.2)
         go wrong a = let w : ◌≡◌ {A = ℕ} 0 1 = cc in absurd (omega arith)
 
-    pub close_last : st.top ≡ 0 → ClosePost tag st o from p (U.Done (T.Is m))
+    pub close_last : st.top ≡ 0 → ClosePost tag st o from p (finishes (Some m))
     close_last h = closed_to_lem true (eq-eqb st.top 0 h)
 
-    pub close_on : (st.top ≡ 0 → ⊥) → ClosePost tag st o from p (U.Up (state_of st m))
+    pub close_on : (st.top ≡ 0 → ⊥) → ClosePost tag st o from p (climbs (state_of st m))
     close_on h = closed_to_lem false (ne_eqb st.top 0 h)

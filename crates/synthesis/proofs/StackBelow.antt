@@ -17,7 +17,7 @@ use Rattle.frame.proofs.Spans.{span_join}
 use Rattle.frame.proofs.Inversion.{many_inv}
 use Rattle.type_rules.specs.Patterns.{own_types}
 use Rattle.results.specs.ResultPosts.{Kept}
-use Rattle.results.proofs.Symbols.{fit_snoc}
+use Rattle.results.proofs.FitTypes.{fit_snoc}
 use Rattle.patterns.specs.PatternPosts.{RowAt}
 use Rattle.synthesis.specs.Machine.{Open, given}
 use Rattle.type_rules.specs.Patterns.{Operands}

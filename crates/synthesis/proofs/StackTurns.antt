@@ -31,13 +31,10 @@ use Rattle.synthesis.specs.Machine.{Answer, is, bad, Open, opened, inner, given,
 use Rattle.type_rules.specs.Patterns.{Operands}
 use Rattle.frame.specs.At.{IsAt, KidsAt}
 use Rattle.synthesis.specs.TypingPosts.{LeafAt, OpenPre, NodeOpen, Opening, OpenPost, state_of, closed_to, Closing, ClosePost, Held, Stack, Lent, Running, TurnPre, Turning, TurnPost}
-use Rattle.patterns.specs.declared.Typed.TheVariants as T
 use Rattle.synthesis.specs.declared.stack.OpenNode.{OpenNode}
-use Rattle.synthesis.specs.declared.State.{State}
-use Rattle.synthesis.specs.declared.Turned.{Turned}
-use Rattle.synthesis.specs.declared.Turned.TheVariants as U
+use Rattle.synthesis.specs.Turns.{State, Turned, descends, climbs, finishes}
+use Rattle.std.proofs.Common.{Option, Some, None}
 use Rattle.synthesis.specs.declared.Opened.{Opened}
-use Rattle.synthesis.specs.declared.Opened.TheVariants as O
 use Rattle.type_rules.proofs.NodeRules.{node_judged}
 use Rattle.typing.proofs.Decides.{node_typed_lem}
 use Rattle.synthesis.proofs.Machine.{machine_push, machine_pop, machine_bad}
@@ -74,12 +71,12 @@ module _ (t l f s leaves types : List ℕ) (st : State) where
     closed base stop o [] run u xs ex true sh a z =
         let m = get_or f st.top 0 + length xs in
         let e : get_or f st.top 0 ≡ 0 = ap (λ (d : ℕ). get_or f d 0) run.top ∙ run.stack.3 in
-        let c : closed_to (eqb st.top 0) st m ≡ U.Done (T.Is m) = ap (λ (b : Bool). closed_to b st m) (eq-eqb st.top 0 run.top) in
+        let c : closed_to (eqb st.top 0) st m ≡ finishes (Some m) = ap (λ (b : Bool). closed_to b st m) (eq-eqb st.top 0 run.top) in
         subst (λ (x : Turned). Turning x t l f s leaves types₁ st base stop (is u)) (sym (a.0 ∙ c)) (u, refl, subst₂ (λ (i : ℕ) (ys : List ℕ). Spans types₁ i m ys) e ex a.1)
     closed base stop o (p ∷ ps) run u xs ex true sh a z =
         let from = get_or f st.top 0 in
         let m = from + length xs in
-        let c : closed_to (eqb st.top 0) st m ≡ U.Up (state_of st m) = ap (λ (b : Bool). closed_to b st m) (ne_eqb st.top 0 (omega (arith, run.top))) in
+        let c : closed_to (eqb st.top 0) st m ≡ climbs (state_of st m) = ap (λ (b : Bool). closed_to b st m) (ne_eqb st.top 0 (omega (arith, run.top))) in
         let h = run.stack in
         let k = h.1 in
         let q : h.0 ≡ st.at = kids_none t l f s leaves types base stop k.sorts st.at h.0 k.kids.0
@@ -236,6 +233,9 @@ module _ (s leaves : List ℕ) (bs : Bytes s) (base stop : ℕ) (t l f types : L
       (kept_less types types₁ (get_or f d 0) n (row_low types (get_or f d 0) n (shown o) h.1.row) kept) h.2 in
       (j.mid, j.sort, j.tree, (h.0, b, subst₂ (λ (i w : ℕ). Stack t₁ l₁ f₁ s leaves types₁ base stop 1 p ps i h.0 w) (sym fr) y rest))
 
+abbrev pub opened_at : ℕ → ℕ → OpenNode → Opened
+opened_at p m nd = record { at = p; end = m; node = nd }
+
 -- ---- the ways out of a turn that opens a node
 module _ (t l f s leaves types : List ℕ) (bs : Bytes s) (st : State) (left : get_or l st.top 0 ≡ 0 → ⊥) where
   module _ (base stop : ℕ) (o : Open) (ps : List Open) (run : Running t l f s leaves types st base stop o ps) where
@@ -281,7 +281,7 @@ module _ (t l f s leaves types : List ℕ) (bs : Bytes s) (st : State) (left : g
         low = omega (arith, p, r.low, r.places);
       }
 
-  module _ (leaf : ℕ) (ef : leaf ≡ get_or leaves st.place 0) (t₁ l₁ f₁ types₁ : List ℕ) (r : Opened)
+  module _ (leaf : ℕ) (ef : leaf ≡ get_or leaves st.place 0) (t₁ l₁ f₁ types₁ : List ℕ) (r : Option Opened)
       (op : OpenPost s st.at leaf t (set l st.top (get_or l st.top 0 - 1)) f (st.top + 1) types st.end t₁ l₁ f₁ types₁ r) where
     opening : (base stop : ℕ) (o : Open) (ps : List Open) (run : Running t l f s leaves types st base stop o ps) (e : Sort) (mid : ℕ) → IsAt s e st.at (next_kid base stop o ps run).0 mid
         → Opening r s st.at (next_kid base stop o ps run).0 mid (inner o) t (set l st.top (get_or l st.top 0 - 1)) f (st.top + 1) types st.end t₁ l₁ f₁ types₁
@@ -293,17 +293,17 @@ module _ (t l f s leaves types : List ℕ) (bs : Bytes s) (st : State) (left : g
     bad_kid : (o : Open) (ps : List Open) (k : Tree) (ks : Forest) → o.todo ≡ cons k ks → typed_tree k (inner o) ≡ false → close_up o ps ≡ bad
     bad_kid o ps (node (head g n us) ls) ks z e = ap (λ (x : Forest). close_up (without o x) ps) z ∙ machine_bad o.tag o.payload o.types o.ctx o.done g n us ls ks ps e
 
-    pub turn_bad : r ≡ O.Bad → TurnPost t l f s leaves types st t₁ l₁ f₁ types₁ (U.Done T.Bad)
+    pub turn_bad : r ≡ None → TurnPost t l f s leaves types st t₁ l₁ f₁ types₁ (finishes None)
     turn_bad er = record {
       answer = λ base stop o ps run. (
           let n = next_kid base stop o ps run in
           let a = (kid_at base stop o ps run).1 in
           bad_kid o ps n.0 n.1 n.2
-          (subst (λ (x : Opened). Opening x s st.at n.0 a.mid (inner o) t (set l st.top (get_or l st.top 0 - 1)) f
+          (subst (λ (x : Option Opened). Opening x s st.at n.0 a.mid (inner o) t (set l st.top (get_or l st.top 0 - 1)) f
           (st.top + 1) types st.end t₁ l₁ f₁ types₁) er (opening base stop o ps run a.sort a.mid a.tree)));
     }
 
-    module _ (p m : ℕ) (nd₁ : OpenNode) (er : r ≡ O.To p m nd₁) where
+    module _ (p m : ℕ) (nd₁ : OpenNode) (er : r ≡ Some (opened_at p m nd₁)) where
       abbrev next : State
       next = record { at = p; place = st.place + 1; end = m; top = st.top + 1 }
 
@@ -312,7 +312,7 @@ module _ (t l f s leaves types : List ℕ) (bs : Bytes s) (st : State) (left : g
           (k : Tree) (ks : Forest) → o.todo ≡ cons k ks → LeavesAt k (inner o) st.place s leaves → (mid : ℕ)
           → Stack t₁ l₁ f₁ s leaves types₁ base stop 1 (without o ks) ps st.end mid (st.place + nodes k)
           → NodeOpen s st.at k mid (inner o) t (set l st.top (get_or l st.top 0 - 1)) f (st.top + 1) types
-          st.end t₁ l₁ f₁ types₁ p m → Turning (U.Down u₁ c₁ next) t₁ l₁ f₁ s leaves types₁ st base stop (close_up o ps)
+          st.end t₁ l₁ f₁ types₁ p m → Turning (descends u₁ c₁ next) t₁ l₁ f₁ s leaves types₁ st base stop (close_up o ps)
       with_node u₁ c₁ base stop o ps run k ks z lv mid below nd =
           let g = nd.tag in
           let n = nd.payload in
@@ -369,11 +369,11 @@ module _ (t l f s leaves types : List ℕ) (bs : Bytes s) (st : State) (left : g
       made : (base stop : ℕ) (o : Open) (ps : List Open) (run : Running t l f s leaves types st base stop o ps) (e : Sort) (mid : ℕ) → IsAt s e st.at (next_kid base stop o ps run).0 mid
           → NodeOpen s st.at (next_kid base stop o ps run).0 mid (inner o) t (set l st.top (get_or l st.top 0 - 1)) f (st.top + 1) types st.end t₁ l₁ f₁ types₁ p m
       made base stop o ps run e mid w =
-          subst (λ (x : Opened). Opening x s st.at (next_kid base stop o ps run).0 mid (inner o) t
+          subst (λ (x : Option Opened). Opening x s st.at (next_kid base stop o ps run).0 mid (inner o) t
           (set l st.top (get_or l st.top 0 - 1)) f (st.top + 1) types st.end t₁ l₁ f₁ types₁) er
           (opening base stop o ps run e mid w)
 
-      pub turn_open : (u₁ c₁ : OpenNode) → TurnPost t l f s leaves types st t₁ l₁ f₁ types₁ (U.Down u₁ c₁ next)
+      pub turn_open : (u₁ c₁ : OpenNode) → TurnPost t l f s leaves types st t₁ l₁ f₁ types₁ (descends u₁ c₁ next)
       turn_open u₁ c₁ = record {
         answer = λ base stop o ps run. (
             let k = next_kid base stop o ps run in

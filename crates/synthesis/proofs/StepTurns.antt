@@ -1,13 +1,13 @@
 -- A turn with the node at hand by value, and all turns.
--- Main results: step_close, step_bad, step_open (the ways out of a turn); Going, with going_start, going_down, going_up and going_done;
--- leaf_judge, leaf_turns (a root without operands).
+-- Main results: step_close, step_bad, step_open (the ways out of a turn); Going, with going_start; the ways out of `all_turns`, close_fails,
+-- close_ends and close_goes, open_fails and open_goes; leaf_judge, leaf_turns (a root without operands).
 use mathlib.Core.Path.{◌≡◌, refl, sym, ap, ◌∙◌, subst, subst₂}
 use mathlib.Core.Bool.{Bool, true, false}
-use mathlib.Core.List.{List, []}
+use mathlib.Core.List.{List, [], ◌∷◌, ◌++◌}
 use Prim.Native.Nat.{ℕ, ◌+◌, ◌-◌, ◌<◌}
 use native.Mathlib.Omega.{arith}
-use lib.ListN.{length, get_or, set, length-set}
-use lib.Seq.{get_or-set_same, get_or-set_other}
+use lib.ListN.{length, get_or, set, length-set, length-append, get_or-append}
+use lib.Seq.{get_or-set_same, get_or-set_other, get_or-append_seam}
 use lib.Dec.{eqb}
 use borrow.Author.Tests.{eq-eqb, eqb-true, eqb-false}
 use Rattle.frame.specs.Tags.{class_of}
@@ -18,6 +18,7 @@ use Rattle.synthesis.specs.Machine.{Open, close_up}
 use Rattle.synthesis.specs.OpenNodes.{no_node}
 use Rattle.synthesis.specs.TypingPosts.{
   OpenPre,
+  state_of,
   NodePost,
   closed_to,
   Closing,
@@ -37,14 +38,11 @@ use Rattle.synthesis.specs.TypingPosts.{
   TurnsPre,
   TurnsPost,
 }
-use Rattle.patterns.specs.declared.Typed.{Typed}
-use Rattle.patterns.specs.declared.Typed.TheVariants as T
 use Rattle.synthesis.specs.declared.stack.OpenNode.{OpenNode}
-use Rattle.synthesis.specs.declared.State.{State}
-use Rattle.synthesis.specs.declared.Turned.{Turned}
-use Rattle.synthesis.specs.declared.Turned.TheVariants as U
+use Rattle.synthesis.specs.Turns.{State, state, Turned, descends, climbs, finishes}
+use Rattle.std.proofs.Common.{Option, Some, None}
 use Rattle.synthesis.specs.declared.Opened.{Opened}
-use Rattle.synthesis.specs.declared.Opened.TheVariants as O
+use Rattle.synthesis.proofs.OwnTurns.{close_bad, close_last, close_on}
 use Rattle.synthesis.proofs.StackBelow.{shown}
 use Rattle.synthesis.proofs.StackTurns.{
   top_held,
@@ -56,6 +54,7 @@ use Rattle.synthesis.proofs.StackTurns.{
   turn_bad,
   turn_open,
   close_as,
+  opened_at,
   judge_as,
 }
 
@@ -109,9 +108,9 @@ module _ (nd : OpenNode) (s leaves types : List ℕ) (st : State) where
     pub step_pre : (leaf : ℕ) → leaf ≡ get_or leaves st.place 0 → OpenPre s st.at leaf types st.end
     step_pre leaf el = open_pre x.tags x.lefts x.froms s leaves types bs st (λ z. left (sym x.at_top.of_left ∙ z)) x.turn leaf el
 
-    module _ (leaf : ℕ) (el : leaf ≡ get_or leaves st.place 0) (types₁ : List ℕ) (r : Opened)
+    module _ (leaf : ℕ) (el : leaf ≡ get_or leaves st.place 0) (types₁ : List ℕ) (r : Option Opened)
         (np : NodePost s st.at leaf types st.end types₁ r) where
-      pub step_bad : r ≡ O.Bad → StepPost nd s leaves types st types₁ (U.Done T.Bad)
+      pub step_bad : r ≡ None → StepPost nd s leaves types st types₁ (finishes None)
       step_bad er = record {
         moves = tt;
         turned = λ t l f w. (
@@ -122,14 +121,14 @@ module _ (nd : OpenNode) (s leaves types : List ℕ) (st : State) where
             });
       }
 
-      module _ (p m : ℕ) (c : OpenNode) (er : r ≡ O.To p m c) where
+      module _ (p m : ℕ) (c : OpenNode) (er : r ≡ Some (opened_at p m c)) where
         abbrev under : OpenNode
         under = record { tag = nd.tag; left = nd.left - 1; from = nd.from }
 
         abbrev next : State
         next = record { at = p; place = st.place + 1; end = m; top = st.top + 1 }
 
-        pub step_open : StepPost nd s leaves types st types₁ (U.Down under c next)
+        pub step_open : StepPost nd s leaves types st types₁ (descends under c next)
         step_open =
             let np₁ = subst (NodePost s st.at leaf types st.end types₁) er np in
             record {
@@ -137,32 +136,37 @@ module _ (nd : OpenNode) (s leaves types : List ℕ) (st : State) where
               turned = λ t l f w. (
                   let i = st.top in
                   let a = turn_open t l f s leaves types bs st (λ z. left (sym w.of_left ∙ z)) leaf el
-                  (set t (i + 1) c.tag) (set (set l i (get_or l i 0 - 1)) (i + 1) c.left) (set f (i + 1) c.from) types₁ (O.To p m c)
+                  (set t (i + 1) c.tag) (set (set l i (get_or l i 0 - 1)) (i + 1) c.left) (set f (i + 1) c.from) types₁ (Some (opened_at p m c))
                   (np₁.opens t (set l i (get_or l i 0 - 1)) f (i + 1)) p m c refl under c in
                   subst (λ (n : ℕ). TurnPost t l f s leaves types st (set t (i + 1) c.tag) (set (set l i (n - 1)) (i + 1) c.left)
-                  (set f (i + 1) c.from) types₁ (U.Down under c next)) w.of_left a);
+                  (set f (i + 1) c.from) types₁ (descends under c next)) w.of_left a);
             }
 
 -- ---- all turns
--- the tables have the records of the stack below this depth
-pub record Below (stack : List OpenNode) (top : ℕ) (t l f : List ℕ) : Type 0 where
-  pub each : (d : ℕ) → d < top → Top (get_or stack d no_node) d t l f
+-- the tables have the records of the stack
+pub record Below (stack : List OpenNode) (t l f : List ℕ) : Type 0 where
+  pub each : (d : ℕ) → d < length stack → Top (get_or stack d no_node) d t l f
+
+long_snoc : (stack : List OpenNode) (u : OpenNode) → length (stack ++ (u ∷ [])) ≡ length stack + 1
+long_snoc stack u = length-append stack (u ∷ [])
 
 -- a record is put on the stack, and the node above it is at hand
-module _ (stack : List OpenNode) (i : ℕ) (room : i + 1 < 2048) (long : length stack ≡ 2048) (t l f : List ℕ) (ll : length l ≡ 2048)
-    (nd u c : OpenNode) (et : u.tag ≡ nd.tag) (ef : u.from ≡ nd.from)
-    (w : Top nd i t l f) (bl : Below stack i t l f) where
+module _ (stack : List OpenNode) (room : length stack + 1 < 2048) (t l f : List ℕ) (ll : length l ≡ 2048) (nd u c : OpenNode)
+    (et : u.tag ≡ nd.tag) (ef : u.from ≡ nd.from) (w : Top nd (length stack) t l f) (bl : Below stack t l f) where
+  abbrev i : ℕ
+  i = length stack
+
   abbrev l₀ : List ℕ
   l₀ = set l i u.left
 
   abbrev On : OpenNode → ℕ → Type 0
   On x d = Top x d (set t (i + 1) c.tag) (set l₀ (i + 1) c.left) (set f (i + 1) c.from)
 
-  below_at : (d : ℕ) → d < i + 1 → (b : Bool) → eqb d i ≡ b → On (get_or (set stack i u) d no_node) d
+  below_at : (d : ℕ) → d < i + 1 → (b : Bool) → eqb d i ≡ b → On (get_or (stack ++ (u ∷ [])) d no_node) d
   below_at d h true eb =
       let e = eqb-true d i eb in
-      let g : get_or (set stack i u) d no_node ≡ u = ap (λ (j : ℕ). get_or (set stack i u) j no_node) e ∙ get_or-set_same stack i u no_node
-      (omega (arith, long, room)) in
+      let g : get_or (stack ++ (u ∷ [])) d no_node ≡ u =
+      ap (λ (j : ℕ). get_or (stack ++ (u ∷ [])) j no_node) e ∙ get_or-append_seam stack u [] no_node in
       subst (λ (x : OpenNode). On x d) (sym g)
       (record {
         of_tag = get_or-set_other t (i + 1) d c.tag 0 (omega arith) ∙ ap (λ (j : ℕ). get_or t j 0) e ∙ w.of_tag ∙ sym et;
@@ -174,15 +178,15 @@ module _ (stack : List OpenNode) (i : ℕ) (room : i + 1 < 2048) (long : length 
       let e = eqb-false d i eb in
       let lo : d < i = omega (arith, h) in
       let x = bl.each d lo in
-      subst (λ (y : OpenNode). On y d) (sym (get_or-set_other stack i d u no_node (omega arith)))
+      subst (λ (y : OpenNode). On y d) (sym (get_or-append stack (u ∷ []) no_node d lo))
       (record {
         of_tag = get_or-set_other t (i + 1) d c.tag 0 (omega arith) ∙ x.of_tag;
         of_left = get_or-set_other l₀ (i + 1) d c.left 0 (omega arith) ∙ get_or-set_other l i d u.left 0 (omega arith) ∙ x.of_left;
         of_from = get_or-set_other f (i + 1) d c.from 0 (omega arith) ∙ x.of_from;
       })
 
-  below_on : Below (set stack i u) (i + 1) (set t (i + 1) c.tag) (set l₀ (i + 1) c.left) (set f (i + 1) c.from)
-  below_on = record { each = λ d h. below_at d h (eqb d i) refl }
+  below_on : Below (stack ++ (u ∷ [])) (set t (i + 1) c.tag) (set l₀ (i + 1) c.left) (set f (i + 1) c.from)
+  below_on = record { each = λ d h. below_at d (omega (arith, long_snoc stack u)) (eqb d i) refl }
 
   top_on : length t ≡ 2048 → length f ≡ 2048 → On c (i + 1)
   top_on lt lf = record {
@@ -191,19 +195,29 @@ module _ (stack : List OpenNode) (i : ℕ) (room : i + 1 < 2048) (long : length 
     of_from = get_or-set_same f (i + 1) c.from 0 (omega (arith, lf, room));
   }
 
+-- and taken from it again
+module _ (rest : List OpenNode) (x : OpenNode) (t l f : List ℕ) (bl : Below (rest ++ (x ∷ [])) t l f) where
+  below_rest : Below rest t l f
+  below_rest = record {
+    each = λ d h. subst (λ (y : OpenNode). Top y d t l f) (get_or-append rest (x ∷ []) no_node d h) (bl.each d (omega (arith, long_snoc rest x)));
+  }
+
+  top_rest : Top x (length rest) t l f
+  top_rest = subst (λ (y : OpenNode). Top y (length rest) t l f) (get_or-append_seam rest x [] no_node) (bl.each (length rest) (omega (arith, long_snoc rest x)))
+
 -- whatever the tables and the open nodes were at the root, there are some now that come to the same answer
 pub record Going (nd₀ : OpenNode) (s leaves types₀ : List ℕ) (st₀ : State) (stack : List OpenNode) (types : List ℕ) (nd : OpenNode)
     (st : State) : Type 0 where
   pub follows : (t₀ l₀ f₀ : List ℕ) (base stop : ℕ) (o₀ : Open) (ps₀ : List Open) → Top nd₀ st₀.top t₀ l₀ f₀
       → Running t₀ l₀ f₀ s leaves types₀ st₀ base stop o₀ ps₀
-      → (t : List ℕ) × (l : List ℕ) × (f : List ℕ) × Below stack st.top t l f × Top nd st.top t l f
+      → (t : List ℕ) × (l : List ℕ) × (f : List ℕ) × Below stack t l f × Top nd st.top t l f
       × (o : Open) × (ps : List Open) × Running t l f s leaves types st base stop o ps × (close_up o ps ≡ close_up o₀ ps₀)
 
 module _ (nd₀ : OpenNode) (s leaves types₀ : List ℕ) (st₀ : State) where
-  pub going_start : st₀.top ≡ 0 → (stack : List OpenNode) → Going nd₀ s leaves types₀ st₀ stack types₀ nd₀ st₀
-  going_start z stack = record {
+  pub going_start : (stack : List OpenNode) → stack ≡ [] → Going nd₀ s leaves types₀ st₀ stack types₀ nd₀ st₀
+  going_start stack e = record {
     follows = λ t l f base stop o ps w run.
-        (t, l, f, record { each = λ d h. absurd (omega (arith, z)) }, w, o, ps, run, refl);
+        (t, l, f, record { each = λ d h. absurd (omega (arith, ap length e)) }, w, o, ps, run, refl);
   }
 
   module _ (pre : TurnsPre nd₀ s leaves types₀ st₀) (stack : List OpenNode) (types : List ℕ) (nd : OpenNode) (st : State)
@@ -222,10 +236,6 @@ module _ (nd₀ : OpenNode) (s leaves types₀ : List ℕ) (st₀ : State) where
               { base = y.base; stop = y.stop; o = a.5; ps = a.6; running = a.7 };
         }
 
-    pub going_room : st.top < 2048
-    going_room = let x = going_step in let y = x.turn in (turn_room x.tags x.lefts x.froms s leaves types st y.base y.stop
-        y.o y.ps y.running).0
-
     module _ (types₁ : List ℕ) (r : Turned) (sp : StepPost nd s leaves types st types₁ r) where
       abbrev Turns : Turned → Type 0
       Turns r₁ = (t l f : List ℕ) (base stop : ℕ) (o : Open) (ps : List Open) → Top nd st.top t l f
@@ -238,100 +248,148 @@ module _ (nd₀ : OpenNode) (s leaves types₀ : List ℕ) (st₀ : State) where
       moves_by : (r₁ : Turned) → r ≡ r₁ → Moving r₁ nd st
       moves_by r₁ er = subst (λ (x : Turned). Moving x nd st) er sp.moves
 
-      -- the turn at the tables of the precondition
-      abbrev Turned_at : Turned → Type 0
-      Turned_at r₁ = let x = going_step in let y = x.turn in
-          Turning r₁ (tags_after r₁ x.tags st.top) (lefts_after r₁ x.lefts st.top)
-          (froms_after r₁ x.froms st.top) s leaves types₁ st y.base y.stop (close_up y.o y.ps)
-
-      turned_at : (r₁ : Turned) → r ≡ r₁ → Turned_at r₁
-      turned_at r₁ er = let x = going_step in let y = x.turn in
-          turns_by r₁ er x.tags x.lefts x.froms y.base y.stop y.o y.ps x.at_top y.running
-
-      pub going_done : (v : Typed) → r ≡ U.Done v → TurnsPost nd₀ s leaves types₀ st₀ types₁ v
+      pub going_done : (v : Option ℕ) → r ≡ finishes v → TurnsPost nd₀ s leaves types₀ st₀ types₁ v
       going_done v er = record {
         ends = λ t₀ l₀ f₀ base stop o₀ ps₀ w run. (
             let a = going.follows t₀ l₀ f₀ base stop o₀ ps₀ w run in
-            let b : Ending v (close_up a.5 a.6) types₁ = turns_by (U.Done v) er a.0 a.1 a.2 base stop a.5 a.6 a.4 a.7 in
+            let b : Ending v (close_up a.5 a.6) types₁ = turns_by (finishes v) er a.0 a.1 a.2 base stop a.5 a.6 a.4 a.7 in
             subst (λ x. Ending v x types₁) a.8 b);
       }
 
-      module _ (st₁ : State) (er : r ≡ U.Up st₁) where
-        pub up_less : steps_left s st₁ < steps_left s st
-        up_less = (turned_at (U.Up st₁) er).4
+      going_up : (st₁ : State) → r ≡ climbs st₁ → (rest : List OpenNode) (x : OpenNode) → stack ≡ rest ++ (x ∷ []) → st₁.top ≡ length rest
+          → Going nd₀ s leaves types₀ st₀ rest types₁ x st₁
+      going_up st₁ er rest x es et = record {
+        follows = λ t₀ l₀ f₀ base stop o₀ ps₀ w run. (
+            let a = going.follows t₀ l₀ f₀ base stop o₀ ps₀ w run in
+            let b = turns_by (climbs st₁) er a.0 a.1 a.2 base stop a.5 a.6 a.4 a.7 in
+            let bl = subst (λ (y : List OpenNode). Below y a.0 a.1 a.2) es a.3 in (
+              a.0,
+              a.1,
+              a.2,
+              below_rest rest x a.0 a.1 a.2 bl,
+              subst (λ (j : ℕ). Top x j a.0 a.1 a.2) (sym et) (top_rest rest x a.0 a.1 a.2 bl),
+              b.0,
+              b.1,
+              b.2,
+              b.3 ∙ a.8,
+            ));
+      }
 
-        pub up_room : st₁.top < 2048
-        up_room = omega (arith, moves_by (U.Up st₁) er, going_room)
-
-        pub going_up : Going nd₀ s leaves types₀ st₀ stack types₁ (get_or stack st₁.top no_node) st₁
-        going_up = record {
+      module _ (u c : OpenNode) (st₁ : State) (er : r ≡ descends u c st₁) (long : st.top ≡ length stack) where
+        going_down : Going nd₀ s leaves types₀ st₀ (stack ++ (u ∷ [])) types₁ c st₁
+        going_down = record {
           follows = λ t₀ l₀ f₀ base stop o₀ ps₀ w run. (
               let a = going.follows t₀ l₀ f₀ base stop o₀ ps₀ w run in
-              let b = turns_by (U.Up st₁) er a.0 a.1 a.2 base stop a.5 a.6 a.4 a.7 in
-              let m : st₁.top + 1 ≡ st.top = moves_by (U.Up st₁) er in (
-                a.0,
-                a.1,
-                a.2,
-                record { each = λ d h. a.3.each d (omega (arith, m)) },
-                a.3.each st₁.top
-                    (omega (arith, m)),
-                b.0,
-                b.1,
-                b.2,
-                b.3 ∙ a.8,
-              ));
-        }
-
-      module _ (u c : OpenNode) (st₁ : State) (er : r ≡ U.Down u c st₁) where
-        pub down_less : steps_left s st₁ < steps_left s st
-        down_less = (turned_at (U.Down u c st₁) er).4
-
-        pub going_down : length stack ≡ 2048 → Going nd₀ s leaves types₀ st₀ (set stack st.top u) types₁ c st₁
-        going_down long = record {
-          follows = λ t₀ l₀ f₀ base stop o₀ ps₀ w run. (
-              let a = going.follows t₀ l₀ f₀ base stop o₀ ps₀ w run in
-              let b = turns_by (U.Down u c st₁) er a.0 a.1 a.2 base stop a.5 a.6 a.4 a.7 in
-              let m = moves_by (U.Down u c st₁) er in
-              let i = st.top in
+              let b = turns_by (descends u c st₁) er a.0 a.1 a.2 base stop a.5 a.6 a.4 a.7 in
+              let m = moves_by (descends u c st₁) er in
+              let i = length stack in
               let t = a.0 in
               let l = a.1 in
               let f = a.2 in
               let t₁ = set t (i + 1) c.tag in
               let l₁ = set (set l i u.left) (i + 1) c.left in
               let f₁ = set f (i + 1) c.from in
-              let e : st₁.top ≡ i + 1 = m.2 in
+              let e : st₁.top ≡ i + 1 = omega (arith, m.2, long) in
+              let on_top = subst (λ (j : ℕ). Top nd j t l f) long a.4 in
+              let after = subst (λ (j : ℕ). Running (set t (j + 1) c.tag) (set (set l j u.left) (j + 1) c.left) (set f (j + 1) c.from)
+              s leaves types₁ st₁ base stop b.0 b.1) long b.2 in
               let lent = a.7.lent in
-              let room : i + 1 < 2048 = omega (arith, e, (turn_room t₁ l₁ f₁ s leaves types₁ st₁ base stop b.0 b.1 b.2).0) in
-              let on = below_on stack i room long t l f lent.of_lefts nd u c m.0 m.1 a.4 a.3 in
-              let top = top_on stack i room long t l f lent.of_lefts nd u c m.0 m.1 a.4 a.3 lent.of_tags lent.of_froms in (
-                t₁,
-                l₁,
-                f₁,
-                subst (λ (j : ℕ). Below (set stack i u) j t₁ l₁ f₁) (sym e) on,
-                subst (λ (j : ℕ). Top c j t₁ l₁ f₁)
-                    (sym e) top,
-                b.0,
-                b.1,
-                b.2,
-                b.3 ∙ a.8,
-              ));
+              let room : i + 1 < 2048 = omega (arith, e, (turn_room t₁ l₁ f₁ s leaves types₁ st₁ base stop b.0 b.1 after).0) in
+              let on = below_on stack room t l f lent.of_lefts nd u c m.0 m.1 on_top a.3 in
+              let top = top_on stack room t l f lent.of_lefts nd u c m.0 m.1 on_top a.3 lent.of_tags lent.of_froms in
+              (t₁, l₁, f₁, on, subst (λ (j : ℕ). Top c j t₁ l₁ f₁) (sym e) top, b.0, b.1, after, b.3 ∙ a.8));
         }
+
+-- ---- the ways out of a turn of `all_turns`, which has as many open nodes below the one at hand as its stack has
+module _ (nd₀ : OpenNode) (s leaves types₀ : List ℕ) (st₀ : State) (pre : TurnsPre nd₀ s leaves types₀ st₀) (stack : List OpenNode) (types : List ℕ)
+    (nd : OpenNode) (at place end : ℕ) (going : Going nd₀ s leaves types₀ st₀ stack types nd (state at place end (length stack))) where
+  abbrev st : State
+  st = state at place end (length stack)
+
+  step : StepPre nd s leaves types st
+  step = going_step nd₀ s leaves types₀ st₀ pre stack types nd st going
+
+  pub close_judge : JudgePre types nd.from end
+  close_judge = step_judge nd s leaves types st step nd.from refl
+
+  module _ (z : nd.left ≡ 0) (types₁ : List ℕ) (bs : Bytes types₁) (tag : ℕ) (eg : tag ≡ nd.tag) (v : Option ℕ)
+      (jp : JudgePost (rule_at (class_of tag)) types nd.from end types₁ v) where
+    closing_by : (r : Turned) → ClosePost tag st types nd.from types₁ r → StepPost nd s leaves types st types₁ r
+    closing_by r cp = step_close nd s leaves types st step z types₁ bs r tag nd.from eg refl cp
+
+    pub close_fails : v ≡ None → TurnsPost nd₀ s leaves types₀ st₀ types₁ None
+    close_fails e =
+        going_done nd₀ s leaves types₀ st₀ pre stack types nd st going types₁ (finishes None)
+        (closing_by (finishes None) (close_bad tag st types nd.from types₁ v jp e)) None refl
+
+    module _ (m : ℕ) (e : v ≡ Some m) where
+      pub close_ends : stack ≡ [] → TurnsPost nd₀ s leaves types₀ st₀ types₁ (Some m)
+      close_ends es =
+          going_done nd₀ s leaves types₀ st₀ pre stack types nd st going types₁ (finishes (Some m))
+          (closing_by (finishes (Some m)) (close_last tag st types nd.from types₁ v jp m e (ap length es))) (Some m) refl
+
+      pub close_goes : (rest : List OpenNode) (x : OpenNode) → stack ≡ rest ++ (x ∷ [])
+          → Going nd₀ s leaves types₀ st₀ rest types₁ x (state at place m (length rest))
+      close_goes rest x es =
+          let l : length stack ≡ length rest + 1 = ap length es ∙ long_snoc rest x in
+          let k : length stack - 1 ≡ length rest = omega arith in
+          subst (λ (j : ℕ). Going nd₀ s leaves types₀ st₀ rest types₁ x (state at place m j)) k
+          (going_up nd₀ s leaves types₀ st₀ pre stack types nd st going types₁ (climbs (state_of st m))
+          (closing_by (climbs (state_of st m)) (close_on tag st types nd.from types₁ v jp m e (λ h. omega arith))) (state_of st m) refl rest x es k)
+
+  module _ (bs : Bytes s) (left : nd.left ≡ 0 → ⊥) where
+    pub open_space : (length stack + 1 < 2048) × (place < 2048)
+    open_space = step_space nd s leaves types st bs step left
+
+    module _ (leaf : ℕ) (el : leaf ≡ get_or leaves place 0) where
+      pub open_asks : OpenPre s at leaf types end
+      open_asks = step_pre nd s leaves types st bs step left leaf el
+
+      module _ (types₁ : List ℕ) (v : Option Opened) (np : NodePost s at leaf types end types₁ v) where
+        pub open_fails : v ≡ None → TurnsPost nd₀ s leaves types₀ st₀ types₁ None
+        open_fails e =
+            going_done nd₀ s leaves types₀ st₀ pre stack types nd st going types₁ (finishes None)
+            (step_bad nd s leaves types st bs step left leaf el types₁ v np e) None refl
+
+        module _ (r : Opened) (e : v ≡ Some r) where
+          abbrev under_it : OpenNode
+          under_it = record { tag = nd.tag; left = nd.left - 1; from = nd.from }
+
+          opened_step : StepPost nd s leaves types st types₁ (descends under_it r.node (state r.at (place + 1) r.end (length stack + 1)))
+          opened_step = step_open nd s leaves types st bs step left leaf el types₁ v np r.at r.end r.node e
+
+          pub open_goes : Going nd₀ s leaves types₀ st₀ (stack ++ (under_it ∷ [])) types₁ r.node
+              (state r.at (place + 1) r.end (length (stack ++ (under_it ∷ []))))
+          open_goes =
+              subst (λ (j : ℕ). Going nd₀ s leaves types₀ st₀ (stack ++ (under_it ∷ [])) types₁ r.node (state r.at (place + 1) r.end j))
+              (sym (long_snoc stack under_it))
+              (going_down nd₀ s leaves types₀ st₀ pre stack types nd st going types₁ _ opened_step under_it r.node
+              (state r.at (place + 1) r.end (length stack + 1)) refl refl)
+
+          pub open_less : (long : List OpenNode) → long ≡ stack ++ (under_it ∷ [])
+              → steps_left s (state r.at (place + 1) r.end (length long)) < steps_left s st
+          open_less long el =
+              let x = step in
+              let y = x.turn in
+              let t = (opened_step.turned x.tags x.lefts x.froms x.at_top).answer y.base y.stop y.o y.ps y.running in
+              let k : length long ≡ length stack + 1 = ap length el ∙ long_snoc stack under_it in
+              omega (arith, t.4)
 
 -- ---- a root without operands
 module _ (nd : OpenNode) (s leaves types : List ℕ) (st : State) (pre : TurnsPre nd s leaves types st) (z : nd.left ≡ 0) where
   pub leaf_judge : (from : ℕ) → from ≡ nd.from → JudgePre types from st.end
   leaf_judge = step_judge nd s leaves types st pre.step
 
-  closing : (from : ℕ) (types₁ : List ℕ) (r : Typed) (j : Judged) → Judging j types from types₁ r → Closing j st types from types₁ (U.Done r)
+  closing : (from : ℕ) (types₁ : List ℕ) (r : Option ℕ) (j : Judged) → Judging j types from types₁ r → Closing j st types from types₁ (finishes r)
   closing from types₁ r (typed xs) a =
       let e : eqb st.top 0 ≡ true = eq-eqb st.top 0 pre.root in
-      (ap U.Done a.0 ∙ sym (ap (λ (b : Bool). closed_to b st (from + length xs)) e), a.1, a.2)
-  closing from types₁ r wrong a = ap U.Done a
+      (ap finishes a.0 ∙ sym (ap (λ (b : Bool). closed_to b st (from + length xs)) e), a.1, a.2)
+  closing from types₁ r wrong a = ap finishes a
 
-  pub leaf_turns : (types₁ : List ℕ) → Bytes types₁ → (r : Typed) → (tag from : ℕ) → tag ≡ nd.tag → from ≡ nd.from
+  pub leaf_turns : (types₁ : List ℕ) → Bytes types₁ → (r : Option ℕ) → (tag from : ℕ) → tag ≡ nd.tag → from ≡ nd.from
       → JudgePost (rule_at (class_of tag)) types from st.end types₁ r → TurnsPost nd s leaves types st types₁ r
   leaf_turns types₁ bs r tag from eg ef jp =
-      let cp : ClosePost tag st types from types₁ (U.Done r) = record
+      let cp : ClosePost tag st types from types₁ (finishes r) = record
       { answer = λ ts row. closing from types₁ r (judge (rule_at (class_of tag)) ts) (jp.answer ts row) } in
-      going_done nd s leaves types st pre [] types nd st (going_start nd s leaves types st pre.root []) types₁ (U.Done r)
-      (step_close nd s leaves types st pre.step z types₁ bs (U.Done r) tag from eg ef cp) r refl
+      going_done nd s leaves types st pre [] types nd st (going_start nd s leaves types st [] refl) types₁ (finishes r)
+      (step_close nd s leaves types st pre.step z types₁ bs (finishes r) tag from eg ef cp) r refl

@@ -40,12 +40,9 @@ use Rattle.synthesis.specs.TypingPosts.{
   Typing,
   TypePost,
 }
-use Rattle.patterns.specs.declared.Typed.{Typed}
-use Rattle.patterns.specs.declared.Typed.TheVariants as T
-use Rattle.synthesis.specs.declared.stack.OpenNode.{OpenNode}
-use Rattle.synthesis.specs.declared.State.{State}
 use Rattle.synthesis.specs.declared.Opened.{Opened}
-use Rattle.synthesis.specs.declared.Opened.TheVariants as O
+use Rattle.synthesis.specs.Turns.{State, started as begun}
+use Rattle.std.proofs.Common.{Option, Some, None}
 use Rattle.synthesis.proofs.Machine.{machine_start}
 use Rattle.synthesis.proofs.StackTurns.{leaf_of, kids_leaves, node_count}
 
@@ -74,41 +71,41 @@ module _ (s : List ℕ) (at place : ℕ) (leaves : List ℕ) where
     low = omega arith;
   }
 
-  ended : (types₁ : List ℕ) (v : Typed) (tr : Tree) (Γ : Ctx) (b : Bool) → typed_tree tr Γ ≡ b
+  ended : (types₁ : List ℕ) (v : Option ℕ) (tr : Tree) (Γ : Ctx) (b : Bool) → typed_tree tr Γ ≡ b
       → Ending v (pick b (is (type_of tr Γ)) bad) types₁ → Typing v tr Γ types₁
-  ended types₁ (T.Is n) tr Γ true e a = let z : type_of tr Γ ≡ a.0 = cc a.1 in (e, subst (λ (u : Ty). Spans types₁ 0 n (enc_ty u)) (sym z) a.2)
-  ended types₁ (T.Is n) tr Γ false e a = let z : ◌≡◌ {A = ℕ} 0 1 = cc a.1 in absurd (omega arith)
-  ended types₁ T.Bad tr Γ true e a = let z : ◌≡◌ {A = ℕ} 0 1 = cc in absurd (omega arith)
-  ended types₁ T.Bad tr Γ false e a = e
+  ended types₁ (Some n) tr Γ true e a = let z : type_of tr Γ ≡ a.0 = cc a.1 in (e, subst (λ (u : Ty). Spans types₁ 0 n (enc_ty u)) (sym z) a.2)
+  ended types₁ (Some n) tr Γ false e a = let z : ◌≡◌ {A = ℕ} 0 1 = cc a.1 in absurd (omega arith)
+  ended types₁ None tr Γ true e a = let z : ◌≡◌ {A = ℕ} 0 1 = cc in absurd (omega arith)
+  ended types₁ None tr Γ false e a = e
 
-  module _ (types : List ℕ) (leaf : ℕ) (el : leaf ≡ get_or leaves place 0) (types₁ : List ℕ) (r : Opened)
+  module _ (types : List ℕ) (leaf : ℕ) (el : leaf ≡ get_or leaves place 0) (types₁ : List ℕ) (r : Option Opened)
       (np : NodePost s at leaf types 0 types₁ r) where
     -- what the opening says, at the tables with nothing in them
-    abbrev Opens : Opened → Tree → ℕ → Ctx → Type 0
+    abbrev Opens : Option Opened → Tree → ℕ → Ctx → Type 0
     Opens x tr q Γ = Opening x s at tr q Γ none none none 0 types 0 (tags_with x none 0) (lefts_with x none 0) (froms_with x none 0) types₁
 
-    opening : (x : Opened) → r ≡ x → (e : Sort) (tr : Tree) (q : ℕ) (Γ : Ctx) → IsAt s e at tr q → LeavesAt tr Γ place s leaves → Opens x tr q Γ
-    opening x er e tr q Γ w lv = subst (λ (y : Opened). Opens y tr q Γ) er
+    opening : (x : Option Opened) → r ≡ x → (e : Sort) (tr : Tree) (q : ℕ) (Γ : Ctx) → IsAt s e at tr q → LeavesAt tr Γ place s leaves → Opens x tr q Γ
+    opening x er e tr q Γ w lv = subst (λ (y : Option Opened). Opens y tr q Γ) er
         ((np.opens none none none 0).answer e tr q Γ w (subst (LeafAt tr Γ s) (sym el) (leaf_of s leaves tr Γ place lv)))
 
-    pub tree_bad : r ≡ O.Bad → TypePost s at place leaves types₁ T.Bad
-    tree_bad er = record { answer = λ e tr q Γ w lv pl bf. opening O.Bad er e tr q Γ w lv }
+    pub tree_bad : r ≡ None → TypePost s at place leaves types₁ None
+    tree_bad er = record { answer = λ e tr q Γ w lv pl bf. opening None er e tr q Γ w lv }
 
-    module _ (frame : length s ≤ 4096) (p m : ℕ) (root : OpenNode) (er : r ≡ O.To p m root) where
+    module _ (frame : length s ≤ 4096) (root : Opened) (er : r ≡ Some root) where
       abbrev start : State
-      start = record { at = p; place = place + 1; end = m; top = 0 }
+      start = begun root (place + 1)
 
       abbrev t₁ : List ℕ
-      t₁ = set none 0 root.tag
+      t₁ = set none 0 root.node.tag
 
       abbrev l₁ : List ℕ
-      l₁ = set none 0 root.left
+      l₁ = set none 0 root.node.left
 
       abbrev f₁ : List ℕ
-      f₁ = set none 0 root.from
+      f₁ = set none 0 root.node.from
 
       started : (tr : Tree) (q : ℕ) (Γ : Ctx) → LeavesAt tr Γ place s leaves → place + nodes tr ≤ 2048 → 64 * nodes tr + 64 ≤ length types
-          → NodeOpen s at tr q Γ none none none 0 types 0 t₁ l₁ f₁ types₁ p m
+          → NodeOpen s at tr q Γ none none none 0 types 0 t₁ l₁ f₁ types₁ root.at root.end
           → (base : ℕ) × (stop : ℕ) × (o : Open) × (ps : List Open) × Running t₁ l₁ f₁ s leaves types₁ start base stop o ps
           × (close_up o ps ≡ answer_of tr Γ)
       started tr q Γ lv pl bf nd =
@@ -120,10 +117,10 @@ module _ (s : List ℕ) (at place : ℕ) (leaves : List ℕ) where
           let own = own_types (class_of g) n us Γ in
           let zf : get_or f₁ 0 0 ≡ 0 = ap (λ (a : List ℕ). get_or a 0 0) nd.froms ∙ get_or-set_same none 0 0 0 (omega (arith, none_long)) in
           let y = ap nodes nd.is ∙ node_count g n us ls in
-          let held : Held t₁ l₁ f₁ s leaves types₁ place 0 o₁ 0 m p q (place + 1) = record {
+          let held : Held t₁ l₁ f₁ s leaves types₁ place 0 o₁ 0 root.end root.at q (place + 1) = record {
             tag = ap (λ (a : List ℕ). get_or a 0 0) nd.tags ∙ get_or-set_same none 0 g 0 (omega (arith, none_long));
             left = ap (λ (a : List ℕ). get_or a 0 0) nd.lefts ∙ get_or-set_same none 0 (count ls) 0 (omega (arith, none_long));
-            row = subst₂ (λ (i : ℕ) (vs : List Ty). RowAt types₁ i m vs) (sym zf) (sym (append-nil own)) nd.row;
+            row = subst₂ (λ (i : ℕ) (vs : List Ty). RowAt types₁ i root.end vs) (sym zf) (sym (append-nil own)) nd.row;
             sorts = nd.sorts;
             kids = nd.below;
             leafs = kids_leaves s leaves g n us ls Γ place (subst (λ (x : Tree). LeavesAt x Γ place s leaves) nd.is lv);
@@ -151,17 +148,17 @@ module _ (s : List ℕ) (at place : ℕ) (leaves : List ℕ) where
           } in
           (place, place + nodes tr, o₁, [], run, machine_start g n us Γ ls ∙ ap (λ (x : Tree). answer_of x Γ) (sym nd.is))
 
-      at_root : Top root 0 t₁ l₁ f₁
+      at_root : Top root.node 0 t₁ l₁ f₁
       at_root = record {
-        of_tag = get_or-set_same none 0 root.tag 0 (omega (arith, none_long));
-        of_left = get_or-set_same none 0 root.left 0 (omega (arith, none_long));
-        of_from = get_or-set_same none 0 root.from 0 (omega (arith, none_long));
+        of_tag = get_or-set_same none 0 root.node.tag 0 (omega (arith, none_long));
+        of_left = get_or-set_same none 0 root.node.left 0 (omega (arith, none_long));
+        of_from = get_or-set_same none 0 root.node.from 0 (omega (arith, none_long));
       }
 
-      pub tree_turns : TypePre s at place leaves types → TurnsPre root s leaves types₁ start
+      pub tree_turns : TypePre s at place leaves types → TurnsPre root.node s leaves types₁ start
       tree_turns x =
           let a = started x.tree x.to x.Γ x.leafs x.places x.buffer
-          (opening (O.To p m root) er x.sort x.tree x.to x.Γ x.stands x.leafs) in
+          (opening (Some root) er x.sort x.tree x.to x.Γ x.stands x.leafs) in
           record {
             root = refl;
             step = record {
@@ -174,11 +171,11 @@ module _ (s : List ℕ) (at place : ℕ) (leaves : List ℕ) where
             };
           }
 
-      pub tree_ends : (types₂ : List ℕ) (v : Typed) → length types₂ ≡ length types → TurnsPost root s leaves types₁ start types₂ v
+      pub tree_ends : (types₂ : List ℕ) (v : Option ℕ) → length types₂ ≡ length types → TurnsPost root.node s leaves types₁ start types₂ v
           → TypePost s at place leaves types₂ v
       tree_ends types₂ v ln tp = record {
         answer = λ e tr q Γ w lv pl bf. (
-            let a = started tr q Γ lv pl (omega (arith, ln, bf)) (opening (O.To p m root) er e tr q Γ w lv) in
+            let a = started tr q Γ lv pl (omega (arith, ln, bf)) (opening (Some root) er e tr q Γ w lv) in
             ended types₂ v tr Γ (typed_tree tr Γ) refl (subst (λ (x : Answer). Ending v x types₂) a.5
             (tp.ends t₁ l₁ f₁ a.0 a.1 a.2 a.3 at_root a.4)));
       }

@@ -1,3 +1,4 @@
 pub mod Machine
 pub mod OpenNodes
+pub mod Turns
 pub mod TypingPosts

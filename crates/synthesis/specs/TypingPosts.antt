@@ -1,7 +1,7 @@
 -- What the code of typing answers: the contracts of src/lib.rt. The open nodes are three tables here, by depth: tags, operands to
 -- come, and where in the buffer the types of the operands start that have come. The code has the node at hand, which has the greatest
--- depth, by value, and those below it in "a lent slice of records (tag, operands to come, type start)".
-use Rattle.std.specs.Prelude.{◌≡◌, Bool, true, false, List, [], ◌∷◌, ◌++◌, ℕ, suc, ◌+◌, ◌-◌, ◌*◌, ◌≤◌, ◌<◌, length, get_or, set, eqb}
+-- depth, by value, and those below it on its stack, as records (tag, operands to come, type start).
+use Rattle.std.specs.Prelude.{◌≡◌, Bool, true, false, List, [], ◌∷◌, ◌++◌, ℕ, suc, ◌+◌, ◌-◌, ◌*◌, ◌≤◌, ◌<◌, length, get_or, set, eqb, Option, Some, None}
 use Rattle.frame.specs.Types.{Ty}
 use Rattle.frame.specs.Trees.{head, Tree, node, Forest, count, nodes, nodes_in}
 use Rattle.frame.specs.Tags.{pick, Sort, Class, class_of}
@@ -14,20 +14,17 @@ use Rattle.frame.specs.Spans.{Spans}
 use Rattle.typing.specs.Typing.{type_at, typed_tree, type_of}
 use Rattle.heads.specs.Leaves.{LeavesAt, LeavesIn}
 use Rattle.type_rules.specs.Patterns.{own_types, rule_at, Judged, typed, wrong, judge}
-use Rattle.type_rules.specs.RuleNumbers.{rule_number}
+use Rattle.type_rules.specs.CodeRules.{own_at}
+use Rattle.type_rules.specs.declared.Own.{Own}
+use Rattle.type_rules.specs.declared.Own.TheVariants.{Carried, Bound}
 use Rattle.results.specs.ResultPosts.{Kept}
 use Rattle.patterns.specs.PatternPosts.{RowAt}
 use Rattle.synthesis.specs.Machine.{Answer, is, bad, Open, inner, close_up}
 use Rattle.type_rules.specs.Patterns.{Operands}
-use Rattle.patterns.specs.declared.Typed.{Typed}
-use Rattle.patterns.specs.declared.Typed.TheVariants as T
 use Rattle.synthesis.specs.declared.stack.OpenNode.{OpenNode}
-use Rattle.synthesis.specs.declared.State.{State}
-use Rattle.synthesis.specs.declared.Turned.{Turned}
-use Rattle.synthesis.specs.declared.Turned.TheVariants as U
 use Rattle.synthesis.specs.declared.Opened.{Opened}
+use Rattle.synthesis.specs.Turns.{State, Turned, descends, climbs, finishes}
 use Rattle.frame.specs.At.{IsAt, KidsAt}
-use Rattle.synthesis.specs.declared.Opened.TheVariants as O
 
 -- ---- a type of the frame goes into the buffer
 pub record PutPre (s : List ℕ) (p : ℕ) (types : List ℕ) (end : ℕ) : Type 0 where
@@ -36,17 +33,22 @@ pub record PutPre (s : List ℕ) (p : ℕ) (types : List ℕ) (end : ℕ) : Type
   pub span : Spans s p to (enc_ty type)
   pub room : end + type_limit ≤ length types
 
-abbrev pub Putting : Typed → Ty → List ℕ → ℕ → List ℕ → Type 0
-Putting (T.Is m) u o end p = (m ≡ end + length (enc_ty u)) × (length (enc_ty u) ≤ type_limit) × Spans p end m (enc_ty u) × Kept o p end
-Putting T.Bad u o end p = type_limit < length (enc_ty u)
+abbrev pub Putting : Option ℕ → Ty → List ℕ → ℕ → List ℕ → Type 0
+Putting (Some m) u o end p = (m ≡ end + length (enc_ty u)) × (length (enc_ty u) ≤ type_limit) × Spans p end m (enc_ty u) × Kept o p end
+Putting None u o end p = type_limit < length (enc_ty u)
 
-pub record PutPost (s : List ℕ) (p : ℕ) (types : List ℕ) (end : ℕ) (types₁ : List ℕ) (r : Typed) : Type 0 where
+pub record PutPost (s : List ℕ) (p : ℕ) (types : List ℕ) (end : ℕ) (types₁ : List ℕ) (r : Option ℕ) : Type 0 where
   pub answer : (u : Ty) (e : ℕ) → Spans s p e (enc_ty u) → Putting r u types end types₁
 
 -- ---- the type that a node without operands has by itself
 -- where it stands: the type that it carries, or that of its binder
+abbrev pub place_by : Option Own → ℕ → ℕ → ℕ
+place_by None carried leaf = carried
+place_by (Some Carried) carried leaf = carried
+place_by (Some Bound) carried leaf = leaf
+
 abbrev pub own_place : Class → ℕ → ℕ → ℕ
-own_place c carried leaf = pick (eqb (rule_number c) 6) leaf carried
+own_place c carried leaf = place_by (own_at c) carried leaf
 
 pub record OwnAt (c : Class) (n : ℕ) (us : List Ty) (Γ : Ctx) (s : List ℕ) (p : ℕ) : Type 0 where
   pub stands : (u : Ty) → own_types c n us Γ ≡ u ∷ [] → (e : ℕ) × Spans s p e (enc_ty u) × TyWf u
@@ -58,11 +60,11 @@ pub record OwnPre (c : Class) (s : List ℕ) (p : ℕ) (types : List ℕ) (end :
   pub own : OwnAt c n us Γ s p
   pub room : end + type_limit ≤ length types
 
-abbrev pub Owning : Typed → Class → ℕ → List Ty → Ctx → List ℕ → ℕ → List ℕ → Type 0
-Owning (T.Is m) c n us Γ o end p = RowAt p end m (own_types c n us Γ) × (m ≤ end + type_limit) × Kept o p end
-Owning T.Bad c n us Γ o end p = (u : Ty) × (own_types c n us Γ ≡ u ∷ []) × (type_limit < length (enc_ty u))
+abbrev pub Owning : Option ℕ → Class → ℕ → List Ty → Ctx → List ℕ → ℕ → List ℕ → Type 0
+Owning (Some m) c n us Γ o end p = RowAt p end m (own_types c n us Γ) × (m ≤ end + type_limit) × Kept o p end
+Owning None c n us Γ o end p = (u : Ty) × (own_types c n us Γ ≡ u ∷ []) × (type_limit < length (enc_ty u))
 
-pub record OwnPost (c : Class) (s : List ℕ) (p : ℕ) (types : List ℕ) (end : ℕ) (types₁ : List ℕ) (r : Typed) : Type 0 where
+pub record OwnPost (c : Class) (s : List ℕ) (p : ℕ) (types : List ℕ) (end : ℕ) (types₁ : List ℕ) (r : Option ℕ) : Type 0 where
   pub answer : (n : ℕ) (us : List Ty) (Γ : Ctx) → OwnAt c n us Γ s p → Owning r c n us Γ types end types₁
 
 -- ---- a node is opened
@@ -103,28 +105,28 @@ pub record NodeOpen (s : List ℕ) (at : ℕ) (tree : Tree) (to : ℕ) (Γ : Ctx
   pub past : at + 2 ≤ p
   pub within : p ≤ length s
 
-abbrev pub Opening : Opened → List ℕ → ℕ → Tree → ℕ → Ctx → List ℕ → List ℕ → List ℕ → ℕ → List ℕ → ℕ → List ℕ → List ℕ → List ℕ → List ℕ → Type 0
-Opening (O.To p m nd) s at t q Γ t₀ l₀ f₀ top o end t₁ l₁ f₁ types = NodeOpen s at t q Γ t₀ l₀ f₀ top o end t₁ l₁ f₁ types p m
-Opening O.Bad s at t q Γ t₀ l₀ f₀ top o end t₁ l₁ f₁ types = typed_tree t Γ ≡ false
+abbrev pub Opening : Option Opened → List ℕ → ℕ → Tree → ℕ → Ctx → List ℕ → List ℕ → List ℕ → ℕ → List ℕ → ℕ → List ℕ → List ℕ → List ℕ → List ℕ → Type 0
+Opening (Some r) s at t q Γ t₀ l₀ f₀ top o end t₁ l₁ f₁ types = NodeOpen s at t q Γ t₀ l₀ f₀ top o end t₁ l₁ f₁ types r.at r.end
+Opening None s at t q Γ t₀ l₀ f₀ top o end t₁ l₁ f₁ types = typed_tree t Γ ≡ false
 
 pub record OpenPost (s : List ℕ) (at leaf : ℕ) (t₀ l₀ f₀ : List ℕ) (top : ℕ) (o : List ℕ) (end : ℕ) (t₁ l₁ f₁ types : List ℕ)
-    (r : Opened) : Type 0 where
+    (r : Option Opened) : Type 0 where
   pub answer : (e : Sort) (t : Tree) (q : ℕ) (Γ : Ctx) → IsAt s e at t q → LeafAt t Γ s leaf → Opening r s at t q Γ t₀ l₀ f₀ top o end t₁ l₁ f₁ types
 
 -- the three tables with the record of the node at its depth
-abbrev pub tags_with : Opened → List ℕ → ℕ → List ℕ
-tags_with (O.To p m nd) t top = set t top nd.tag
-tags_with O.Bad t top = t
+abbrev pub tags_with : Option Opened → List ℕ → ℕ → List ℕ
+tags_with (Some r) t top = set t top r.node.tag
+tags_with None t top = t
 
-abbrev pub lefts_with : Opened → List ℕ → ℕ → List ℕ
-lefts_with (O.To p m nd) l top = set l top nd.left
-lefts_with O.Bad l top = l
+abbrev pub lefts_with : Option Opened → List ℕ → ℕ → List ℕ
+lefts_with (Some r) l top = set l top r.node.left
+lefts_with None l top = l
 
-abbrev pub froms_with : Opened → List ℕ → ℕ → List ℕ
-froms_with (O.To p m nd) f top = set f top nd.from
-froms_with O.Bad f top = f
+abbrev pub froms_with : Option Opened → List ℕ → ℕ → List ℕ
+froms_with (Some r) f top = set f top r.node.from
+froms_with None f top = f
 
-pub record NodePost (s : List ℕ) (at leaf : ℕ) (o : List ℕ) (end : ℕ) (types : List ℕ) (r : Opened) : Type 0 where
+pub record NodePost (s : List ℕ) (at leaf : ℕ) (o : List ℕ) (end : ℕ) (types : List ℕ) (r : Option Opened) : Type 0 where
   pub opens : (t l f : List ℕ) (top : ℕ) → OpenPost s at leaf t l f top o end (tags_with r t top) (lefts_with r l top) (froms_with r f top) types r
 
 -- ---- the node at the top is closed
@@ -132,12 +134,12 @@ abbrev pub state_of : State → ℕ → State
 state_of st m = record { at = st.at; place = st.place; end = m; top = st.top - 1 }
 
 abbrev pub closed_to : Bool → State → ℕ → Turned
-closed_to true st m = U.Done (T.Is m)
-closed_to false st m = U.Up (state_of st m)
+closed_to true st m = finishes (Some m)
+closed_to false st m = climbs (state_of st m)
 
 abbrev pub Closing : Judged → State → List ℕ → ℕ → List ℕ → Turned → Type 0
 Closing (typed xs) st o from p r = (r ≡ closed_to (eqb st.top 0) st (from + length xs)) × Spans p from (from + length xs) xs × Kept o p from
-Closing wrong st o from p r = r ≡ U.Done T.Bad
+Closing wrong st o from p r = r ≡ finishes None
 
 pub record ClosePost (tag : ℕ) (st : State) (o : List ℕ) (from : ℕ) (p : List ℕ) (r : Turned) : Type 0 where
   pub answer : (ts : List Ty) → RowAt o from st.end ts → Closing (judge (rule_at (class_of tag)) ts) st o from p r
@@ -167,7 +169,7 @@ Stack tags lefts froms s leaves types base stop out o (p ∷ ps) n at k =
     (q : ℕ) × Held tags lefts froms s leaves types base out o (suc (length ps)) n at q k
     × Stack tags lefts froms s leaves types base stop 1 p ps (get_or froms (suc (length ps)) 0) q (k + nodes_in o.todo)
 
--- the tables have 2,048 entries: "our own code lends it, 2,048 records long"
+-- the tables have 2,048 entries, as many as the stack has room for
 pub record Lent (tags lefts froms : List ℕ) : Type 0 where
   pub of_tags : length tags ≡ 2048
   pub of_lefts : length lefts ≡ 2048
@@ -194,18 +196,18 @@ pub record TurnPre (tags lefts froms s leaves types : List ℕ) (st : State) : T
 abbrev pub steps_left : List ℕ → State → ℕ
 steps_left s st = 2 * (length s - st.at) + st.top
 
-abbrev pub Ending : Typed → Answer → List ℕ → Type 0
-Ending (T.Is m) a types = (t : Ty) × (a ≡ is t) × Spans types 0 m (enc_ty t)
-Ending T.Bad a types = a ≡ bad
+abbrev pub Ending : Option ℕ → Answer → List ℕ → Type 0
+Ending (Some m) a types = (t : Ty) × (a ≡ is t) × Spans types 0 m (enc_ty t)
+Ending None a types = a ≡ bad
 
 abbrev pub Turning : Turned → List ℕ → List ℕ → List ℕ → List ℕ → List ℕ → List ℕ → State → ℕ → ℕ → Answer → Type 0
-Turning (U.Down u c st) tags lefts froms s leaves types st₀ base stop a =
+Turning (descends u c st) tags lefts froms s leaves types st₀ base stop a =
     (o : Open) × (ps : List Open) × Running tags lefts froms s leaves types st base stop o ps × (close_up o ps ≡ a)
     × (steps_left s st < steps_left s st₀)
-Turning (U.Up st) tags lefts froms s leaves types st₀ base stop a =
+Turning (climbs st) tags lefts froms s leaves types st₀ base stop a =
     (o : Open) × (ps : List Open) × Running tags lefts froms s leaves types st base stop o ps × (close_up o ps ≡ a)
     × (steps_left s st < steps_left s st₀)
-Turning (U.Done t) tags lefts froms s leaves types st₀ base stop a = Ending t a types
+Turning (finishes t) tags lefts froms s leaves types st₀ base stop a = Ending t a types
 
 pub record TurnPost (t₀ l₀ f₀ s leaves types₀ : List ℕ) (st : State) (t₁ l₁ f₁ types₁ : List ℕ) (r : Turned) : Type 0 where
   pub answer : (base stop : ℕ) (o : Open) (ps : List Open) → Running t₀ l₀ f₀ s leaves types₀ st base stop o ps
@@ -227,25 +229,25 @@ pub record StepPre (nd : OpenNode) (s leaves types : List ℕ) (st : State) : Ty
 
 -- the three tables after the turn
 abbrev pub tags_after : Turned → List ℕ → ℕ → List ℕ
-tags_after (U.Down u c st) t top = set t (top + 1) c.tag
-tags_after (U.Up st) t top = t
-tags_after (U.Done r) t top = t
+tags_after (descends u c st) t top = set t (top + 1) c.tag
+tags_after (climbs st) t top = t
+tags_after (finishes r) t top = t
 
 abbrev pub lefts_after : Turned → List ℕ → ℕ → List ℕ
-lefts_after (U.Down u c st) l top = set (set l top u.left) (top + 1) c.left
-lefts_after (U.Up st) l top = l
-lefts_after (U.Done r) l top = l
+lefts_after (descends u c st) l top = set (set l top u.left) (top + 1) c.left
+lefts_after (climbs st) l top = l
+lefts_after (finishes r) l top = l
 
 abbrev pub froms_after : Turned → List ℕ → ℕ → List ℕ
-froms_after (U.Down u c st) f top = set f (top + 1) c.from
-froms_after (U.Up st) f top = f
-froms_after (U.Done r) f top = f
+froms_after (descends u c st) f top = set f (top + 1) c.from
+froms_after (climbs st) f top = f
+froms_after (finishes r) f top = f
 
 -- what goes on the stack is the node at hand but for the operands to come, and the depth moves by one
 abbrev pub Moving : Turned → OpenNode → State → Type 0
-Moving (U.Down u c st) nd st₀ = (u.tag ≡ nd.tag) × (u.from ≡ nd.from) × (st.top ≡ st₀.top + 1)
-Moving (U.Up st) nd st₀ = st.top + 1 ≡ st₀.top
-Moving (U.Done r) nd st₀ = Unit {0}
+Moving (descends u c st) nd st₀ = (u.tag ≡ nd.tag) × (u.from ≡ nd.from) × (st.top ≡ st₀.top + 1)
+Moving (climbs st) nd st₀ = st.top + 1 ≡ st₀.top
+Moving (finishes r) nd st₀ = Unit {0}
 
 pub record StepPost (nd : OpenNode) (s leaves types₀ : List ℕ) (st : State) (types₁ : List ℕ) (r : Turned) : Type 0 where
   pub moves : Moving r nd st
@@ -257,7 +259,7 @@ pub record TurnsPre (nd : OpenNode) (s leaves types : List ℕ) (st : State) : T
   pub root : st.top ≡ 0
   pub step : StepPre nd s leaves types st
 
-pub record TurnsPost (nd : OpenNode) (s leaves types₀ : List ℕ) (st : State) (types₁ : List ℕ) (r : Typed) : Type 0 where
+pub record TurnsPost (nd : OpenNode) (s leaves types₀ : List ℕ) (st : State) (types₁ : List ℕ) (r : Option ℕ) : Type 0 where
   pub ends : (t l f : List ℕ) (base stop : ℕ) (o : Open) (ps : List Open) → Top nd st.top t l f
       → Running t l f s leaves types₀ st base stop o ps → Ending r (close_up o ps) types₁
 
@@ -275,10 +277,10 @@ pub record TypePre (s : List ℕ) (at place : ℕ) (leaves types : List ℕ) : T
   pub buffer : type_limit * nodes tree + type_limit ≤ length types
 
 -- number 10, or the type of the tree
-abbrev pub Typing : Typed → Tree → Ctx → List ℕ → Type 0
-Typing (T.Is n) t Γ types = (typed_tree t Γ ≡ true) × Spans types 0 n (enc_ty (type_of t Γ))
-Typing T.Bad t Γ types = typed_tree t Γ ≡ false
+abbrev pub Typing : Option ℕ → Tree → Ctx → List ℕ → Type 0
+Typing (Some n) t Γ types = (typed_tree t Γ ≡ true) × Spans types 0 n (enc_ty (type_of t Γ))
+Typing None t Γ types = typed_tree t Γ ≡ false
 
-pub record TypePost (s : List ℕ) (at place : ℕ) (leaves types : List ℕ) (r : Typed) : Type 0 where
+pub record TypePost (s : List ℕ) (at place : ℕ) (leaves types : List ℕ) (r : Option ℕ) : Type 0 where
   pub answer : (e : Sort) (t : Tree) (q : ℕ) (Γ : Ctx) → IsAt s e at t q → LeavesAt t Γ place s leaves
       → place + nodes t ≤ 2048 → type_limit * nodes t + type_limit ≤ length types → Typing r t Γ types

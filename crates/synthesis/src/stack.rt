@@ -1,29 +1,68 @@
-// The nodes that are open while a tree is typed: a slice of records that the caller lends, and that only push and pop touch. All that
-// decides anything has records by value.
-ghost use Rattle.std.specs.Prelude.{◌≡◌, ◌<◌, length, get_or, set};
-ghost use Rattle.synthesis.specs.OpenNodes.{no_node};
+// The nodes that are open while a tree is typed.
+ghost use Rattle.std.specs.Prelude.{◌≡◌, ◌≤◌, ◌<◌, List, [], ◌∷◌, ◌++◌, length, take, MatchOption};
+ghost use Rattle.synthesis.specs.declared.stack.OpenNode.{OpenNode};
 
-// An open node: its tag, how many operands are to come, where the types of those that have come start. The slice is cleared for each tree
-// that is typed, so a record is no wider than these numbers need.
-#[derive(Clone, Copy)]
+use std::marker::Model;
+
+// As many as a frame has nodes at most.
+const ROOM: usize = 2048;
+
+// An open node: its tag, how many operands are to come, where the types of those that have come start. The stack is cleared for each
+// tree that is typed, so a record is no wider than these numbers need.
+#[derive(Clone, Copy, Debug, PartialEq, Eq)]
 pub struct OpenNode {
     pub tag: u16,
     pub left: u16,
     pub from: u32,
 }
 
-// An open node is put on the stack, with this many below it.
-pub fn push(stack: &mut [OpenNode], top: usize, node: OpenNode)
-    requires { top < length stack.old }
-    ensures { stack.new ≡ set stack.old top node }
-{
-    stack[top] = node;
+// The open nodes below the one at hand, the lowest first.
+#[derive(Drop)]
+pub struct Stack {
+    nodes: [OpenNode; ROOM],
+    open: usize,
 }
 
-// The open node with this many below it is taken from the stack.
-pub fn pop(stack: &mut [OpenNode], top: usize) -> OpenNode
-    requires { top < length stack.old }
-    ensures { (result ≡ get_or stack.old top no_node) × (stack.new ≡ stack.old) }
-{
-    stack[top]
+impl Model for Stack {
+    ghost Value = { List OpenNode };
+
+    ghost view = { λ s. take s.open s.nodes };
+
+    ghost invariant = { λ s. (s.open ≤ 2048) × (length s.nodes ≡ 2048) };
+}
+
+impl Stack {
+    // Put together where it is to stay: the records are not copied.
+    #[inline(always)]
+    pub fn new() -> Self
+        ensures { result ≡ [] }
+    {
+        Stack {
+            nodes: [OpenNode {
+                tag: 0,
+                left: 0,
+                from: 0,
+            }; ROOM],
+            open: 0,
+        }
+    }
+
+    pub fn push(&mut self, node: OpenNode)
+        requires { length self.old < 2048 }
+        ensures { self.new ≡ self.old ++ node ∷ [] }
+    {
+        self.nodes[self.open] = node;
+        self.open += 1;
+    }
+
+    // The uppermost node, where one is open.
+    pub fn pop(&mut self) -> Option<OpenNode>
+        ensures { MatchOption result (self.old ≡ []) (λ node. self.old ≡ self.new ++ node ∷ []) }
+    {
+        if self.open == 0 {
+            return None;
+        }
+        self.open -= 1;
+        Some(self.nodes[self.open])
+    }
 }

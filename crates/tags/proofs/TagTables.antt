@@ -1,15 +1,11 @@
--- The code's tables of tags say what `table` and `form_at` say, for every tag: each table by one computed test and one law.
--- Main results: form_code_lem, code_form, code_small, beyond; word_none, word_past (indices that a table of words does not have);
--- form_found (`form_of`).
-use mathlib.Core.Path.{◌≡◌, refl, sym, ap, ◌∙◌, subst}
-use mathlib.Core.Bool.{Bool, true, false, ◌&&◌}
-use mathlib.Core.List.{List, [], ◌∷◌}
-use Prim.Native.Nat.{ℕ, ◌*◌, ◌/◌, ◌%◌, ◌^◌, ◌≤◌, ◌<◌}
-use native.Mathlib.Omega.{arith}
-use native.Mathlib.Nat.{zero-div}
-use lib.Dec.{ltb, leb, eqb}
-use borrow.Author.Tests.{leb-true, leb-false, ltb-true, eqb-true, ne_eqb}
+-- The code's forms of tags are those that `table` and `form_at` say, for every tag.
+-- Main results: form_code_lem, code_form (what a form means); beyond (tags past the last row); range_form (the tags from a number on
+-- that have one form) and gap_form (numbers that are no tags), for the arms of `form_of`.
+use Rattle.std.proofs.Common.{◌≡◌, ℕ, ◌+◌, ◌-◌, ◌<◌, ◌≤◌, refl, sym, ap, ◌∙◌, Bool, true, false, ◌&&◌, ◌||◌, List, [], ◌∷◌, arith, leb, ltb}
+use denote.Enum.Bare.{sameb, same_true}
+use borrow.Author.Tests.{ltb-true, ltb-false, lt-leb}
 use Rattle.frame.specs.Tags.{
+  pick,
   Class,
   literal_pred,
   equality,
@@ -63,18 +59,26 @@ use Rattle.frame.specs.Tags.{
   quantified_set,
   comprehension,
   unlisted,
+  Row,
+  row,
   table,
+  lookup,
   class_of,
   form_at,
-  form_of,
 }
-use Rattle.tags.specs.TagCodes.{form_at_code, form_code, Word, word, word_at, form_words}
+use Rattle.frame.specs.Tags as T
+use Rattle.tags.specs.declared.forms.Form.{Form}
+use Rattle.tags.specs.declared.forms.Form.TheVariants.{Unlisted}
+use Rattle.tags.specs.contracts.forms.Form.{the_type}
+use Rattle.tags.specs.TagCodes.{meant, form_code}
+use Rattle.frame.proofs.Inversion.{true_not}
 use Rattle.frame.proofs.Booleans.{both_true}
-use Rattle.frame.proofs.EveryTag.{along_rows, every_tag, unlisted_past}
+use Rattle.frame.proofs.EveryTag.{unlisted_past}
+use Rattle.frame.proofs.Tables.{all_below, below}
 
--- ---- the form of a class has its number
-pub form_code_lem : (c : Class) → form_at_code (form_code c) ≡ form_at c
-unfolding form_at_code form_code form_at
+-- ---- the form of a class means what the class asks for
+pub form_code_lem : (c : Class) → meant (form_code c) ≡ form_at c
+unfolding form_code form_at
 form_code_lem literal_pred = refl
 form_code_lem equality = refl
 form_code_lem order = refl
@@ -128,121 +132,56 @@ form_code_lem quantified_set = refl
 form_code_lem comprehension = refl
 form_code_lem unlisted = refl
 
-code_bound : (c : Class) → leb (form_code c) 19 ≡ true
-unfolding form_code
-code_bound literal_pred = refl
-code_bound equality = refl
-code_bound order = refl
-code_bound membership = refl
-code_bound inclusion = refl
-code_bound binary_pred = refl
-code_bound associative_pred = refl
-code_bound negation = refl
-code_bound quantified_pred = refl
-code_bound finite = refl
-code_bound partition = refl
-code_bound identifier = refl
-code_bound bound = refl
-code_bound literal = refl
-code_bound set_extension = refl
-code_bound maplet = refl
-code_bound relation_set = refl
-code_bound set_minus = refl
-code_bound cartesian = refl
-code_bound direct_product = refl
-code_bound parallel_product = refl
-code_bound domain_restriction = refl
-code_bound range_restriction = refl
-code_bound up_to = refl
-code_bound arithmetic = refl
-code_bound function_image = refl
-code_bound relational_image = refl
-code_bound set_operation = refl
-code_bound backward_composition = refl
-code_bound forward_composition = refl
-code_bound override = refl
-code_bound sum = refl
-code_bound integer_set = refl
-code_bound bool_set = refl
-code_bound truth_value = refl
-code_bound integer_relation = refl
-code_bound empty_set = refl
-code_bound projection1 = refl
-code_bound projection2 = refl
-code_bound identity = refl
-code_bound bool_expr = refl
-code_bound cardinal = refl
-code_bound powerset = refl
-code_bound generalised = refl
-code_bound domain = refl
-code_bound range = refl
-code_bound extremum = refl
-code_bound converse = refl
-code_bound unary_minus = refl
-code_bound quantified_set = refl
-code_bound comprehension = refl
-code_bound unlisted = refl
-
-pub code_small : (c : Class) → form_code c < 20
-code_small c = let h = leb-true (form_code c) 19 (code_bound c) in omega arith
-
-pub code_form : (t r : ℕ) → r ≡ form_code (class_of t) → form_at_code r ≡ form_of t
-code_form t r e = ap form_at_code e ∙ form_code_lem (class_of t)
+pub code_form : (t : ℕ) (f : Form) → f ≡ form_code (class_of t) → meant f ≡ T.form_of t
+code_form t f e = ap meant e ∙ form_code_lem (class_of t)
 
 -- ---- tags past the last row
-pub beyond : (t : ℕ) → 901 < t → form_code (class_of t) ≡ 0
+pub beyond : (t : ℕ) → 901 < t → form_code (class_of t) ≡ Unlisted
 unfolding form_code
 beyond t h = ap form_code (unlisted_past t h)
 
--- ---- tables of words
--- an index that is none of the table's, as the last arm of a match over them has it
-abbrev pub NoneOf : Type 0 → ℕ → List Word → Type 0
-NoneOf P i [] = P
-NoneOf P i (word k w ∷ ws) = NoneOf (P × (i ≡ k → ⊥)) i ws
+-- ---- n tags from a on that have one form
+pub range_form : (f : Form) (a n : ℕ) → all_below n (λ i. sameb the_type f (form_code (class_of (a + i)))) ≡ true → (t : ℕ) → a ≤ t → t < a + n
+    → f ≡ form_code (class_of t)
+range_form f a n e t l h =
+    let one : f ≡ form_code (class_of (a + (t - a))) =
+    same_true the_type tt f (form_code (class_of (a + (t - a))))
+    (below n (λ i. sameb the_type f (form_code (class_of (a + i)))) e (t - a) (omega arith)) in
+    let z : a + (t - a) ≡ t = omega arith in
+    one ∙ ap (λ i. form_code (class_of i)) z
 
-none_under : (P : Type 0) (i : ℕ) (ws : List Word) → NoneOf P i ws → P × (word_at ws i ≡ 0)
-none_under P i [] h = (h, refl)
-none_under P i (word k w ∷ ws) h =
-    let r = none_under (P × (i ≡ k → ⊥)) i ws h in
-    (r.0.0, rw (ne_eqb i k r.0.1) r.1)
+-- ---- numbers from a to b that are in no row
+abbrev pub no_row : ℕ → ℕ → List Row → Bool
+no_row a b [] = true
+no_row a b (row from to c ∷ rows) = (ltb b from || ltb to a) && no_row a b rows
 
-pub word_none : (i : ℕ) (ws : List Word) → NoneOf (Unit {0}) i ws → 0 ≡ word_at ws i
-word_none i ws h = sym (none_under (Unit {0}) i ws h).1
+skip : (p q : Bool) (c d : Class) → q ≡ false → pick (p && q) c d ≡ d
+skip true q c d e = rw e
+skip false q c d e = refl
 
--- an index past the last
-abbrev pub ends_before : ℕ → List Word → Bool
-ends_before n [] = true
-ends_before n (word k w ∷ ws) = ltb k n && ends_before n ws
+passed : (t from to a b : ℕ) (c d : Class) → a ≤ t → t ≤ b → (p q : Bool) → ltb b from ≡ p → ltb to a ≡ q → (p || q) ≡ true
+    → pick (leb from t && leb t to) c d ≡ d
+passed t from to a b c d l h true q ep eq e = let z = ltb-true b from ep in rw (lt-leb from t (omega arith))
+passed t from to a b c d l h false true ep eq e =
+    let z = ltb-true to a eq in
+    skip (leb from t) (leb t to) c d (lt-leb t to (omega arith))
+passed t from to a b c d l h false false ep eq e = true_not e
 
-pub word_past : (n : ℕ) (ws : List Word) → ends_before n ws ≡ true → (i : ℕ) → n ≤ i → word_at ws i ≡ 0
-word_past n [] e i h = refl
-word_past n (word k w ∷ ws) e i h =
-    let p = both_true (ltb k n) (ends_before n ws) e in
-    let l = ltb-true k n p.0 in
-    rw (ne_eqb i k (λ z. absurd (omega arith))) (word_past n ws p.1 i h)
+unlisted_in : (a b : ℕ) (rows : List Row) → no_row a b rows ≡ true → (t : ℕ) → a ≤ t → t ≤ b → lookup rows t ≡ unlisted
+unfolding lookup
+unlisted_in a b [] e t l h = refl
+unlisted_in a b (row from to c ∷ rows) e t l h =
+    let p = both_true (ltb b from || ltb to a) (no_row a b rows) e in
+    passed t from to a b c (lookup rows t) l h (ltb b from) (ltb to a) refl refl p.0 ∙ unlisted_in a b rows p.1 t l h
 
--- ---- the form that the code finds in its words
-abbrev form_in : ℕ → ℕ → ℕ
-form_in w t = w / 2 ^ (5 * (t % 8)) % 32
+pub gap_form : (a b : ℕ) → no_row a b table ≡ true → (t : ℕ) → a ≤ t → t ≤ b → Unlisted ≡ form_code (class_of t)
+unfolding class_of form_code
+gap_form a b e t l h = sym (ap form_code (unlisted_in a b table e t l h))
 
-abbrev form_right : ℕ → Class → Bool
-form_right t c = eqb (form_in (word_at form_words (t / 8)) t) (form_code c)
+-- a number that is not k is below it or above
+side : {X : Type 0} (k t : ℕ) → (t ≡ k → ⊥) → (t < k → X) → (k < t → X) → (b : Bool) → ltb t k ≡ b → X
+side k t ne under above true e = under (ltb-true t k e)
+side k t ne under above false e = let h = ltb-false t k e in above (omega arith)
 
--- every tag that has a word, by one evaluation
-forms_right : along_rows form_right 904 0 table ≡ true
-unfolding form_code
-forms_right = refl
-
-form_far : (t : ℕ) → 113 ≤ t / 8 → form_in (word_at form_words (t / 8)) t ≡ form_code (class_of t)
-form_far t h =
-    rw (word_past 113 form_words refl (t / 8) h) (rw (zero-div (2 ^ (5 * (t % 8)))) (sym (beyond t (omega arith))))
-
-form_by : (t : ℕ) (b : Bool) → leb 113 (t / 8) ≡ b → form_in (word_at form_words (t / 8)) t ≡ form_code (class_of t)
-form_by t true e = form_far t (leb-true 113 (t / 8) e)
-form_by t false e = let h = leb-false 113 (t / 8) e in eqb-true _ _ (every_tag form_right 904 forms_right t (omega arith))
-
-pub form_found : (t w : ℕ) → w ≡ word_at form_words (t / 8)
-    → (w / 2 ^ (5 * (t % 8)) % 32 ≡ form_code (class_of t)) × (w / 2 ^ (5 * (t % 8)) % 32 < 20)
-form_found t w e =
-    let z : form_in w t ≡ form_code (class_of t) = ap (λ (x : ℕ). form_in x t) e ∙ form_by t (leb 113 (t / 8)) refl in
-    (z, subst (λ (x : ℕ). x < 20) (sym z) (code_small (class_of t)))
+pub either_side : {X : Type 0} (k t : ℕ) → (t ≡ k → ⊥) → (t < k → X) → (k < t → X) → X
+either_side k t ne under above = side k t ne under above (ltb t k) refl

@@ -1,10 +1,8 @@
--- The right sides that are built by a fixed pattern, by the place of the source (docs/RULES.md), and the byte programs that
--- stand for them in the code. Operands are numbered as they stand in the place's left side; where the right side has one operand
--- only, that is operand 0. Places that join any number of operands have the pattern of one operand here.
-use Rattle.std.specs.Prelude.{Bool, false, ◌||◌, List, [], ◌∷◌, ◌++◌, ℕ, ◌+◌, length, eqb}
+-- The right sides that are built by a fixed pattern, by the place of the source (docs/RULES.md). Operands are numbered as they
+-- stand in the place's left side; where the right side has one operand only, that is operand 0. Places that join any number of
+-- operands have the pattern of one operand here.
+use Rattle.std.specs.Prelude.{Bool, false, ◌||◌, List, [], ◌∷◌, ℕ, eqb}
 use Rattle.frame.specs.Tags.{pick}
-use Rattle.frame.specs.Encoding.{enc_number}
-use Rattle.frame.specs.Spans.{Spans}
 use Rattle.frame.specs.Operators.{
   #SetExt,
   #Equal,
@@ -32,28 +30,13 @@ use Rattle.frame.specs.Operators.{
   #Forall,
   #Exists,
 }
-use Rattle.templates.specs.Template.{
-  Mode,
-  whole,
-  of_dom,
-  of_ran,
-  of_element,
-  of_elements,
-  of_source,
-  Part,
-  tag,
-  byte,
-  operand,
-  type,
-  expression,
-  binders,
-}
+use Rattle.templates.specs.Template.{whole, of_dom, of_ran, of_element, of_elements, of_source, Part, tag, byte, operand, type, expression, binders}
 
 -- operand i = ∅, and operand i = the type expression of its elements; then more parts
-abbrev is_empty : ℕ → List Part → List Part
+abbrev pub is_empty : ℕ → List Part → List Part
 is_empty i ps = tag #Equal ∷ operand i ∷ tag #EmptySet ∷ type whole i ∷ ps
 
-abbrev is_type : ℕ → List Part → List Part
+abbrev pub is_type : ℕ → List Part → List Part
 is_type i ps = tag #Equal ∷ operand i ∷ expression of_element i ∷ ps
 
 -- the places that have a template
@@ -160,38 +143,3 @@ find_row (row ns ps ∷ rows) n = let next = find_row rows n in pick (among n ns
 
 unfoldable pub template : ℕ → List Part
 template place = find_row templates place
-
--- ---- programs
-abbrev pub mode_code : Mode → ℕ
-mode_code whole = 0
-mode_code of_dom = 1
-mode_code of_ran = 2
-mode_code of_element = 3
-mode_code of_elements = 4
-mode_code of_source = 5
-
--- the first byte of a part's code, and the code
-abbrev pub op_of : Part → ℕ
-op_of (tag g) = 1
-op_of (byte c) = 2
-op_of (operand i) = 3
-op_of (type m i) = 4
-op_of (expression m i) = 5
-op_of binders = 6
-
-unfoldable pub code : Part → List ℕ
-code (tag g) = 1 ∷ enc_number 2 g
-code (byte c) = 2 ∷ c ∷ []
-code (operand i) = 3 ∷ i ∷ []
-code (type m i) = 4 ∷ mode_code m ∷ i ∷ []
-code (expression m i) = 5 ∷ mode_code m ∷ i ∷ []
-code binders = 6 ∷ []
-
--- the bytes of all parts, and a zero
-unfoldable pub program : List Part → List ℕ
-program [] = 0 ∷ []
-program (p ∷ ps) = code p ++ program ps
-
--- the program of these parts stands at `at`
-abbrev pub ProgramAt : List ℕ → ℕ → List Part → Type 0
-ProgramAt g at ps = Spans g at (at + length (program ps)) (program ps)

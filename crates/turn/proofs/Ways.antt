@@ -1,25 +1,16 @@
 -- The ways out of `turn` of src/lib.rt, on plain values.
 -- Main results: turn_rests, turn_spent, turn_full, turn_on.
-use mathlib.Core.Path.{◌≡◌, refl, sym, ap, ◌∙◌, subst}
-use mathlib.Core.Bool.{Bool}
-use mathlib.Core.List.{List, ◌++◌}
-use Prim.Native.Nat.{ℕ, zero, suc, ◌+◌, ◌-◌, ◌≤◌, ◌<◌}
-use native.Mathlib.Omega.{arith}
-use lib.ListN.{length, take, drop}
-use lib.Seq.{take_at}
+use Rattle.std.proofs.Common.{◌≡◌, ℕ, zero, suc, ◌+◌, ◌-◌, ◌≤◌, ◌<◌, Bool, List, length, Option, Some, None, refl, sym, ap, ap₂, ◌∙◌, subst, arith}
 use borrow.Author.Tests.{lt-ltb, le-ltb}
 use Rattle.frame.specs.Trees.{Tree}
 use Rattle.frame.specs.Tags.{pick}
 use Rattle.frame.specs.Encoding.{enc}
 use Rattle.put.specs.Out.{Wrote}
-use Rattle.put.proofs.Puts.{wrote_held, wrote_full}
-use Rattle.copies.proofs.Fronts.{front_keeps, front_is}
-use Rattle.run.specs.Run.{First, next, nowhere, first_step, Word, REST, SPENT, FULL, ran, at_end, go_on, run_tree, word_answer}
-use Rattle.run.specs.declared.RunAnswer.TheVariants as A
-use Rattle.turn.specs.TurnPosts.{Gives, TurnPre, TurnPost}
-use Rattle.turn.specs.declared.Next.{Next}
-use Rattle.turn.specs.declared.Next.TheVariants as N
-use Rattle.turn.specs.declared.Turned.TheVariants as T
+use Rattle.put.proofs.Puts.{wrote_is, wrote_full}
+use Rattle.run.specs.Run.{First, next, nowhere, first_step, Word, REST, SPENT, FULL, ran, at_end, go_on, run_tree, ending_for}
+use Rattle.run.specs.declared.Ending.TheVariants.{Rest, Spent, Full}
+use Rattle.turn.specs.Progress.{At}
+use Rattle.turn.specs.TurnPosts.{Gives, TurnPost}
 
 -- ---- one step in the run of a tree
 spent_run : (t u : Tree) (n : ℕ) → first_step t ≡ next u → run_tree 0 n t ≡ ran SPENT n t
@@ -42,48 +33,45 @@ on_run b t u n e h = ap (λ (f : First). go_on f n t (run_tree b (n + 1))) e ∙
     (le-ltb 4096 (length (enc u)) h)
 
 -- ---- `turn`
-module _ (x : Next) (scratch : List ℕ) (n left count : ℕ) (held : List ℕ) (p : TurnPre scratch left count held) where
-  -- the run ends here, and nothing is written
-  ends : (w : Word) → ((t : Tree) → Gives x scratch (first_step t) → run_tree left count t ≡ ran w count t)
-      → TurnPost x scratch n left count held held (T.Ends (word_answer w count n))
-  ends w h = record { follows = λ t g. record { word = w; ended = h t g; answer = refl; kept = refl }; long = p.long }
+module _ (x : Option (Option (List ℕ))) (o : At) where
+  -- the run ends here, and nothing is changed
+  ends : (w : Word) → ((t : Tree) → Gives x (first_step t) → run_tree o.left o.steps t ≡ ran w o.steps t) → TurnPost x o o (Some (ending_for w))
+  ends w h = record { follows = λ t g. record { word = w; ended = h t g; ending = refl; kept = refl } }
 
-  pub turn_rests : x ≡ N.Rests → TurnPost x scratch n left count held held (T.Ends (A.Rest count n))
-  turn_rests e = ends REST (λ t g. rest_run left t count (subst (λ (y : Next). Gives y scratch (first_step t)) e g))
+  pub turn_rests : x ≡ None → TurnPost x o o (Some Rest)
+  turn_rests e = ends REST (λ t g. rest_run o.left t o.steps (subst (λ (y : _). Gives y (first_step t)) e g))
 
-  module _ (m : ℕ) (e : x ≡ N.Writes m) where
-    writes : (t : Tree) → Gives x scratch (first_step t) → (u : Tree) × (first_step t ≡ next u) × Wrote scratch m (enc u)
-    writes t g = subst (λ (y : Next). Gives y scratch (first_step t)) e g
+  module _ (w : Option (List ℕ)) (e : x ≡ Some w) where
+    writes : (t : Tree) → Gives x (first_step t) → (u : Tree) × (first_step t ≡ next u) × Wrote w (enc u)
+    writes t g = subst (λ (y : _). Gives y (first_step t)) e g
 
-    pub turn_spent : left ≡ 0 → TurnPost x scratch n left count held held (T.Ends (A.Spent count n))
-    turn_spent z = ends SPENT (λ t g. (let u = writes t g in ap (λ (i : ℕ). run_tree i count t) z ∙ spent_run t u.0 count u.1))
+    pub turn_spent : o.left ≡ 0 → TurnPost x o o (Some Spent)
+    turn_spent z = ends SPENT (λ t g. (let u = writes t g in ap (λ (i : ℕ). run_tree i o.steps t) z ∙ spent_run t u.0 o.steps u.1))
 
-    module _ (some : left ≡ 0 → ⊥) where
-      less : left ≡ suc (left - 1)
+    module _ (some : o.left ≡ 0 → ⊥) where
+      less : o.left ≡ suc (o.left - 1)
       less = omega (arith, some)
 
-      pub turn_full : 4096 < m → TurnPost x scratch n left count held held (T.Ends (A.Full count n))
+      pub turn_full : w ≡ None → TurnPost x o o (Some Full)
       turn_full h =
-          ends FULL (λ t g. (let u = writes t g in ap (λ (i : ℕ). run_tree i count t) less ∙ full_run (left - 1) t u.0 count u.1
-          (wrote_full scratch m (enc u.0) u.2 h)))
+          ends FULL (λ t g. (let u = writes t g in ap (λ (i : ℕ). run_tree i o.steps t) less ∙ full_run (o.left - 1) t u.0 o.steps u.1
+          (wrote_full w (enc u.0) u.2 h)))
 
-      pub turn_on : m ≤ 4096 → (held' : List ℕ) → held' ≡ take m scratch ++ drop m held
-          → TurnPost x scratch n left count held held' (T.On m (left - 1) (count + 1))
-      turn_on h held' c =
+      pub turn_on : (xs : List ℕ) → w ≡ Some xs → (p : At) → p.frame ≡ xs → p.left ≡ o.left - 1 → p.steps ≡ o.steps + 1 → TurnPost x o p None
+      turn_on xs h p f l s =
           record {
             follows = λ t g.
-                (let w = writes t g in
-                let u = w.0 in
-                let v = wrote_held scratch m (enc u) w.2 h in
-                let o = front_is scratch m held held' (enc u) c v.0 v.1 in
+                (let v = writes t g in
+                let u = v.0 in
+                let b = wrote_is w (enc u) xs v.2 h in
                 record {
                   after = u;
-                  step = w.1;
-                  same = ap (λ (i : ℕ). run_tree i count t) less ∙ on_run (left - 1) t u count w.1 (omega (arith, v.0));
-                  less = less;
-                  more = refl;
-                  bytes = ap (take m) o ∙ take_at (enc u) (drop (length (enc u)) held) m (sym v.0);
-                  fits = h;
+                  step = v.1;
+                  same = ap (λ (i : ℕ). run_tree i o.steps t) less ∙ on_run (o.left - 1) t u o.steps v.1 b.1
+                      ∙ ap₂ (λ (i j : ℕ). run_tree i j u) (sym l) (sym s);
+                  less = less ∙ ap suc (sym l);
+                  more = s;
+                  bytes = f ∙ b.0;
+                  fits = b.1;
                 });
-            long = ap length c ∙ front_keeps scratch m held (omega (arith, p.room)) (omega (arith, p.long)) ∙ p.long;
           }

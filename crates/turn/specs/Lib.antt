@@ -1,1 +1,2 @@
+pub mod Progress
 pub mod TurnPosts

@@ -2,52 +2,86 @@
 // proved without the rules' code.
 #![tactic(auto)]
 
-ghost use Rattle.turn.specs.TurnPosts.{TurnPre, TurnPost};
+ghost use Rattle.std.specs.Prelude.{◌≡◌, ◌≤◌, length, option_copied};
+ghost use Rattle.turn.specs.TurnPosts.{TurnPost};
 
-use copies::put_front;
-use frame::limits::FRAME_LIMIT;
-use run::RunAnswer;
+use put::Writer;
+use run::{Ending, Run};
+use std::marker::Model;
 
-// The first step of a frame: there is none, or the new frame's bytes are in the scratch buffer, so many (4,097: too many).
+// How far a run has come.
 #[derive(Drop)]
-pub enum Next {
-    Rests,
-    Writes(usize),
-}
-
-// The run ends with this answer, or goes on: with a frame of so many bytes, so much budget left and so many steps made.
-#[derive(Drop)]
-pub enum Turned {
-    Ends(RunAnswer),
-    On(usize, u32, u32),
-}
-
-// The run is at a frame of n bytes, with so much budget left and so many steps counted. The frame after the step goes to
-// `held`, if the run goes on.
-pub fn turn(
-    next: Next,
-    scratch: &[u8; 4096],
-    n: usize,
+pub struct Progress {
+    // the frame that it is at stands in the first `length` bytes
+    held: [u8; 4096],
+    length: usize,
+    // the budget left, and the count of the steps made
     left: u32,
-    count: u32,
-    held: &mut [u8],
-) -> Turned
-    requires { TurnPre scratch.now left count held.old }
-    ensures { TurnPost next scratch.now n left count held.old held.new result }
-{
-    match next {
-        Next::Rests => Turned::Ends(RunAnswer::Rest(count, n)),
-        Next::Writes(m) => {
-            if left == 0 {
-                return Turned::Ends(RunAnswer::Spent(count, n));
-            }
-            if FRAME_LIMIT < m {
-                return Turned::Ends(RunAnswer::Full(count, n));
-            }
-            put_front(scratch, m, held);
-            let rest = left - 1;
-            let made = count + 1;
-            Turned::On(m, rest, made)
+    steps: u32,
+}
+
+impl Model for Progress {
+    ghost use Rattle.std.specs.Prelude.{◌≤◌, ◌<◌, ◌+◌, ◌^◌, take};
+    ghost use Rattle.turn.specs.Progress.{At};
+
+    ghost Value = { At };
+
+    ghost view = { λ p. record { frame = take p.length p.held; left = p.left; steps = p.steps } };
+
+    ghost invariant = { λ p. (p.length ≤ 4096) × (p.steps + p.left < 2 ^ 32) };
+}
+
+impl Progress {
+    // Before the first step.
+    pub fn new(frame: &[u8], budget: u32) -> Self
+        requires { length frame.now ≤ 4096 }
+        ensures { result ≡ record { frame = frame.now; left = budget; steps = 0 } }
+    {
+        let mut held = [0; 4096];
+        held[..frame.len()].copy_from_slice(frame);
+        Progress {
+            held,
+            length: frame.len(),
+            left: budget,
+            steps: 0,
+        }
+    }
+
+    // The frame that the run is at.
+    pub fn frame(&self) -> &[u8]
+        ensures { result.now ≡ self.now.frame }
+    {
+        &self.held[..self.length]
+    }
+
+    // The run goes on with the frame after its first step, or it ends here. `None` is a frame where no rule applies.
+    pub fn turn(&mut self, next: Option<&Writer>) -> Option<Ending>
+        ensures { TurnPost (option_copied next.entry) self.old self.new result }
+    {
+        let Some(writer) = next else {
+            return Some(Ending::Rest);
+        };
+        if self.left == 0 {
+            return Some(Ending::Spent);
+        }
+        let Some(frame) = writer.frame() else {
+            return Some(Ending::Full);
+        };
+        self.held[..frame.len()].copy_from_slice(frame);
+        self.length = frame.len();
+        self.left -= 1;
+        self.steps += 1;
+        None
+    }
+
+    // The run's answer, where it ends here.
+    pub fn ended(&self, ending: Ending) -> Run
+        ensures { result ≡ record { ending = ending; steps = self.now.steps; length = length self.now.frame } }
+    {
+        Run {
+            ending,
+            steps: self.steps,
+            length: self.length,
         }
     }
 }

@@ -3,5 +3,7 @@ pub mod RuleShapes
 mod ClassShapes
 mod PatternRules
 pub mod TagRules
-pub mod RuleTables
+mod CarriedShapes
 pub mod NodeRules
+pub mod OwnTags
+pub mod SymbolNumbers

@@ -16,7 +16,7 @@ use Rattle.typing.specs.Typing.{wants, result, shape, carried_ty, node_typed}
 use Rattle.type_rules.specs.Patterns.{rule_at, own_types, Judged, typed, wrong, limited, judge}
 use Rattle.type_rules.specs.Patterns.{Operands}
 use Rattle.type_rules.proofs.PatternRules.{class_judged}
-use Rattle.type_rules.proofs.RuleTables.{shape_class}
+use Rattle.type_rules.proofs.CarriedShapes.{shape_class}
 
 three : (a b c : Bool) (x : Judged) → pick a (pick b (pick c x wrong) wrong) wrong ≡ pick (a && (b && c)) x wrong
 three true true true x = refl

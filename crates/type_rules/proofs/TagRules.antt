@@ -1,205 +1,100 @@
--- The code's tables of typing rules say what `rule_at` says, for every tag: by one computed test, and one law.
--- Main results: tag_rule (the rule of a tag), rule_row (the four patterns of a rule), pair_packed .. result_packed
--- (their words), pattern_last (the last arm of `pattern`).
-use mathlib.Core.Path.{◌≡◌, refl, sym, ap, subst, ◌∙◌}
+-- Tags by ranges, as the arms of the code's matches have them: a range within a row of `table` is of one class, and a tag outside of all
+-- rows is not listed.
+-- Main results: at_range, off_table.
+use mathlib.Core.Path.{◌≡◌, refl, ap, ◌∙◌, sym}
 use mathlib.Core.Bool.{Bool, true, false, ◌&&◌}
-use Prim.Native.Nat.{ℕ, ◌*◌, ◌/◌, ◌%◌, ◌^◌, ◌≤◌, ◌<◌}
+use mathlib.Core.List.{List, [], ◌∷◌}
+use Prim.Native.Nat.{ℕ, ◌≤◌, ◌<◌}
 use native.Mathlib.Omega.{arith}
-use lib.ListN.{get_or, get_or-eq_default}
-use lib.Dec.{ltb, leb, eqb}
-use borrow.Author.Tests.{leb-true, leb-false, ltb-true, eqb-true}
-use Rattle.frame.specs.Tags.{
-  table,
-  class_of,
-  Class,
-  literal_pred,
-  equality,
-  order,
-  membership,
-  inclusion,
-  binary_pred,
-  associative_pred,
-  negation,
-  quantified_pred,
-  finite,
-  partition,
-  identifier,
-  bound,
-  literal,
-  set_extension,
-  maplet,
-  relation_set,
-  set_minus,
-  cartesian,
-  direct_product,
-  parallel_product,
-  domain_restriction,
-  range_restriction,
-  up_to,
-  arithmetic,
-  function_image,
-  relational_image,
-  set_operation,
-  backward_composition,
-  forward_composition,
-  override,
-  sum,
-  integer_set,
-  bool_set,
-  truth_value,
-  integer_relation,
-  empty_set,
-  projection1,
-  projection2,
-  identity,
-  bool_expr,
-  cardinal,
-  powerset,
-  generalised,
-  domain,
-  range,
-  extremum,
-  converse,
-  unary_minus,
-  quantified_set,
-  comprehension,
-  unlisted,
-}
-use Rattle.frame.proofs.Tables.{entry, NoneBelow, past_all}
-use Rattle.frame.proofs.EveryTag.{along_rows, every_tag, unlisted_past}
-use Rattle.frame.proofs.Booleans.{both_true}
-use Rattle.tags.specs.TagCodes.{word_at}
-use Rattle.tags.proofs.TagTables.{word_past}
+use lib.Dec.{ltb, leb}
+use borrow.Author.Tests.{leb-true, le-leb, lt-leb, ltb-true}
+use Rattle.frame.specs.Tags.{pick, Class, unlisted, Row, row, table, lookup, class_of}
 use Rattle.type_rules.specs.Patterns.{Rule, rule_at}
-use Rattle.type_rules.specs.RuleNumbers.{rule_number, rule_words, row_words, pattern_words, last_pattern, packs, Packed, pattern_at, RowOf}
+use Rattle.frame.proofs.Booleans.{both_true}
+use Rattle.frame.proofs.EveryTag.{unlisted_past}
+use Rattle.frame.proofs.Inversion.{true_not}
 
--- ---- the rule of a tag
--- the rule that the code finds in its words
-abbrev rule_in : ℕ → ℕ
-rule_in t = word_at rule_words (t / 8) / 2 ^ (6 * (t % 8)) % 64
+-- a row has the numbers from `lo` to `hi`, and those before it have none of them
+abbrev pub covered : ℕ → ℕ → List Row → Bool
+covered lo hi [] = false
+covered lo hi (row from to c ∷ rows) = pick (leb from lo && leb hi to) true (ltb to lo && covered lo hi rows)
 
-abbrev RuleOf : ℕ → ℕ → Type 0
-RuleOf t r = (r ≡ rule_number (class_of t)) × (r < 49)
+found : (a b : Bool) (c d : Class) → a ≡ true → b ≡ true → pick (a && b) c d ≡ c
+found true true c d p q = refl
+found true false c d p q = true_not q
+found false b c d p q = true_not p
 
-abbrev tag_right : ℕ → Class → Bool
-tag_right t c = eqb (rule_in t) (rule_number c) && ltb (rule_in t) 49
+skipped : (a b : Bool) (c d : Class) → b ≡ false → pick (a && b) c d ≡ d
+skipped true true c d q = true_not (sym q)
+skipped true false c d q = refl
+skipped false b c d q = refl
 
--- every tag of the 113 eights up to the last that is listed, by one evaluation
-tags_right : along_rows tag_right 904 0 table ≡ true
-unfolding rule_number
-tags_right = refl
+here : (lo hi t from to : ℕ) (c d e : Class) → (leb from lo && leb hi to) ≡ true → lo ≤ t → t ≤ hi
+    → pick (leb from t && leb t to) c d ≡ pick (leb from lo && leb lo to) c e
+here lo hi t from to c d e q l h =
+    let p = both_true (leb from lo) (leb hi to) q in
+    let i = leb-true from lo p.0 in
+    let j = leb-true hi to p.1 in
+    found (leb from t) (leb t to) c d (le-leb from t (omega arith)) (le-leb t to (omega arith))
+    ∙ sym (found (leb from lo) (leb lo to) c e p.0 (le-leb lo to (omega arith)))
 
-right_near : (t : ℕ) → t < 904 → RuleOf t (rule_in t)
-right_near t h =
-    let p = both_true (eqb (rule_in t) (rule_number (class_of t))) (ltb (rule_in t) 49) (every_tag tag_right 904 tags_right t h) in
-    (eqb-true _ _ p.0, ltb-true _ _ p.1)
+later : (lo hi t from to : ℕ) (c d e : Class) (b : Bool) → (ltb to lo && b) ≡ true → lo ≤ t → (b ≡ true → d ≡ e)
+    → pick (leb from t && leb t to) c d ≡ pick (leb from lo && leb lo to) c e
+later lo hi t from to c d e b r l go =
+    let p = both_true (ltb to lo) b r in
+    let i = ltb-true to lo p.0 in
+    skipped (leb from t) (leb t to) c d (lt-leb t to (omega arith))
+    ∙ go p.1
+    ∙ sym (skipped (leb from lo) (leb lo to) c e (lt-leb lo to i))
 
--- tags beyond them are not listed, and have no word
-right_far : (t : ℕ) → 113 ≤ t / 8 → RuleOf t (rule_in t)
-unfolding rule_number
-right_far t h =
-    let z : 0 / 2 ^ (6 * (t % 8)) % 64 ≡ 0 = entry (λ k. 0 / 2 ^ (6 * k) % 64) (λ k. 0) 8 refl (t % 8) (omega arith) in
-    rw (word_past 113 rule_words refl (t / 8) h) (z ∙ sym (ap rule_number (unlisted_past t (omega arith))), omega (arith, z))
+either : (a b : Bool) (X : Type 0) → (a ≡ true → X) → (b ≡ true → X) → pick a true b ≡ true → X
+either true b X f g e = f refl
+either false b X f g e = g e
 
-right : (t : ℕ) (b : Bool) → leb 113 (t / 8) ≡ b → RuleOf t (rule_in t)
-right t true e = right_far t (leb-true 113 (t / 8) e)
-right t false e = let h = leb-false 113 (t / 8) e in right_near t (omega arith)
+in_rows : (lo hi t : ℕ) (rows : List Row) → covered lo hi rows ≡ true → lo ≤ t → t ≤ hi → lookup rows t ≡ lookup rows lo
+unfolding lookup
+in_rows lo hi t [] e l h = true_not e
+in_rows lo hi t (row from to c ∷ rows) e l h =
+    either (leb from lo && leb hi to) (ltb to lo && covered lo hi rows)
+    (pick (leb from t && leb t to) c (lookup rows t) ≡ pick (leb from lo && leb lo to) c (lookup rows lo))
+    (λ q. here lo hi t from to c (lookup rows t) (lookup rows lo) q l h)
+    (λ r. later lo hi t from to c (lookup rows t) (lookup rows lo) (covered lo hi rows) r l (λ s. in_rows lo hi t rows s l h)) e
 
-pub tag_rule : (t w : ℕ) → w ≡ word_at rule_words (t / 8) → RuleOf t (w / 2 ^ (6 * (t % 8)) % 64)
-tag_rule t w e = rw e (right t (leb 113 (t / 8)) refl)
+pub at_range : (lo hi t : ℕ) → covered lo hi table ≡ true → lo ≤ t → t ≤ hi → class_of t ≡ class_of lo
+unfolding class_of
+at_range lo hi t e l h = in_rows lo hi t table e l h
 
--- ---- the patterns of a rule
-pub pattern_last : (i : ℕ) → NoneBelow i 26 → last_pattern ≡ pattern_at i
-pattern_last i r = sym (get_or-eq_default pattern_words last_pattern {n = i} (past_all i 26 r))
+-- no row has a number from `lo` to `hi`
+abbrev pub clear : ℕ → ℕ → List Row → Bool
+clear lo hi [] = true
+clear lo hi (row from to c ∷ rows) = pick (ltb to lo) true (ltb hi from) && clear lo hi rows
 
--- the 32 bits of a rule
-abbrev row_at : ℕ → ℕ
-row_at k = get_or row_words (k / 2) 0 / 2 ^ (32 * (k % 2)) % 4294967296
+before : (a b : Bool) (c d : Class) → a ≡ false → pick (a && b) c d ≡ d
+before true b c d q = true_not (sym q)
+before false b c d q = refl
 
-abbrev row_packs : Rule → ℕ → Bool
-row_packs R x =
-    (packs R.pair (pattern_at (x % 256)) && packs R.first (pattern_at (x / 256 % 256)))
-    && (packs R.last (pattern_at (x / 65536 % 256)) && packs R.result (pattern_at (x / 16777216)))
+beside : (lo hi t from to : ℕ) (c d : Class) (b : Bool) → ltb to lo ≡ b → pick b true (ltb hi from) ≡ true → lo ≤ t → t ≤ hi
+    → pick (leb from t && leb t to) c d ≡ d
+beside lo hi t from to c d true q e l h = let i = ltb-true to lo q in skipped (leb from t) (leb t to) c d (lt-leb t to (omega arith))
+beside lo hi t from to c d false q e l h = let i = ltb-true hi from e in before (leb from t) (leb t to) c d (lt-leb from t (omega arith))
 
-row_packs_lem : (c : Class) → row_packs (rule_at c) (row_at (rule_number c)) ≡ true
-unfolding rule_number rule_at
-row_packs_lem literal_pred = refl
-row_packs_lem equality = refl
-row_packs_lem order = refl
-row_packs_lem membership = refl
-row_packs_lem inclusion = refl
-row_packs_lem binary_pred = refl
-row_packs_lem associative_pred = refl
-row_packs_lem negation = refl
-row_packs_lem quantified_pred = refl
-row_packs_lem finite = refl
-row_packs_lem partition = refl
-row_packs_lem identifier = refl
-row_packs_lem bound = refl
-row_packs_lem literal = refl
-row_packs_lem set_extension = refl
-row_packs_lem maplet = refl
-row_packs_lem relation_set = refl
-row_packs_lem set_minus = refl
-row_packs_lem cartesian = refl
-row_packs_lem direct_product = refl
-row_packs_lem parallel_product = refl
-row_packs_lem domain_restriction = refl
-row_packs_lem range_restriction = refl
-row_packs_lem up_to = refl
-row_packs_lem arithmetic = refl
-row_packs_lem function_image = refl
-row_packs_lem relational_image = refl
-row_packs_lem set_operation = refl
-row_packs_lem backward_composition = refl
-row_packs_lem forward_composition = refl
-row_packs_lem override = refl
-row_packs_lem sum = refl
-row_packs_lem integer_set = refl
-row_packs_lem bool_set = refl
-row_packs_lem truth_value = refl
-row_packs_lem integer_relation = refl
-row_packs_lem empty_set = refl
-row_packs_lem projection1 = refl
-row_packs_lem projection2 = refl
-row_packs_lem identity = refl
-row_packs_lem bool_expr = refl
-row_packs_lem cardinal = refl
-row_packs_lem powerset = refl
-row_packs_lem generalised = refl
-row_packs_lem domain = refl
-row_packs_lem range = refl
-row_packs_lem extremum = refl
-row_packs_lem converse = refl
-row_packs_lem unary_minus = refl
-row_packs_lem quantified_set = refl
-row_packs_lem comprehension = refl
-row_packs_lem unlisted = refl
+off_rows : (lo hi t : ℕ) (rows : List Row) → clear lo hi rows ≡ true → lo ≤ t → t ≤ hi → lookup rows t ≡ unlisted
+unfolding lookup
+off_rows lo hi t [] e l h = refl
+off_rows lo hi t (row from to c ∷ rows) e l h =
+    let p = both_true (pick (ltb to lo) true (ltb hi from)) (clear lo hi rows) e in
+    beside lo hi t from to c (lookup rows t) (ltb to lo) refl p.0 l h ∙ off_rows lo hi t rows p.1 l h
 
-row_of : (R : Rule) (x : ℕ) → row_packs R x ≡ true → RowOf R x
-row_of R x e =
-    let a = packs R.pair (pattern_at (x % 256)) in
-    let b = packs R.first (pattern_at (x / 256 % 256)) in
-    let c = packs R.last (pattern_at (x / 65536 % 256)) in
-    let d = packs R.result (pattern_at (x / 16777216)) in
-    let p = both_true (a && b) (c && d) e in
-    let q = both_true a b p.0 in
-    let r = both_true c d p.1 in
-    record { pair = q.0; first = q.1; last = r.0; result = r.1 }
+pub off_table : (lo hi t : ℕ) → clear lo hi table ≡ true → lo ≤ t → t ≤ hi → class_of t ≡ unlisted
+unfolding class_of
+off_table lo hi t e l h = off_rows lo hi t table e l h
 
-pub rule_row : (c : Class) (r w : ℕ) → r ≡ rule_number c → w ≡ get_or row_words (r / 2) 0 → RowOf (rule_at c) (w / 2 ^ (32 * (r % 2)) % 4294967296)
-rule_row c r w e ew = rw ew (rw e (row_of (rule_at c) (row_at (rule_number c)) (row_packs_lem c)))
+-- so each tag of a range has one rule, and one that is in no row has that of the unlisted
+pub rule_on : (lo hi t : ℕ) {r : Rule} → covered lo hi table ≡ true → r ≡ rule_at (class_of lo) → lo ≤ t → t ≤ hi → r ≡ rule_at (class_of t)
+rule_on lo hi t e q l h = q ∙ sym (ap rule_at (at_range lo hi t e l h))
 
--- the words that the code finds by it
-module _ {R : Rule} {x : ℕ} (row : RowOf R x) (p : ℕ) where
-  pub pair_packed : p ≡ pattern_at (x % 256) → Packed R.pair p
-  pair_packed e = subst (Packed R.pair) (sym e) row.pair
+pub rule_off : (lo hi t : ℕ) {r : Rule} → clear lo hi table ≡ true → r ≡ rule_at unlisted → lo ≤ t → t ≤ hi → r ≡ rule_at (class_of t)
+rule_off lo hi t e q l h = q ∙ sym (ap rule_at (off_table lo hi t e l h))
 
-  pub first_packed : p ≡ pattern_at (x / 256 % 256) → Packed R.first p
-  first_packed e = subst (Packed R.first) (sym e) row.first
-
-  pub last_packed : p ≡ pattern_at (x / 65536 % 256) → Packed R.last p
-  last_packed e = subst (Packed R.last) (sym e) row.last
-
-  pub result_packed : p ≡ pattern_at (x / 16777216) → Packed R.result p
-  result_packed e = subst (Packed R.result) (sym e) row.result
+pub rule_past : (t : ℕ) {r : Rule} → r ≡ rule_at unlisted → 901 < t → r ≡ rule_at (class_of t)
+rule_past t q h = q ∙ sym (ap rule_at (unlisted_past t h))

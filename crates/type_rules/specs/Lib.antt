@@ -1,2 +1,2 @@
+pub mod CodeRules
 pub mod Patterns
-pub mod RuleNumbers

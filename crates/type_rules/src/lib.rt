@@ -1,128 +1,248 @@
-// Typing rules as tables (specs/Patterns.antt): the rule of a tag, the patterns of a rule, the symbols of a pattern.
-// A constant array is laid out anew where it is read, so a table is a few words chosen by a match: its entries stand in a word one
-// after the other, the first in the lowest bits. A pattern is a word too, four bits a symbol.
+// Typing rules as patterns (specs/Patterns.antt): the rule of a tag, and where a node without operands has its type from.
 #![tactic(auto)]
 
-ghost use Rattle.std.specs.Prelude.{◌≡◌, ◌<◌, get_or};
+ghost use Rattle.std.specs.Prelude.{◌≡◌, ◌≤◌, []};
 ghost use Rattle.frame.specs.Tags.{class_of};
-ghost use Rattle.tags.specs.TagCodes.{word_at};
-ghost use Rattle.type_rules.specs.Patterns.{rule_at};
-ghost use Rattle.type_rules.specs.RuleNumbers.{rule_number, rule_words, row_words, pattern_words, last_pattern, RowOf};
+ghost use Rattle.type_rules.specs.Patterns.{rule, alike_pair, rule_at};
+ghost use Rattle.type_rules.specs.CodeRules.{number, numbers, variable_at, rule_for, own_at};
 
-// The rules of eight tags in a row, six bits each; most eights have no tag that is listed, and the word 0.
-fn rule_word(i: usize) -> usize
-    ensures { result ≡ word_at rule_words i }
-{
-    match i {
-        0 => 0x491180040,
-        12 => 0x248200000000,
-        13 => 0x2cb2ca289249,
-        14 => 0xb,
-        25 => 0x5145145144c0,
-        26 => 0x5d6554514514,
-        27 => 0x71c6da699658,
-        28 => 0x79d71c,
-        31 => 0xc300000,
-        37 => 0x81f7c0000000,
-        38 => 0x8e38a1,
-        43 => 0x340000000000,
-        44 => 0xd,
-        50 => 0x871e5924900,
-        51 => 0x51039a6,
-        75 => 0x380,
-        76 => 0x1c7000,
-        77 => 0xf000000,
-        87 => 0x380000000,
-        93 => 0x9c0000000000,
-        94 => 0xaeaa69a28,
-        95 => 0x2eb6cb00,
-        100 => 0xc2fbc0,
-        106 => 0xe380000,
-        112 => 0x400000000,
-        _ => 0,
+use crate::Symbol::{Alpha, Beta, Bool, Delta, Gamma, Integers, Power, Product};
+
+// A symbol of a pattern: the first byte of a type, or a variable.
+#[derive(Clone, Copy, Debug, PartialEq, Eq)]
+pub enum Symbol {
+    Bool = 0,
+    Integers = 1,
+    Power = 3,
+    Product = 4,
+    Alpha = 5,
+    Beta = 6,
+    Gamma = 7,
+    Delta = 8,
+}
+
+impl Symbol {
+    // The byte that a type begins with where the symbol is no variable; the numbers of variables begin no type.
+    pub fn byte(self) -> u8
+        ensures { result ≡ number self }
+    {
+        self as u8
+    }
+
+    // Which variable it is: they are bound in this order.
+    pub fn variable(self) -> Option<usize>
+        ensures { result ≡ variable_at self }
+    {
+        match self {
+            Alpha => Some(0),
+            Beta => Some(1),
+            Gamma => Some(2),
+            Delta => Some(3),
+            _ => None,
+        }
     }
 }
 
-// The number of the rule of a tag. The rules 1 to 5 are those of nodes that carry their type, 6 that of a bound identifier.
-pub fn rule_of(tag: usize) -> usize
-    ensures { (result ≡ rule_number (class_of tag)) × (result < 49) }
-{
-    (rule_word(tag / 8) >> (6 * (tag % 8))) % 64
+// A rule: each two operands in a row match `pair`, the first operand matches `first` and the last one `last`, with the same
+// variables; the node's type is `result`.
+#[derive(Clone, Copy, Debug, PartialEq, Eq)]
+pub struct Rule {
+    pub pair: &'static [Symbol],
+    pub first: &'static [Symbol],
+    pub last: &'static [Symbol],
+    pub result: &'static [Symbol],
 }
 
-// Two rules to a word, 32 bits each: the numbers of a rule's four patterns (two operands in a row, the first, the last, the result).
-fn row_word(i: usize) -> usize
-    requires { i < 25 }
-    ensures { result ≡ get_or row_words i 0 }
+// ℙ(α), ℙ(α × β), and the types of prj1, prj2 and id.
+const SET: &[Symbol] = &[Power, Alpha];
+
+const RELATION: &[Symbol] = &[Power, Product, Alpha, Beta];
+
+const FIRST_PROJECTION: &[Symbol] = &[Power, Product, Product, Alpha, Beta, Alpha];
+
+const SECOND_PROJECTION: &[Symbol] = &[Power, Product, Product, Alpha, Beta, Beta];
+
+const IDENTITY: &[Symbol] = &[Power, Product, Alpha, Alpha];
+
+// Where a node without operands has its type from: it carries it, or its binder does.
+#[derive(Clone, Copy, Debug, PartialEq, Eq)]
+pub enum Own {
+    Carried,
+    Bound,
+}
+
+// The rule for no operand.
+fn constant(outcome: &'static [Symbol]) -> Rule
+    ensures { rule_for result ≡ rule [] [] [] (numbers outcome.now) }
 {
-    match i {
-        0 => 0x300030001000000,
-        1 => 0x1500150007000700,
-        2 => 0xd000d0016001600,
-        3 => 0x100000003000300,
-        4 => 0x102020001030300,
-        5 => 0x107070001070300,
-        6 => 0x100010901010100,
-        7 => 0x100070001000100,
-        8 => 0x200000001000709,
-        9 => 0xb04030007000309,
-        10 => 0x707070014080700,
-        11 => 0x170f0e000e080700,
-        12 => 0xe0e070018130e00,
-        13 => 0x60202000e080e00,
-        14 => 0x4030e0002020200,
-        15 => 0x700070908070e00,
-        16 => 0x10130e1912130e1a,
-        17 => 0x20002090e000e09,
-        18 => 0x500000006000000,
-        19 => 0x20007000c000000,
-        20 => 0x7000a000a000700,
-        21 => 0x8000e0007000e00,
-        22 => 0x11000e0002000600,
-        23 => 0x707010002000200,
-        _ => 0x7030100,
+    unary(&[], outcome)
+}
+
+// The rule for one operand.
+fn unary(first: &'static [Symbol], outcome: &'static [Symbol]) -> Rule
+    ensures { rule_for result ≡ rule [] (numbers first.now) [] (numbers outcome.now) }
+{
+    binary(first, &[], outcome)
+}
+
+// The rule for two operands.
+fn binary(first: &'static [Symbol], last: &'static [Symbol], outcome: &'static [Symbol]) -> Rule
+    ensures { rule_for result ≡ rule [] (numbers first.now) (numbers last.now) (numbers outcome.now) }
+{
+    Rule {
+        pair: &[],
+        first,
+        last,
+        result: outcome,
     }
 }
 
-// The patterns of the rule of a tag: their four numbers, a byte each.
-pub fn rule_row(tag: usize) -> usize
-    ensures { RowOf (rule_at (class_of tag)) result }
+// The rule for one or more operands of one type.
+fn uniform(first: &'static [Symbol], outcome: &'static [Symbol]) -> Rule
+    ensures { rule_for result ≡ rule alike_pair (numbers first.now) [] (numbers outcome.now) }
 {
-    let rule = rule_of(tag);
-    (row_word(rule / 2) >> (32 * (rule % 2))) % 4294967296
+    Rule {
+        pair: &[Alpha, Alpha],
+        first,
+        last: &[],
+        result: outcome,
+    }
 }
 
-// The patterns by number: the symbols from the lowest bits on, and the end.
-pub fn pattern(i: usize) -> usize
-    ensures { result ≡ get_or pattern_words i last_pattern }
+// The rules of ↦, of ↔ and the arrows, and of the operators from ∖ to r[S].
+fn binary_rule(tag: usize) -> Rule
+    requires least { 201 ≤ tag }
+    requires most { tag ≤ 227 }
+    ensures { rule_for result ≡ rule_at (class_of tag) }
 {
-    match i {
-        0 => 0x2,
-        1 => 0x20,
-        2 => 0x21,
-        3 => 0x25,
-        4 => 0x26,
-        5 => 0x203,
-        6 => 0x213,
-        7 => 0x253,
-        8 => 0x263,
-        9 => 0x255,
-        10 => 0x2533,
-        11 => 0x2654,
-        12 => 0x21143,
-        13 => 0x25543,
-        14 => 0x26543,
-        15 => 0x27543,
-        16 => 0x28543,
-        17 => 0x25643,
-        18 => 0x26743,
-        19 => 0x28743,
-        20 => 0x265433,
-        21 => 0x2565443,
-        22 => 0x2665443,
-        23 => 0x2764543,
-        24 => 0x286475443,
-        25 => 0x276436543,
-        _ => 0x257436543,
+    match tag {
+        201 => binary(&[Alpha], &[Beta], &[Product, Alpha, Beta]),
+        202..=212 => binary(SET, &[Power, Beta], &[Power, Power, Product, Alpha, Beta]),
+        213 => binary(SET, SET, SET),
+        214 => binary(SET, &[Power, Beta], RELATION),
+        215 => binary(
+            RELATION,
+            &[Power, Product, Alpha, Gamma],
+            &[Power, Product, Alpha, Product, Beta, Gamma],
+        ),
+        216 => binary(
+            RELATION,
+            &[Power, Product, Gamma, Delta],
+            &[Power, Product, Product, Alpha, Gamma, Product, Beta, Delta],
+        ),
+        217..=218 => binary(SET, RELATION, RELATION),
+        219..=220 => binary(RELATION, &[Power, Beta], RELATION),
+        221 => binary(&[Integers], &[Integers], &[Power, Integers]),
+        222..=225 => binary(&[Integers], &[Integers], &[Integers]),
+        226 => binary(RELATION, &[Alpha], &[Beta]),
+        _ => binary(RELATION, SET, &[Power, Beta]),
+    }
+}
+
+// The rules of ∪ ∩ ∘ ; <+ + ∗.
+fn associative_rule(tag: usize) -> Rule
+    requires least { 301 ≤ tag }
+    requires most { tag ≤ 307 }
+    ensures { rule_for result ≡ rule_at (class_of tag) }
+{
+    match tag {
+        301..=302 => uniform(SET, SET),
+        303 => Rule {
+            pair: &[Power, Product, Alpha, Beta, Power, Product, Gamma, Alpha],
+            first: RELATION,
+            last: &[Power, Product, Gamma, Delta],
+            result: &[Power, Product, Gamma, Beta],
+        },
+        304 => Rule {
+            pair: &[Power, Product, Alpha, Beta, Power, Product, Beta, Gamma],
+            first: RELATION,
+            last: &[Power, Product, Gamma, Delta],
+            result: &[Power, Product, Alpha, Delta],
+        },
+        305 => uniform(RELATION, RELATION),
+        _ => uniform(&[Integers], &[Integers]),
+    }
+}
+
+// The rules of ℤ ℕ ℕ1, BOOL, TRUE FALSE, ∅, pred succ, prj1, prj2 and id. Those that carry their type have it for an operand.
+fn atomic_rule(tag: usize) -> Rule
+    requires least { 401 ≤ tag }
+    requires most { tag ≤ 412 }
+    ensures { rule_for result ≡ rule_at (class_of tag) }
+{
+    match tag {
+        401..=403 => constant(&[Power, Integers]),
+        404 => constant(&[Power, Bool]),
+        405..=406 => constant(&[Bool]),
+        407 => unary(SET, SET),
+        408..=409 => constant(&[Power, Product, Integers, Integers]),
+        410 => unary(FIRST_PROJECTION, FIRST_PROJECTION),
+        411 => unary(SECOND_PROJECTION, SECOND_PROJECTION),
+        _ => unary(IDENTITY, IDENTITY),
+    }
+}
+
+// The rules of card, ℙ ℙ1, union inter, dom, ran, min max, ∼ and −.
+fn unary_rule(tag: usize) -> Rule
+    requires least { 751 ≤ tag }
+    requires most { tag ≤ 764 }
+    ensures { rule_for result ≡ rule_at (class_of tag) }
+{
+    match tag {
+        751 => unary(SET, &[Integers]),
+        752..=753 => unary(SET, &[Power, Power, Alpha]),
+        754..=755 => unary(&[Power, Power, Alpha], SET),
+        756 => unary(RELATION, SET),
+        757 => unary(RELATION, &[Power, Beta]),
+        761..=762 => unary(&[Power, Integers], &[Integers]),
+        763 => unary(RELATION, &[Power, Product, Beta, Alpha]),
+        764 => unary(&[Integers], &[Integers]),
+        _ => constant(&[Bool]),
+    }
+}
+
+// The rule of a tag. BOOL stands for the type of a predicate, and for that of a tag that is not listed.
+pub fn rule_of(tag: usize) -> Rule
+    ensures { rule_for result ≡ rule_at (class_of tag) }
+{
+    match tag {
+        1 => unary(&[Alpha], &[Alpha]),
+        3 => unary(&[Alpha], &[Alpha]),
+        4 => constant(&[Integers]),
+        5 => uniform(&[Alpha], SET),
+        101..=102 => binary(&[Alpha], &[Alpha], &[Bool]),
+        103..=106 => binary(&[Integers], &[Integers], &[Bool]),
+        107..=108 => binary(&[Alpha], SET, &[Bool]),
+        109..=112 => binary(SET, SET, &[Bool]),
+        201..=227 => binary_rule(tag),
+        251..=252 => binary(&[Bool], &[Bool], &[Bool]),
+        301..=307 => associative_rule(tag),
+        351..=352 => uniform(&[Bool], &[Bool]),
+        401..=412 => atomic_rule(tag),
+        601 => unary(&[Bool], &[Bool]),
+        610..=611 => constant(&[Bool]),
+        620 => unary(SET, &[Bool]),
+        701 => unary(&[Bool], &[Bool]),
+        751..=764 => unary_rule(tag),
+        801..=802 => binary(&[Bool], SET, SET),
+        803 => binary(&[Bool], &[Alpha], SET),
+        851..=852 => unary(&[Bool], &[Bool]),
+        901 => uniform(SET, &[Bool]),
+        _ => constant(&[Bool]),
+    }
+}
+
+// Where a node of a tag has its type from, where it has it from itself.
+pub fn own_of(tag: usize) -> Option<Own>
+    ensures { result ≡ own_at (class_of tag) }
+{
+    match tag {
+        1 => Some(Own::Carried),
+        3 => Some(Own::Bound),
+        407 => Some(Own::Carried),
+        410 => Some(Own::Carried),
+        411 => Some(Own::Carried),
+        412 => Some(Own::Carried),
+        _ => None,
     }
 }

@@ -3,7 +3,6 @@
 use mathlib.Core.Path.{◌≡◌, refl, ap, ◌∙◌}
 use mathlib.Core.List.{List, []}
 use Prim.Native.Nat.{ℕ, ◌≤◌}
-use native.Mathlib.Omega.{arith}
 use lib.ListN.{length}
 use Rattle.frame.specs.Types.{Ty}
 use Rattle.frame.specs.Trees.{Tree}
@@ -18,7 +17,7 @@ use Rattle.typing.specs.Check.{accepted, refused, check_parsed, check}
 use Rattle.typing.proofs.Decides.{check_accepted, accepted_check, accepted_wf}
 
 pub refused_not {ℓ} : {X : Type ℓ} (c : ℕ) (t : Tree) → refused c ≡ accepted t → X
-refused_not c t e = let z : ◌≡◌ {A = ℕ} 0 1 = cc in absurd (omega arith)
+refused_not c t e = cc
 
 pub record Accepts (s : List ℕ) (t : Tree) : Type 0 where
   pub bytes : enc t ≡ s

@@ -4,7 +4,6 @@ use mathlib.Core.Path.{◌≡◌, refl}
 use mathlib.Core.Bool.{Bool, true, false, ◌&&◌}
 use mathlib.Core.List.{List, [], ◌∷◌}
 use Prim.Native.Nat.{ℕ, ◌≤◌}
-use native.Mathlib.Omega.{arith}
 use lib.ListN.{length}
 use lib.Dec.{leb}
 use borrow.Author.Tests.{leb-true, le-leb}
@@ -163,9 +162,9 @@ module _ (σ : ℕ → Ty) where
 passed : (a b c : Bool) (t u : Tree) → pick a (pick b (pick c (accepted t) (refused 10)) (refused 9)) (refused 8) ≡ accepted u
     → (u ≡ t) × (a ≡ true) × (b ≡ true) × (c ≡ true)
 passed true true true t u h = (cc, refl, refl, refl)
-passed true true false t u h = let z : ◌≡◌ {A = ℕ} 0 1 = cc in absurd (omega arith)
-passed true false c t u h = let z : ◌≡◌ {A = ℕ} 0 1 = cc in absurd (omega arith)
-passed false b c t u h = let z : ◌≡◌ {A = ℕ} 0 1 = cc in absurd (omega arith)
+passed true true false t u h = cc
+passed true false c t u h = cc
+passed false b c t u h = cc
 
 pub check_accepted : (t u : Tree) → Wf t predicate → check_tree t ≡ accepted u → (u ≡ t) × Accepted (signature t) t [] predicate
 unfolding check_tree

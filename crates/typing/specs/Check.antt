@@ -1,13 +1,13 @@
 -- A frame checked: numbers 2 to 10 in their order (document 01, "Numbers of what is turned down, in checking order").
-use Rattle.std.specs.Prelude.{ℕ, List, []}
+use Rattle.std.specs.Prelude.{ℕ, List, [], Result, Ok, Err}
+use Rattle.frame.specs.declared.refusals.Refusal.{Refusal}
+use Rattle.frame.specs.Refusals.{refusal}
 use Rattle.frame.specs.Trees.{Tree, nodes}
 use Rattle.frame.specs.Tags.{pick}
 use Rattle.frame.specs.Reading.{Parsed, tree, bad, parse}
 use Rattle.typing.specs.Typing.{typed_tree}
 use Rattle.typing.specs.Binding.{closed_tree}
 use Rattle.typing.specs.Identifiers.{names_agree}
-use Rattle.typing.specs.declared.CheckAnswer.{CheckAnswer}
-use Rattle.typing.specs.declared.CheckAnswer.TheVariants as A
 
 pub data Checked : Type 0 where
   accepted : Tree → Checked
@@ -29,6 +29,6 @@ check s = check_parsed (parse s)
 -- definition." The contract of the entry `check` is an equation with it: "The contract of each entry gives answer, count and every
 -- byte of the output afterwards, refusals too"; the answer has the number of nodes, and there is no output here. "No entry is left
 -- with a contract that says nothing of what it gives."
-abbrev pub check_answer : Checked → CheckAnswer
-check_answer (accepted t) = A.Accepted (nodes t)
-check_answer (refused n) = A.Refused n
+abbrev pub check_answer : Checked → Result ℕ Refusal
+check_answer (accepted t) = Ok (nodes t)
+check_answer (refused n) = Err (refusal n)

@@ -1,19 +1,18 @@
 -- The frames of steps and runs are within the limit, so that their lengths have room beside a word.
 -- Main results: step_short, run_short.
-use mathlib.Core.Path.{◌≡◌, refl, sym, subst}
-use mathlib.Core.List.{List}
-use Prim.Native.Nat.{ℕ}
+use Rattle.std.proofs.Common.{◌≡◌, ℕ, List, Result, refl, sym, subst}
+use Rattle.frame.specs.declared.refusals.Refusal.{Refusal}
 use Rattle.frame.specs.Spans.{Bytes}
 use Rattle.step.specs.Step.{Outcome, wrote, kept, turned_down, step, step_answer}
-use Rattle.step.specs.declared.StepAnswer.{StepAnswer}
+use Rattle.step.specs.declared.Step.{Step}
 use Rattle.step.proofs.Steps.{step_wrote}
 use Rattle.run.specs.Run as R
-use Rattle.run.specs.Run.{REST, SPENT, FULL, RunOutcome, ended, run, run_answer}
-use Rattle.run.specs.declared.RunAnswer.{RunAnswer}
+use Rattle.run.specs.Run.{RunOutcome, ended, run, run_answer}
+use Rattle.run.specs.declared.Run.{Run}
 use Rattle.run.proofs.Sizes.{run_small}
 use Rattle.words.specs.Posts.{ShortStep, ShortRun}
 
-pub step_short : (s : List ℕ) → Bytes s → (k c : ℕ) (a : StepAnswer) → a ≡ step_answer (step s k c) → ShortStep a
+pub step_short : (s : List ℕ) → Bytes s → (k c : ℕ) (a : Result Step Refusal) → a ≡ step_answer (step s k c) → ShortStep a
 step_short s b k c a e = subst ShortStep (sym e) (go (step s k c) refl)
   where
     go : (x : Outcome) → step s k c ≡ x → ShortStep (step_answer x)
@@ -21,11 +20,9 @@ step_short s b k c a e = subst ShortStep (sym e) (go (step s k c) refl)
     go kept h = tt
     go (turned_down n) h = tt
 
-pub run_short : (s : List ℕ) → Bytes s → (budget c : ℕ) (a : RunAnswer) → a ≡ run_answer (run s budget c) → ShortRun a
+pub run_short : (s : List ℕ) → Bytes s → (budget c : ℕ) (a : Result Run Refusal) → a ≡ run_answer (run s budget c) → ShortRun a
 run_short s b budget c a e = subst ShortRun (sym e) (go (run s budget c) refl)
   where
     go : (x : RunOutcome) → run s budget c ≡ x → ShortRun (run_answer x)
-    go (ended REST n xs) h = (run_small s b budget c REST n xs h).1
-    go (ended SPENT n xs) h = (run_small s b budget c SPENT n xs h).1
-    go (ended FULL n xs) h = (run_small s b budget c FULL n xs h).1
+    go (ended w n xs) h = (run_small s b budget c w n xs h).1
     go (R.turned_down n) h = tt

@@ -1,28 +1,52 @@
--- The answers of the static library: one number of 64 bits for each case of an answer's enum. include/lustrejasper.h says the
--- same in C. "Where an answer is an enum, a definition gives this paper's number and values for each case of the enum. The promises
--- use that definition."
-use Rattle.std.specs.Prelude.{ℕ, ◌+◌, ◌*◌, ◌^◌}
-use Rattle.typing.specs.declared.CheckAnswer.{CheckAnswer}
-use Rattle.typing.specs.declared.CheckAnswer.TheVariants as C
-use Rattle.step.specs.declared.StepAnswer.{StepAnswer}
-use Rattle.step.specs.declared.StepAnswer.TheVariants as S
-use Rattle.run.specs.declared.RunAnswer.{RunAnswer}
-use Rattle.run.specs.declared.RunAnswer.TheVariants as R
+-- The answers of the static library: one number of 64 bits for each answer. include/lustrejasper.h says the same in C. "Where an answer is
+-- an enum, a definition gives this paper's number and values for each case of the enum. The promises use that definition."
+use Rattle.std.specs.Prelude.{ℕ, ◌+◌, ◌*◌, ◌^◌, length, Result, Ok, Err}
+use Rattle.frame.specs.declared.refusals.Refusal.{Refusal}
+use Rattle.frame.specs.Refusals.{number}
+use Rattle.typing.specs.Check.{Checked, accepted, refused}
+use Rattle.step.specs.Step.{Outcome, wrote, kept, turned_down}
+use Rattle.step.specs.declared.Step.{Step}
+use Rattle.step.specs.declared.Step.TheVariants.{Changed, Unchanged}
+use Rattle.run.specs.Run.{Word, REST, SPENT, FULL, RunOutcome, ended}
+use Rattle.run.specs.Run as R
+use Rattle.run.specs.declared.Ending.{Ending}
+use Rattle.run.specs.declared.Ending.TheVariants.{Rest, Spent, Full}
+use Rattle.run.specs.declared.Run.{Run}
 
+-- ---- of what the definitions give
 -- 0 for a frame that is accepted, else the number
-abbrev pub check_word : CheckAnswer → ℕ
-check_word (C.Accepted n) = 0
-check_word (C.Refused c) = c
+abbrev pub check_word : Checked → ℕ
+check_word (accepted t) = 0
+check_word (refused n) = n
 
 -- 65,536 × word + value: 0 unchanged; 1 changed, and the length; 2 refused, and the number
-abbrev pub step_word : StepAnswer → ℕ
-step_word S.Unchanged = 0
-step_word (S.Changed n) = 65536 + n
-step_word (S.Refused c) = 131072 + c
+abbrev pub step_word : Outcome → ℕ
+step_word kept = 0
+step_word (wrote xs) = 65536 + length xs
+step_word (turned_down n) = 131072 + n
 
 -- 2^48 × word + 2^32 × length + count: 1 REST, 2 SPENT, 3 FULL; 4 refused, with length 0 and the number for the count
-abbrev pub run_word : RunAnswer → ℕ
-run_word (R.Rest n l) = 2 ^ 48 + 2 ^ 32 * l + n
-run_word (R.Spent n l) = 2 * 2 ^ 48 + 2 ^ 32 * l + n
-run_word (R.Full n l) = 3 * 2 ^ 48 + 2 ^ 32 * l + n
-run_word (R.Refused c) = 4 * 2 ^ 48 + c
+abbrev pub run_word : RunOutcome → ℕ
+run_word (ended REST n xs) = 2 ^ 48 + 2 ^ 32 * length xs + n
+run_word (ended SPENT n xs) = 2 * 2 ^ 48 + 2 ^ 32 * length xs + n
+run_word (ended FULL n xs) = 3 * 2 ^ 48 + 2 ^ 32 * length xs + n
+run_word (R.turned_down c) = 4 * 2 ^ 48 + c
+
+-- ---- of the code's answers
+abbrev pub check_answer_word : Result ℕ Refusal → ℕ
+check_answer_word (Ok n) = 0
+check_answer_word (Err r) = number r
+
+abbrev pub step_answer_word : Result Step Refusal → ℕ
+step_answer_word (Ok Unchanged) = 0
+step_answer_word (Ok (Changed n)) = 65536 + n
+step_answer_word (Err r) = 131072 + number r
+
+abbrev pub number_of_ending : Ending → ℕ
+number_of_ending Rest = 2 ^ 48
+number_of_ending Spent = 2 * 2 ^ 48
+number_of_ending Full = 3 * 2 ^ 48
+
+abbrev pub run_answer_word : Result Run Refusal → ℕ
+run_answer_word (Ok r) = number_of_ending r.ending + 2 ^ 32 * r.length + r.steps
+run_answer_word (Err r) = 4 * 2 ^ 48 + number r

@@ -1,13 +1,13 @@
 // The answers of the static library: one number of 64 bits for each answer.
 #![tactic(auto)]
 
-ghost use Rattle.std.specs.Prelude.{◌≡◌, ◌+◌, ◌*◌, ◌^◌, ◌≤◌};
-ghost use Rattle.words.specs.Words.{check_word, step_word, run_word};
+ghost use Rattle.std.specs.Prelude.{◌≡◌};
+ghost use Rattle.words.specs.Words.{check_answer_word, step_answer_word, run_answer_word, number_of_ending};
 ghost use Rattle.words.specs.Posts.{ShortStep, ShortRun};
 
-use run::RunAnswer;
-use step::StepAnswer;
-use typing::CheckAnswer;
+use frame::refusals::Refusal;
+use run::{Ending, Run};
+use step::Step;
 
 // The words of an answer.
 const CHANGED: u64 = 0x10000;
@@ -22,42 +22,42 @@ const FULL: u64 = 0x3000000000000;
 
 const RUN_REFUSED: u64 = 0x4000000000000;
 
-pub fn check_word(a: CheckAnswer) -> u64
-    ensures { result ≡ check_word a }
+pub fn check_word(answer: Result<usize, Refusal>) -> u64
+    ensures { result ≡ check_answer_word answer }
 {
-    match a {
-        CheckAnswer::Accepted(_n) => 0,
-        CheckAnswer::Refused(c) => c as u64,
+    match answer {
+        Ok(_nodes) => 0,
+        Err(refusal) => u64::from(u8::from(refusal)),
     }
 }
 
-pub fn step_word(a: StepAnswer) -> u64
-    requires { ShortStep a }
-    ensures { result ≡ step_word a }
+pub fn step_word(answer: Result<Step, Refusal>) -> u64
+    requires { ShortStep answer }
+    ensures { result ≡ step_answer_word answer }
 {
-    match a {
-        StepAnswer::Unchanged => 0,
-        StepAnswer::Changed(n) => CHANGED + n as u64,
-        StepAnswer::Refused(c) => STEP_REFUSED + c as u64,
+    match answer {
+        Ok(Step::Unchanged) => 0,
+        Ok(Step::Changed(length)) => CHANGED + length as u64,
+        Err(refusal) => STEP_REFUSED + u64::from(u8::from(refusal)),
     }
 }
 
-// The length and the count beside a word.
-fn ended_word(word: u64, count: u32, n: usize) -> u64
-    requires { (word ≤ 3 * 2 ^ 48) × (n ≤ 4096) }
-    ensures { result ≡ word + 2 ^ 32 * n + count }
+fn ending_word(ending: Ending) -> u64
+    ensures { result ≡ number_of_ending ending }
 {
-    word + 0x100000000 * n as u64 + count as u64
+    match ending {
+        Ending::Rest => REST,
+        Ending::Spent => SPENT,
+        Ending::Full => FULL,
+    }
 }
 
-pub fn run_word(a: RunAnswer) -> u64
-    requires { ShortRun a }
-    ensures { result ≡ run_word a }
+pub fn run_word(answer: Result<Run, Refusal>) -> u64
+    requires { ShortRun answer }
+    ensures { result ≡ run_answer_word answer }
 {
-    match a {
-        RunAnswer::Rest(count, n) => ended_word(REST, count, n),
-        RunAnswer::Spent(count, n) => ended_word(SPENT, count, n),
-        RunAnswer::Full(count, n) => ended_word(FULL, count, n),
-        RunAnswer::Refused(c) => RUN_REFUSED + c as u64,
+    match answer {
+        Ok(run) => ending_word(run.ending) + ((run.length as u64) << 32) + u64::from(run.steps),
+        Err(refusal) => RUN_REFUSED + u64::from(u8::from(refusal)),
     }
 }

@@ -1,6 +1,5 @@
-use lib.ListN.{length}
+use Rattle.std.proofs.Common.{◌-◌, length}
 use Rattle.binding.proofs.BoundRows.{Going}
-use Prim.Native.Nat.{◌-◌}
 use Rattle.binding.proofs.+bind_trees.Given as goal
 
 abbrev pub decreases-bind_trees : goal.decreases-bind_trees

@@ -1,23 +1,14 @@
-use Rattle.build.proofs.SubtreeTurns.{joint_small, each_placed, each_few, each_count, each_row, each_built}
-use native.Mathlib.Omega.{arith}
+use Rattle.build.proofs.SubtreeTurns.{joint_small, each_placed, each_count, each_row, each_built}
 use Rattle.build.proofs.build_each.Goals as goal
 
 pub arity_at-m-requires : goal.arity_at-m-requires
-arity_at-m-requires c = each_placed _ _ _ _ _ _ _ _ c.requires
+arity_at-m-requires c = each_placed _ _ _ _ c.requires
 
-pub put_many-q-requires : goal.put_many-q-requires
-put_many-q-requires c = (
-  joint_small c.args.place _ c.joint.ensures,
-  each_count _ _ _ _ _ _ _ _ _
-      c.arity_at-m.ensures c.requires,
-)
-
-pub overflow_add-c : goal.overflow_add-c
-overflow_add-c c = let z = each_few _ _ _ _ _ _ _ _ c.requires in omega arith
+pub put_many-requires : goal.put_many-requires
+put_many-requires c = (joint_small c.args.place _ c.joint.ensures, each_count _ _ _ _ _ c.arity_at-m.ensures c.requires)
 
 pub fill_row-requires : goal.fill_row-requires
-fill_row-requires c = each_row _ _ _ _ _ _ _ _ _ c.arity_at-m.ensures c.requires
+fill_row-requires c = each_row _ _ _ _ _ c.arity_at-m.ensures c.requires
 
 pub returns : goal.returns
-returns c = each_built _ _ _ _ _ _ _ _ _ c.arity_at-m.ensures _ _ _ c.joint.ensures _ _
-    c.put_many-q.ensures _ _ c.fill_row.ensures
+returns c = each_built _ _ _ _ _ c.arity_at-m.ensures _ _ c.joint.ensures _ c.put_many.ensures _ c.fill_row.ensures

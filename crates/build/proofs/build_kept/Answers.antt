@@ -1,14 +1,16 @@
+use mathlib.Core.Path.{ap}
+use lib.ListN.{length}
 use Rattle.build.proofs.SubtreeTurns.{kept_placed, kept_tag, kept_list, kept_built}
 use Rattle.build.proofs.build_kept.Goals as goal
 
 pub tag_at-tag-requires : goal.tag_at-tag-requires
-tag_at-tag-requires c = kept_placed _ _ _ _ _ _ _ _ c.requires
-
-pub put_many-q-requires : goal.put_many-q-requires
-put_many-q-requires c = kept_tag _ _ _ _ _ _ _ _ c.requires _ c.tag_at-tag.ensures
+tag_at-tag-requires c = kept_placed _ _ _ c.requires
 
 pub put_kept-requires : goal.put_kept-requires
-put_kept-requires c = kept_list _ _ _ _ _ _ _ _ c.requires
+put_kept-requires c = kept_list _ _ _ c.requires
+
+pub put_many-requires : goal.put_many-requires
+put_many-requires c = kept_tag _ _ c.args.places.now c.requires _ c.tag_at-tag.ensures _ (ap length c.as_slice.ensures)
 
 pub returns : goal.returns
-returns c = kept_built _ _ _ _ _ _ _ _ _ c.tag_at-tag.ensures _ _ _ _ c.put_many-q.ensures _ _ c.put_kept.ensures
+returns c = kept_built _ _ c.args.places.now _ c.tag_at-tag.ensures _ (ap length c.as_slice.ensures) _ _ c.put_many.ensures _ c.put_kept.ensures

@@ -1,31 +1,11 @@
-use native.Mathlib.Omega.{arith}
-use Rattle.claims.proofs.Noting.{entry_place, name_new, name_mark, name_place, type_room}
+use Rattle.claims.proofs.Noting.{name_new, name_mark, name_place, type_room}
 use Rattle.claims.proofs.note_identifier.Goals as goal
 
-pub overflow_add-table : goal.overflow_add-table
-overflow_add-table c = let l = type_room _ _ _ c.requires.2.fits c.requires.3 in omega arith
+pub returns-in-None : goal.returns-in-None
+returns-in-None c = let l = type_room _ _ _ c.requires.2.fits c.requires.3 in name_new _ _ _ _ _ c.requires.1 l.2 c.in-None.ensures
 
-pub overflow_cast-table : goal.overflow_cast-table
-overflow_cast-table c = let l = type_room _ _ _ c.requires.2.fits c.requires.3 in omega arith
+pub returns-in-Some-GivenSet : goal.returns-in-Some-GivenSet
+returns-in-Some-GivenSet c = name_mark _ _ _ _ _ (rw c.in-Some-GivenSet.field-0-is at c.in-Some-GivenSet.ensures) _ c.is_power.ensures
 
-pub returns-then-entry-eq0 : goal.returns-then-entry-eq0
-returns-then-entry-eq0 c = let l = type_room _ _ _ c.requires.2.fits c.requires.3 in name_new _ _ _ _ _ c.requires.1 l.2 c.if-entry-eq0.true
-
-pub is_power-requires : goal.is_power-requires
-is_power-requires c = let l = type_room _ _ _ c.requires.2.fits c.requires.3 in (omega arith, c.requires.2.fits, c.requires.0)
-
-pub returns-then-entry-eq-GIVEN : goal.returns-then-entry-eq-GIVEN
-returns-then-entry-eq-GIVEN c = name_mark _ _ _ _ _ c.requires.0 c.if-entry-eq-GIVEN.true _ c.is_power.ensures
-
-pub same_type-requires : goal.same_type-requires
-same_type-requires c = let l = type_room _ _ _ c.requires.2.fits c.requires.3 in (
-  l.0,
-  l.1,
-  (entry_place _ _ _ c.requires.2 c.if-entry-eq0.false c.if-entry-eq-GIVEN.false _
-      c.wide16.ensures.0).0,
-  c.requires.2.fits,
-)
-
-pub returns : goal.returns
-returns c = name_place _ _ _ _ _ c.requires.2 c.if-entry-eq0.false c.if-entry-eq-GIVEN.false _
-    c.wide16.ensures.0 _ c.same_type.ensures
+pub returns-in-Some-Identifier : goal.returns-in-Some-Identifier
+returns-in-Some-Identifier c = name_place _ _ _ _ _ c.requires.2 _ (rw c.in-Some-Identifier.field-0-is at c.in-Some-Identifier.ensures) _ c.same_type.ensures

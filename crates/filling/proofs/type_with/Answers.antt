@@ -1,22 +1,30 @@
-use Rattle.filling.proofs.Types.{work_kept}
 use native.Mathlib.Omega.{arith}
-use Rattle.filling.proofs.Types.{type_of_few, type_of_pre, copy_room, type_copied, type_refused}
+use lib.Seq.{length-take-le}
+use Rattle.filling.proofs.Types.{type_of_few, type_of_pre, work_kept, type_room, type_found, type_refused}
 use Rattle.filling.proofs.type_with.Goals as goal
 
-pub start_at-at-requires : goal.start_at-at-requires
-start_at-at-requires c = type_of_few _ _ _ _ _ _ c.requires.0
+pub start_at-requires : goal.start_at-requires
+start_at-requires c = type_of_few _ _ c.requires.0
 
-pub type_tree-a-requires : goal.type_tree-a-requires
-type_tree-a-requires c = type_of_pre _ _ _ _ _ _ c.requires.0 _ c.start_at-at.ensures.0 _ c.requires.1
+pub type_tree-requires : goal.type_tree-requires
+type_tree-requires c = type_of_pre _ _ c.requires.0 _ c.start_at.ensures.0 _ c.requires.1
 
-pub copy_in-requires : goal.copy_in-requires
-copy_in-requires c = copy_room _ _ _ _ _ _ c.requires.0 _ c.start_at-at.ensures.0 _ (work_kept _ _ _ _ _ _ (omega arith) c.requires.1) _
-    c.type_tree-a.ensures _ c.in-Is.is
+pub slice_bounds-of-end : goal.slice_bounds-of-end
+slice_bounds-of-end c = (type_room _ _ c.requires.0 _ c.start_at.ensures.0 _ (work_kept _ _ _ _ (omega arith) c.requires.1) _ c.type_tree.ensures _ c.in-Some.is).0
 
-pub returns-in-Is : goal.returns-in-Is
-returns-in-Is c = type_copied _ _ _ _ _ _ c.requires.0 _ c.start_at-at.ensures.0 _ (work_kept _ _ _ _ _ _ (omega arith) c.requires.1) _
-    c.type_tree-a.ensures _ c.in-Is.is _ c.copy_in.ensures
+pub slice_bounds-of-end-in-Some : goal.slice_bounds-of-end-in-Some
+slice_bounds-of-end-in-Some c =
+    let z = type_room _ _ c.requires.0 _ c.start_at.ensures.0 _ (work_kept _ _ _ _ (omega arith) c.requires.1) _ c.type_tree.ensures _ c.in-Some.is in
+    omega (arith, length-take-le _ _ z.0)
 
-pub returns-in-Bad : goal.returns-in-Bad
-returns-in-Bad c = type_refused _ _ _ _ _ _ c.requires.0 _ c.start_at-at.ensures.0 _ (work_kept _ _ _ _ _ _ (omega arith) c.requires.1) _
-    c.type_tree-a.ensures c.in-Bad.is
+pub of-requires : goal.of-requires
+of-requires c =
+    let z = type_room _ _ c.requires.0 _ c.start_at.ensures.0 _ (work_kept _ _ _ _ (omega arith) c.requires.1) _ c.type_tree.ensures _ c.in-Some.is in
+    omega (arith, length-take-le _ _ z.0)
+
+pub returns-in-Some : goal.returns-in-Some
+returns-in-Some c = type_found _ _ c.requires.0 _ c.start_at.ensures.0 _ (work_kept _ _ _ _ (omega arith) c.requires.1) _ c.type_tree.ensures _ c.in-Some.is _
+    c.of.ensures
+
+pub returns-in-None : goal.returns-in-None
+returns-in-None c = type_refused _ _ c.requires.0 _ c.start_at.ensures.0 _ (work_kept _ _ _ _ (omega arith) c.requires.1) _ c.type_tree.ensures c.in-None.is _

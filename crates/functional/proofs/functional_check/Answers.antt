@@ -1,13 +1,14 @@
-use Rattle.functional.proofs.RowTurns.{row_right, row_left, check_done}
 use native.Mathlib.Omega.{arith}
+use Rattle.std.proofs.Common.{rules}
+use Rattle.functional.proofs.RowTurns.{right_tree, left_tree, check_done}
 use Rattle.functional.proofs.functional_check.Goals as goal
 
-pub named_in-used-requires : goal.named_in-used-requires
-named_in-used-requires c = (row_right _ _ _ _ _ c.requires.0, omega arith, c.requires.1)
+pub named_at-used-requires-clause-tree : goal.named_at-used-requires-clause-tree
+named_at-used-requires-clause-tree c = right_tree _ _ _ _ _ c.requires.0
 
-pub named_in-recovered-requires : goal.named_in-recovered-requires
-named_in-recovered-requires c = (row_left _ _ _ _ _ c.requires.0, omega arith, c.requires.1)
+pub named_at-recovered-requires-clause-tree : goal.named_at-recovered-requires-clause-tree
+named_at-recovered-requires-clause-tree c = left_tree _ _ _ _ _ c.requires.0
 
 pub returns : goal.returns
-returns c = check_done _ _ _ _ _ _ _ _ c.named_in-used.ensures c.named_in-recovered.ensures c.requires.1
-    (omega arith) (omega arith)
+returns c = check_done _ _ _ _ _ _ _ (λ g e k. search rules) (λ g e k. search rules) _ _ _ c.named_at-used.ensures c.named_at-recovered.ensures
+    c.requires.1 (omega arith) (omega arith)

@@ -1,68 +1,32 @@
 use native.Mathlib.Omega.{arith}
-use Rattle.identifiers.proofs.NotingNodes.{seen, left_tag, left_room, left_types, own_asks, node_beyond, node_clash, node_other, node_past, node_differs, node_named}
+use Rattle.std.proofs.lemmas.Result.{err_from_is_err_and}
+use Rattle.identifiers.proofs.NotingNodes.{left_stands, left_types, own_asks, node_stops, node_other, node_past, node_differs, node_named}
 use Rattle.identifiers.proofs.note_node.Goals as goal
 
-pub number-tag-requires : goal.number-tag-requires
-number-tag-requires c = (left_tag _ _ c.requires.0 c.requires.2, omega arith)
+pub known_opening-head-requires : goal.known_opening-head-requires
+known_opening-head-requires c = left_stands _ _ c.requires.0 c.requires.2
 
-pub overflow_add-at : goal.overflow_add-at
-overflow_add-at c = omega (arith, left_tag _ _ c.requires.0 c.requires.2)
+pub note_types-requires : goal.note_types-requires
+note_types-requires c = (c.requires.1, left_types _ _ _ c.known_opening-head.ensures _ c.types.ensures c.requires.0 c.requires.2)
 
-pub number-x-requires : goal.number-x-requires
-number-x-requires c = (
-  omega (
-    arith,
-    left_room _ _ c.requires.0 c.requires.2 _ c.number-tag.ensures _ c.form_of-form.ensures.0 _
-        c.width_of-w.ensures.0,
-  ),
-  omega (arith, c.width_of-w.ensures.1),
-)
+pub returns-in_err-p : goal.returns-in_err-p
+returns-in_err-p c = let p = err_from_is_err_and c.from_residual.result c.from_residual.ensures.1 in rw (p.1, p.2)
+    (node_stops _ _ _ c.known_opening-head.ensures _ c.types.ensures _ _ _ c.note_types.ensures c.in_err-p.field-0.0 c.in_err-p.was)
 
-pub overflow_add-types : goal.overflow_add-types
-overflow_add-types c = omega (arith, left_tag _ _ c.requires.0 c.requires.2)
+pub returns-else-head-eq-FREE_IDENT : goal.returns-else-head-eq-FREE_IDENT
+returns-else-head-eq-FREE_IDENT c = node_other _ _ _ c.known_opening-head.ensures _ c.types.ensures _ _ _ c.note_types.ensures _ c.in_ok-p.was c.if-head-eq-FREE_IDENT.false
 
-pub overflow_add-types-2 : goal.overflow_add-types-2
-overflow_add-types-2 c = omega (
-  arith,
-  left_room _ _ c.requires.0 c.requires.2 _ c.number-tag.ensures _ c.form_of-form.ensures.0 _
-      c.width_of-w.ensures.0,
-)
+pub returns-then-table-head : goal.returns-then-table-head
+returns-then-table-head c = node_past _ _ _ c.known_opening-head.ensures _ c.types.ensures _ _ _ c.note_types.ensures _ c.in_ok-p.was c.if-head-eq-FREE_IDENT.true (omega arith)
 
-pub note_types-a-requires : goal.note_types-a-requires
-note_types-a-requires c = (
-  c.requires.1,
-  left_types _ _ _ _ _ _ _ (seen _ _ _ _ _ _ _ c.number-tag.ensures c.form_of-form.ensures.0 c.width_of-w.ensures.0
-      c.number-x.ensures c.types_of.ensures) c.requires.0 c.requires.2,
-)
-
-pub returns-then-tag-ne-FREE_IDENT : goal.returns-then-tag-ne-FREE_IDENT
-returns-then-tag-ne-FREE_IDENT c = node_other _ _ _ _ _ _ _ (seen _ _ _ _ _ _ _ c.number-tag.ensures c.form_of-form.ensures.0 c.width_of-w.ensures.0
-    c.number-x.ensures c.types_of.ensures) _ _ _ c.note_types-a.ensures _ c.in-Ends.is c.if-tag-ne-FREE_IDENT.true
-
-pub returns-then-table-x : goal.returns-then-table-x
-returns-then-table-x c = node_past _ _ _ _ _ _ _ (seen _ _ _ _ _ _ _ c.number-tag.ensures c.form_of-form.ensures.0 c.width_of-w.ensures.0
-    c.number-x.ensures c.types_of.ensures) _ _ _ c.note_types-a.ensures _ c.in-Ends.is
-    c.if-tag-ne-FREE_IDENT.false (omega arith)
-
-pub note_identifier-fits-requires : goal.note_identifier-fits-requires
-note_identifier-fits-requires c = let o = own_asks _ _ _ _ _ _ _ (seen _ _ _ _ _ _ _ c.number-tag.ensures c.form_of-form.ensures.0 c.width_of-w.ensures.0
-    c.number-x.ensures c.types_of.ensures) _ _ _ c.note_types-a.ensures _ c.in-Ends.is c.if-tag-ne-FREE_IDENT.false
+pub note_identifier-requires : goal.note_identifier-requires
+note_identifier-requires c = let o = own_asks _ _ _ c.known_opening-head.ensures _ c.types.ensures _ _ _ c.note_types.ensures _ c.in_ok-p.was c.if-head-eq-FREE_IDENT.true
     c.requires.0 c.requires.1 c.requires.2 in (o.0, omega arith, o.1, o.2)
 
-pub returns-then-not-fits : goal.returns-then-not-fits
-returns-then-not-fits c = node_differs _ _ _ _ _ _ _ (seen _ _ _ _ _ _ _ c.number-tag.ensures c.form_of-form.ensures.0 c.width_of-w.ensures.0
-    c.number-x.ensures c.types_of.ensures) _ _ _ c.note_types-a.ensures _ c.in-Ends.is c.if-tag-ne-FREE_IDENT.false _ _
-    c.note_identifier-fits.ensures c.if-not-fits.true
+pub returns-then-not-note_identifier : goal.returns-then-not-note_identifier
+returns-then-not-note_identifier c = node_differs _ _ _ c.known_opening-head.ensures _ c.types.ensures _ _ _ c.note_types.ensures _ c.in_ok-p.was c.if-head-eq-FREE_IDENT.true _ _
+    c.note_identifier.ensures c.if-not-note_identifier.true
 
-pub returns-in-Clashed : goal.returns-in-Clashed
-returns-in-Clashed c = node_clash _ _ _ _ _ _ _ (seen _ _ _ _ _ _ _ c.number-tag.ensures c.form_of-form.ensures.0 c.width_of-w.ensures.0
-    c.number-x.ensures c.types_of.ensures) _ _ _ c.note_types-a.ensures c.in-Clashed.is
-
-pub returns-in-Beyond : goal.returns-in-Beyond
-returns-in-Beyond c = node_beyond _ _ _ _ _ _ _ (seen _ _ _ _ _ _ _ c.number-tag.ensures c.form_of-form.ensures.0 c.width_of-w.ensures.0
-    c.number-x.ensures c.types_of.ensures) _ _ _ c.note_types-a.ensures c.in-Beyond.is
-
-pub returns-else-not-fits : goal.returns-else-not-fits
-returns-else-not-fits c = node_named _ _ _ _ _ _ _ (seen _ _ _ _ _ _ _ c.number-tag.ensures c.form_of-form.ensures.0 c.width_of-w.ensures.0
-    c.number-x.ensures c.types_of.ensures) _ _ _ c.note_types-a.ensures _ c.in-Ends.is c.if-tag-ne-FREE_IDENT.false _ _
-    c.note_identifier-fits.ensures c.if-not-fits.false
+pub returns-else-not-note_identifier : goal.returns-else-not-note_identifier
+returns-else-not-note_identifier c = node_named _ _ _ c.known_opening-head.ensures _ c.types.ensures _ _ _ c.note_types.ensures _ c.in_ok-p.was c.if-head-eq-FREE_IDENT.true _ _
+    c.note_identifier.ensures c.if-not-note_identifier.false

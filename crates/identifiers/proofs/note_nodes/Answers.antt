@@ -1,5 +1,6 @@
+use Rattle.std.proofs.lemmas.Result.{err_from_is_err_and}
 use native.Mathlib.Omega.{arith}
-use Rattle.identifiers.proofs.NotingNodes.{over_done, over_clash, over_beyond, over_further, over_next}
+use Rattle.identifiers.proofs.NotingNodes.{over_done, over_stops, over_further, over_next}
 use Rattle.identifiers.proofs.TreeNames.{begins, decides}
 use Rattle.identifiers.proofs.note_nodes.Goals as goal
 
@@ -7,31 +8,16 @@ pub loop-at-init : goal.loop-at-init
 loop-at-init c = let p = c.requires in
     begins _ (λ i. (c.shared_slice_known-1.given i).fits) _ p.2 p.0 p.1.0 p.1.1
 
-pub note_node-a-requires : goal.note_node-a-requires
-note_node-a-requires c = (c.loop-at-test.true, c.loop-at.invariant.held, c.loop-at.invariant.left)
-
 pub loop-at-smaller : goal.loop-at-smaller
-loop-at-smaller c = omega (arith, over_further _ _ _ _ c.loop-at.invariant c.loop-at-test.true _ _ c.note_node-a.ensures _ c.in-Ends.is)
+loop-at-smaller c = omega (arith, over_further _ _ _ _ c.loop-at.invariant c.loop-at-test.true _ _ c.note_node.ensures _ c.in_ok-at.was)
 
 pub loop-at-preserved : goal.loop-at-preserved
-loop-at-preserved c = over_next _ _ _ _ c.loop-at.invariant c.loop-at-test.true _ _ c.note_node-a.ensures _ c.in-Ends.is
+loop-at-preserved c = over_next _ _ _ _ c.loop-at.invariant c.loop-at-test.true _ _ c.note_node.ensures _ c.in_ok-at.was
 
-pub shape_of-table-in-Clashed : goal.shape_of-table-in-Clashed
-shape_of-table-in-Clashed c = omega (arith, c.loop-at.invariant.size)
-
-pub returns-in-Clashed : goal.returns-in-Clashed
-returns-in-Clashed c = decides _ (λ i. (c.shared_slice_known-1.given i).fits) _ c.requires.2 _ _
-    (over_clash _ _ _ _ c.loop-at.invariant c.loop-at-test.true _ _ c.note_node-a.ensures c.in-Clashed.is)
-
-pub shape_of-table-in-Beyond : goal.shape_of-table-in-Beyond
-shape_of-table-in-Beyond c = omega (arith, c.loop-at.invariant.size)
-
-pub returns-in-Beyond : goal.returns-in-Beyond
-returns-in-Beyond c = decides _ (λ i. (c.shared_slice_known-1.given i).fits) _ c.requires.2 _ _
-    (over_beyond _ _ _ _ c.loop-at.invariant c.loop-at-test.true _ _ c.note_node-a.ensures c.in-Beyond.is)
-
-pub shape_of-table : goal.shape_of-table
-shape_of-table c = c.loop-at.invariant.size
+pub returns-in_err-at : goal.returns-in_err-at
+returns-in_err-at c = let p = err_from_is_err_and c.from_residual.result c.from_residual.ensures.1 in rw (p.1, p.2)
+    (decides _ (λ i. (c.shared_slice_known-1.given i).fits) _ c.requires.2 _ _
+    (over_stops _ _ _ _ c.loop-at.invariant c.loop-at-test.true _ _ c.note_node.ensures c.in_err-at.field-0.0 c.in_err-at.was))
 
 pub returns : goal.returns
 returns c = decides _ (λ i. (c.shared_slice_known-1.given i).fits) _ c.requires.2 _ _ (over_done _ _ _ _ c.loop-at.invariant (omega arith))

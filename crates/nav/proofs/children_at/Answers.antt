@@ -7,9 +7,9 @@ pub number-requires : goal.number-requires
 number-requires c = let z = stand_inside c.requires.there in omega arith
 
 pub number-x-requires : goal.number-x-requires
-number-x-requires c = let z = arity_room _ _ _ _ _ c.number.ensures c.form_of-form.ensures.0 c.width_of-w.ensures.0 _ _
+number-x-requires c = let z = arity_room _ _ _ _ _ c.number.ensures c.form_of-form.ensures c.width-w.ensures.0 _ _
     c.requires.there in omega arith
 
 pub returns : goal.returns
-returns c = arity_read _ _ _ _ _ c.number.ensures c.form_of-form.ensures.0 c.width_of-w.ensures.0 _
-    c.number-x.ensures _ c.children_of.ensures
+returns c = arity_read _ _ _ _ _ c.number.ensures c.form_of-form.ensures c.width-w.ensures.0 _
+    c.number-x.ensures _ c.children.ensures

@@ -1,21 +1,23 @@
-use Rattle.nav.proofs.EarlyTurns.{early_none, early_room, early_bytes}
-use native.Mathlib.Omega.{arith}
+use Rattle.std.proofs.Common.{rules, ◌≤◌, ◌+◌, length}
+use Rattle.nav.proofs.EarlyTurns.{two_operands, early_none, early_room, early_bytes}
 use Rattle.nav.proofs.differ_early.Goals as goal
 
-pub returns-then-tag-lt-FIRST_BINARY : goal.returns-then-tag-lt-FIRST_BINARY
-returns-then-tag-lt-FIRST_BINARY c = early_none _ _ _ c.args.tag
+pub returns-then-not-contains : goal.returns-then-not-contains
+returns-then-not-contains c = early_none _ _ _ c.args.tag
 
-pub returns-then-tag-gt-LAST_BINARY : goal.returns-then-tag-gt-LAST_BINARY
-returns-then-tag-gt-LAST_BINARY c = early_none _ _ _ c.args.tag
+pub slice_bounds-ne-end : goal.slice_bounds-ne-end
+slice_bounds-ne-end c =
+    let w = two_operands c.args.tag _ _ c.new.ensures.start c.new.ensures.end c.if-not-contains.ensures.cases in
+    let z : c.args.x + 6 ≤ length c.args.s.now = (early_room _ _ _ _ w c.requires).0 in
+    search rules
 
-pub overflow_add-x : goal.overflow_add-x
-overflow_add-x c = let z = early_room _ _ _ _ c.if-tag-lt-FIRST_BINARY.false c.if-tag-gt-LAST_BINARY.false c.requires in omega (arith, z.0)
-
-pub overflow_add-y : goal.overflow_add-y
-overflow_add-y c = let z = early_room _ _ _ _ c.if-tag-lt-FIRST_BINARY.false c.if-tag-gt-LAST_BINARY.false c.requires in omega (arith, z.1)
-
-pub same_bytes-requires : goal.same_bytes-requires
-same_bytes-requires c = early_room _ _ _ _ c.if-tag-lt-FIRST_BINARY.false c.if-tag-gt-LAST_BINARY.false c.requires
+pub slice_bounds-ne-end-2 : goal.slice_bounds-ne-end-2
+slice_bounds-ne-end-2 c =
+    let w = two_operands c.args.tag _ _ c.new.ensures.start c.new.ensures.end c.if-not-contains.ensures.cases in
+    let z : c.args.y + 6 ≤ length c.args.s.now = (early_room _ _ _ _ w c.requires).1 in
+    search rules
 
 pub returns : goal.returns
-returns c = early_bytes _ _ _ _ c.if-tag-lt-FIRST_BINARY.false c.if-tag-gt-LAST_BINARY.false c.requires _ c.same_bytes.ensures
+returns c =
+    let w = two_operands c.args.tag _ _ c.new.ensures.start c.new.ensures.end c.if-not-contains.ensures.cases in
+    early_bytes _ _ _ _ w c.requires _ c.ne.ensures

@@ -1,11 +1,11 @@
-use Rattle.output.proofs.OutTurns.{admit_refused, admit_short, admit_goes}
+use Rattle.std.proofs.Common.{◌≡◌, Err, rules}
+use Rattle.output.proofs.OutTurns.{admit_refused, admit_short}
 use Rattle.output.proofs.admit.Goals as goal
 
+pub returns-in_err-checked : goal.returns-in_err-checked
+returns-in_err-checked c =
+    let e : c.from_residual.result ≡ Err c.in_err-checked.field-0.0 = search rules in
+    rw e (admit_refused _ _ _ c.in_err-checked.was)
+
 pub returns-then-lent-lt-FRAME_LIMIT : goal.returns-then-lent-lt-FRAME_LIMIT
-returns-then-lent-lt-FRAME_LIMIT c = admit_short _ _ _ c.in-Accepted.is c.if-lent-lt-FRAME_LIMIT.true
-
-pub returns-in-Refused : goal.returns-in-Refused
-returns-in-Refused c = admit_refused _ _ _ c.in-Refused.is
-
-pub returns-else-lent-lt-FRAME_LIMIT : goal.returns-else-lent-lt-FRAME_LIMIT
-returns-else-lent-lt-FRAME_LIMIT c = admit_goes _ _ _ c.in-Accepted.is c.if-lent-lt-FRAME_LIMIT.false
+returns-then-lent-lt-FRAME_LIMIT c = admit_short _ _ _ c.in_ok-checked.was c.if-lent-lt-FRAME_LIMIT.true

@@ -1,22 +1,19 @@
+use Rattle.std.proofs.Common.{◌≡◌, Err, ap, ◌∙◌, option_copied, arith}
+use Rattle.std.specs.Result.{result_ok}
+use Rattle.frame.specs.declared.refusals.Refusal.TheVariants.{NoRoom}
 use Rattle.output.proofs.OutTurns.{out_over, out_short, out_written}
-use Rattle.copies.proofs.Fronts.{front_keeps}
-use mathlib.Core.Path.{ap, ◌∙◌}
-use lib.ListN.{length}
-use native.Mathlib.Omega.{arith}
 use Rattle.output.proofs.write_out.Goals as goal
 
-pub returns-then-m-gt-FRAME_LIMIT : goal.returns-then-m-gt-FRAME_LIMIT
-returns-then-m-gt-FRAME_LIMIT c = out_over _ _ _ c.if-m-gt-FRAME_LIMIT.true
+pub returns-in_err-frame : goal.returns-in_err-frame
+returns-in_err-frame c =
+    let n = c.ok_or.ensures.ok_part ∙ ap result_ok c.in_err-frame.was in
+    let e : c.from_residual.result ≡ Err NoRoom = grind (arith, n, c.ok_or.ensures.value, c.in_err-frame.was) in
+    rw e (out_over _ _ (ap option_copied n))
 
-pub returns-then-out-m : goal.returns-then-out-m
-returns-then-out-m c = out_short _ _ _ c.if-m-gt-FRAME_LIMIT.false c.if-out-m.true
-
-pub put_front-requires : goal.put_front-requires
-put_front-requires c = (let z = c.requires.1.whole in let y = c.if-m-gt-FRAME_LIMIT.false in omega arith, c.if-out-m.false)
-
-pub shape_of-out : goal.shape_of-out
-shape_of-out c = let z = c.requires.1.whole in
-    ap length c.put_front.ensures ∙ front_keeps _ _ _ (let y = c.if-m-gt-FRAME_LIMIT.false in omega arith) c.if-out-m.false
+pub returns-then-out-length : goal.returns-then-out-length
+returns-then-out-length c =
+    out_short _ _ _ (ap option_copied (c.ok_or.ensures.ok_part ∙ ap result_ok c.in_ok-frame.was)) c.if-out-length.true
 
 pub returns : goal.returns
-returns c = out_written _ _ _ c.if-m-gt-FRAME_LIMIT.false c.if-out-m.false _ c.put_front.ensures
+returns c =
+    out_written _ _ _ (ap option_copied (c.ok_or.ensures.ok_part ∙ ap result_ok c.in_ok-frame.was)) c.if-out-length.false _ (rw c.copy_from_slice.ensures.after)

@@ -1,5 +1,5 @@
-use Rattle.templates.specs.Programs.{template}
+use Rattle.parts.proofs.Parts.{template_ready}
 use Rattle.parts.proofs.fill_template.Goals as goal
 
-pub returns : goal.returns
-returns c = record { puts = λ f h. c.run_program.ensures.puts (template c.args.place) f c.program_of-program.ensures h }
+pub run_program-requires : goal.run_program-requires
+run_program-requires c = template_ready _ _ _ c.requires.0 c.program_of.ensures c.requires.1

@@ -1,60 +1,43 @@
-use native.Mathlib.Omega.{arith}
-use Rattle.parts.proofs.Parts.{part_within, can_make, tag_ready, byte_ready, operand_ready, type_ready, expression_ready, binders_ready, tag_put, byte_put, operand_put, type_put, expression_put, binders_put}
+use Rattle.parts.proofs.Parts.{tag_put, count_put, subtree_put, type_put, expression_put, binders_put, empty_put, full_put, tag_fits, type_is, expression_is, empty_is, full_is}
 use Rattle.parts.proofs.put_part.Goals as goal
 
-pub bounds-g-at : goal.bounds-g-at
-bounds-g-at c = part_within _ _ _ _ _ c.requires
-
-pub put_copy-requires : goal.put_copy-requires
-put_copy-requires c = (omega arith, tag_ready _ _ _ _ _ c.requires c.in-1.is)
-
-pub put_copy-requires-in-2 : goal.put_copy-requires-in-2
-put_copy-requires-in-2 c = (omega arith, byte_ready _ _ _ _ _ c.requires c.in-2.is)
-
-pub bounds-g-at-in-3 : goal.bounds-g-at-in-3
-bounds-g-at-in-3 c = let z = operand_ready _ _ _ _ _ c.requires c.in-3.is in omega arith
-
-pub put_operand-requires : goal.put_operand-requires
-put_operand-requires c = let z = operand_ready _ _ _ _ _ c.requires c.in-3.is in (z.1, z.2)
-
-pub bounds-g-at-in-4 : goal.bounds-g-at-in-4
-bounds-g-at-in-4 c = let z = (type_ready _ _ _ _ _ c.requires c.in-4.is).0 in omega arith
-
-pub bounds-g-at-in-4-2 : goal.bounds-g-at-in-4-2
-bounds-g-at-in-4-2 c = let z = (type_ready _ _ _ _ _ c.requires c.in-4.is).0 in omega arith
+pub put_word-requires : goal.put_word-requires
+put_word-requires c = tag_fits _ _ (rw c.in-Tag.is at c.requires)
 
 pub put_type-requires : goal.put_type-requires
-put_type-requires c = can_make _ _ _ _ c.type_of.ensures (type_ready _ _ _ _ _ c.requires c.in-4.is).1
-
-pub bounds-g-at-in-5 : goal.bounds-g-at-in-5
-bounds-g-at-in-5 c = let z = (expression_ready _ _ _ _ _ c.requires c.in-5.is).0 in omega arith
-
-pub bounds-g-at-in-5-2 : goal.bounds-g-at-in-5-2
-bounds-g-at-in-5-2 c = let z = (expression_ready _ _ _ _ _ c.requires c.in-5.is).0 in omega arith
+put_type-requires c = type_is _ _ _ _ c.type_of.ensures (rw c.in-Type.is at c.requires)
 
 pub put_expression-requires : goal.put_expression-requires
-put_expression-requires c = can_make _ _ _ _ c.type_of-in-5.ensures (expression_ready _ _ _ _ _ c.requires c.in-5.is).1
+put_expression-requires c = expression_is _ _ _ _ c.type_of-in-Expression.ensures (rw c.in-Expression.is at c.requires)
 
-pub put_copy-requires-in_default : goal.put_copy-requires-in_default
-put_copy-requires-in_default c = binders_ready _ _ _ _ _ c.requires c.in_default.in_default-own.rest.0.0.0.0.1 c.in_default.in_default-own.rest.0.0.0.1
-    c.in_default.in_default-own.rest.0.0.1 c.in_default.in_default-own.rest.0.1 c.in_default.in_default-own.rest.1
+pub put_type-requires-in-Empty : goal.put_type-requires-in-Empty
+put_type-requires-in-Empty c = empty_is _ _ _ c.type_of-in-Empty.ensures (rw c.in-Empty.is at c.requires)
 
-pub returns-in-1 : goal.returns-in-1
-returns-in-1 c = tag_put _ _ _ _ _ _ _ _ _ c.in-1.is c.put_copy.ensures
+pub put_expression-requires-in-Full : goal.put_expression-requires-in-Full
+put_expression-requires-in-Full c = full_is _ _ _ c.type_of-in-Full.ensures (rw c.in-Full.is at c.requires)
 
-pub returns-in-2 : goal.returns-in-2
-returns-in-2 c = byte_put _ _ _ _ _ _ _ _ _ c.in-2.is c.put_copy-in-2.ensures
+pub returns-in-Tag : goal.returns-in-Tag
+returns-in-Tag c = rw c.in-Tag.is (tag_put _ _ _ _ c.put_word.ensures)
 
-pub returns-in-3 : goal.returns-in-3
-returns-in-3 c = operand_put _ _ _ _ _ _ _ _ _ c.in-3.is c.put_operand.ensures
+pub returns-in-Count : goal.returns-in-Count
+returns-in-Count c = rw c.in-Count.is (count_put _ _ _ _ c.put_byte.ensures)
 
-pub returns-in-4 : goal.returns-in-4
-returns-in-4 c = type_put _ _ _ _ _ _ _ _ _ _ c.type_of.ensures c.in-4.is c.put_type.ensures
+pub returns-in-Subtree : goal.returns-in-Subtree
+returns-in-Subtree c = rw c.in-Subtree.is (subtree_put _ _ _ _ _ c.subtree.ensures c.put_copy.ensures)
 
-pub returns-in-5 : goal.returns-in-5
-returns-in-5 c = expression_put _ _ _ _ _ _ _ _ _ _ c.type_of-in-5.ensures c.in-5.is c.put_expression.ensures
+pub returns-in-Type : goal.returns-in-Type
+returns-in-Type c = rw c.in-Type.is (type_put _ _ _ _ _ _ c.type_of.ensures c.put_type.ensures)
 
-pub returns-in_default : goal.returns-in_default
-returns-in_default c = binders_put _ _ _ _ _ _ _ _ _ c.in_default.in_default-own.rest.0.0.0.0.1 c.in_default.in_default-own.rest.0.0.0.1
-    c.in_default.in_default-own.rest.0.0.1 c.in_default.in_default-own.rest.0.1
-    c.in_default.in_default-own.rest.1 c.put_copy-in_default.ensures
+pub returns-in-Expression : goal.returns-in-Expression
+returns-in-Expression c = rw c.in-Expression.is (expression_put _ _ _ _ _ _ c.type_of-in-Expression.ensures c.put_expression.ensures)
+
+pub returns-in-Binders : goal.returns-in-Binders
+returns-in-Binders c = rw c.in-Binders.is (binders_put _ _ _ c.put_copy-in-Binders.ensures)
+
+pub returns-in-Empty : goal.returns-in-Empty
+returns-in-Empty c = rw c.in-Empty.is (empty_put _ _ _ _ _ _ _ c.subtree-in-Empty.ensures c.type_of-in-Empty.ensures c.put_word-in-Empty.ensures
+    c.put_copy-in-Empty.ensures _ _ c.put_word-in-Empty-2.ensures c.put_type-in-Empty.ensures)
+
+pub returns-in-Full : goal.returns-in-Full
+returns-in-Full c = rw c.in-Full.is (full_put _ _ _ _ _ _ _ c.subtree-in-Full.ensures c.type_of-in-Full.ensures c.put_word-in-Full.ensures
+    c.put_copy-in-Full.ensures _ c.put_expression-in-Full.ensures)

@@ -1,55 +1,35 @@
-use mathlib.Core.Path.{refl, sym, ◌∙◌}
-use Prim.Native.Nat.{◌-◌, ◌%◌}
-use native.Mathlib.Omega.{arith}
-use Rattle.patterns.proofs.MatchTurns.{going_begins, going_next, going_off, going_past, going_variable, fit_end, fit_none, fit_other, fit_large, next_fixed}
+use Rattle.std.proofs.Common.{◌∙◌, sym, arith}
+use Rattle.type_rules.proofs.SymbolNumbers.{fixed_small, fixed_real, variable_number, variable_few}
+use Rattle.type_rules.specs.declared.Symbol.TheVariants as S
+use Rattle.patterns.proofs.MatchTurns.{going_begins, going_done, going_ends, going_next, going_off, going_variable, fit_none, fit_other, next_fixed}
 use Rattle.patterns.proofs.match_pattern.Goals as goal
 
-pub loop-pattern-init : goal.loop-pattern-init
-loop-pattern-init c = going_begins _ _ _ _ _ _ _ c.requires
-
-pub returns-then-b-eq-PATTERN_END : goal.returns-then-b-eq-PATTERN_END
-returns-then-b-eq-PATTERN_END c = c.loop-pattern.invariant.back _ _ _ (fit_end c.loop-pattern.p c.args.types.now c.loop-pattern.at c.args.n
-    c.loop-pattern.starts c.loop-pattern.ends c.loop-pattern.k c.if-b-eq-PATTERN_END.true)
+pub loop-symbol-init : goal.loop-symbol-init
+loop-symbol-init c = going_begins _ _ _ _ _ c.requires
 
 pub returns-then-n-at : goal.returns-then-n-at
-returns-then-n-at c = c.loop-pattern.invariant.back _ _ _ (fit_none c.loop-pattern.p c.args.types.now c.loop-pattern.at
-    c.args.n c.loop-pattern.starts c.loop-pattern.ends c.loop-pattern.k
-    (c.loop-pattern.p % 16) refl c.if-b-eq-PATTERN_END.false c.if-n-at.true)
+returns-then-n-at c = going_ends _ _ _ _ _ _ _ _ c.loop-symbol.invariant S.Bool c.loop-symbol-test.true _ _ (fit_none c.args.types.now c.loop-symbol.at c.args.n c.loop-symbol.bindings _ _ c.if-n-at.true)
 
-pub bounds-types-at : goal.bounds-types-at
-bounds-types-at c = omega (arith, c.loop-pattern.invariant.pre.row.span.within)
+pub returns-then-types-at : goal.returns-then-types-at
+returns-then-types-at c =
+    let l = fixed_small _ (sym c.variable.ensures ∙ c.in_default.is) in
+    going_ends _ _ _ _ _ _ _ _ c.loop-symbol.invariant _ c.loop-symbol-test.true _ _ (fit_other c.args.types.now c.loop-symbol.at c.args.n c.loop-symbol.bindings _ _ (omega arith) l (λ e. c.if-types-at.true (e ∙ sym c.byte.ensures)))
 
-pub returns-then-wide-b : goal.returns-then-wide-b
-returns-then-wide-b c = c.loop-pattern.invariant.back _ _ _ (fit_other c.loop-pattern.p c.args.types.now c.loop-pattern.at c.args.n c.loop-pattern.starts
-    c.loop-pattern.ends c.loop-pattern.k (c.loop-pattern.p % 16) refl c.if-b-eq-PATTERN_END.false (omega arith) (omega arith)
-    (λ e. c.if-wide-b.true (c.wide.ensures.0 ∙ e)))
+pub loop-symbol-preserved-in_default : goal.loop-symbol-preserved-in_default
+loop-symbol-preserved-in_default c =
+    let l = fixed_small _ (sym c.variable.ensures ∙ c.in_default.is) in
+    going_next _ _ _ _ _ _ _ _ c.loop-symbol.invariant _ c.loop-symbol-test.true (omega arith) _ _
+    (next_fixed c.args.types.now c.loop-symbol.at c.args.n c.loop-symbol.bindings _ _ (omega arith) l (fixed_real _) (c.if-types-at.false ∙ c.byte.ensures))
 
-pub overflow_add-at : goal.overflow_add-at
-overflow_add-at c = omega (arith, c.loop-pattern.invariant.pre.row.span.within)
+pub match_variable-requires : goal.match_variable-requires
+match_variable-requires c =
+    (c.loop-symbol.invariant.pre, omega arith, variable_few _ _ (sym c.variable.ensures ∙ c.in-Some.is))
 
-pub loop-pattern-preserved-then-b-lt-VARIABLES : goal.loop-pattern-preserved-then-b-lt-VARIABLES
-loop-pattern-preserved-then-b-lt-VARIABLES c = going_next _ _ _ _ _ _ _ _ _ _ _ _ c.loop-pattern.invariant c.if-b-eq-PATTERN_END.false (omega arith) _ _ _ _
-    (next_fixed c.loop-pattern.p c.args.types.now c.loop-pattern.at c.args.n c.loop-pattern.starts c.loop-pattern.ends c.loop-pattern.k
-    (c.loop-pattern.p % 16) refl c.if-b-eq-PATTERN_END.false (omega arith) (omega arith) (sym c.wide.ensures.0 ∙ c.if-wide-b.false))
+pub returns-in_err-at : goal.returns-in_err-at
+returns-in_err-at c = rw c.from_residual.ensures (going_off _ _ _ _ _ _ _ _ c.loop-symbol.invariant _ c.loop-symbol-test.true (omega arith) c.in-Some.variable (variable_number _ _ (sym c.variable.ensures ∙ c.in-Some.is)) _ _ c.match_variable.ensures c.in_err-at.was)
 
-pub returns-then-b-ge-SYMBOLS : goal.returns-then-b-ge-SYMBOLS
-returns-then-b-ge-SYMBOLS c = c.loop-pattern.invariant.back _ _ _ (fit_large c.loop-pattern.p c.args.types.now c.loop-pattern.at c.args.n c.loop-pattern.starts
-    c.loop-pattern.ends c.loop-pattern.k (c.loop-pattern.p % 16) refl c.if-b-eq-PATTERN_END.false (omega arith) c.if-b-ge-SYMBOLS.true)
+pub loop-symbol-preserved : goal.loop-symbol-preserved
+loop-symbol-preserved c = going_variable _ _ _ _ _ _ _ _ c.loop-symbol.invariant _ c.loop-symbol-test.true (omega arith) c.in-Some.variable (variable_number _ _ (sym c.variable.ensures ∙ c.in-Some.is)) _ _ c.match_variable.ensures _ c.in_ok-at.was
 
-pub match_variable-part-requires : goal.match_variable-part-requires
-match_variable-part-requires c = (c.loop-pattern.invariant.pre, omega arith, omega arith)
-
-pub returns-in_default : goal.returns-in_default
-returns-in_default c = going_off _ _ _ _ _ _ _ _ _ _ _ _ c.loop-pattern.invariant c.if-b-eq-PATTERN_END.false (omega arith) (c.loop-pattern.p % 16 - 5) (omega arith) _ _ _
-    c.match_variable-part.ensures c.in_default.is
-
-pub loop-pattern-smaller : goal.loop-pattern-smaller
-loop-pattern-smaller c = omega (
-  arith,
-  going_past _ _ _ _ _ _ _ _ _ _ _ _ c.loop-pattern.invariant c.if-b-eq-PATTERN_END.false (omega arith) (c.loop-pattern.p % 16 - 5)
-      (omega arith) _ _ _ c.match_variable-part.ensures _ _ c.in-To.is,
-)
-
-pub loop-pattern-preserved : goal.loop-pattern-preserved
-loop-pattern-preserved c = going_variable _ _ _ _ _ _ _ _ _ _ _ _ c.loop-pattern.invariant c.if-b-eq-PATTERN_END.false (omega arith) (c.loop-pattern.p % 16 - 5) (omega arith) _ _ _
-    c.match_variable-part.ensures _ _ c.in-To.is
+pub returns : goal.returns
+returns c = going_done _ _ _ _ _ _ _ _ c.loop-symbol.invariant (omega arith)

@@ -7,7 +7,7 @@ abbrev pub decreases-read_trees : goal.decreases-read_trees
 decreases-read_trees l = length l.s.now - l.at
 
 abbrev pub invariant-loop-n : goal.invariant-loop-n
-invariant-loop-n l = Going l.s l.initial.at l.initial.n l.initial.first l.initial.later l.initial.k l.initial.starts l.at l.n l.first l.later l.k l.starts
+invariant-loop-n l = Going l.s l.initial.at l.initial.n l.initial.first l.initial.later l.initial.read l.at l.n l.first l.later l.read
 
 abbrev pub decreases-loop-n : goal.decreases-loop-n
 decreases-loop-n l = length l.s - l.at

@@ -1,11 +1,23 @@
-use Rattle.reading.proofs.AgainTurns.{again_pre, again}
-use Prim.Native.Nat.{ℕ}
-use lib.ListN.{length-replicate}
+use native.Mathlib.Omega.{arith}
+use Rattle.reading.proofs.AgainTurns.{placing_begins, placing_stands, placing_goes, placing_done}
 use Rattle.reading.proofs.read_again.Goals as goal
 
-pub place_nodes-n-requires : goal.place_nodes-n-requires
-place_nodes-n-requires c = again_pre _ (λ i. (c.shared_slice_known-1.given i).fits) c.requires.0
-    c.requires.1 _ (length-replicate {A = ℕ} 2048 0)
+pub loop-at-init : goal.loop-at-init
+loop-at-init c = placing_begins _ (λ i. (c.type_inv.frame i).fits) c.requires.0 c.requires.1 _ c.new-again.ensures
+
+pub push-requires : goal.push-requires
+push-requires c = let w = c.loop-at.invariant.left.room in (omega (arith, w.within, w.short, w.room, c.loop-at-test.true), omega (arith, w.within, w.short))
+
+pub head_end-at-requires : goal.head_end-at-requires
+head_end-at-requires c = placing_stands _ (λ i. (c.type_inv.frame i).fits) _ _ _ c.loop-at.invariant c.loop-at-test.true
+
+pub loop-at-smaller : goal.loop-at-smaller
+loop-at-smaller c =
+    let g = placing_goes _ (λ i. (c.type_inv.frame i).fits) _ _ _ c.loop-at.invariant c.loop-at-test.true _ c.push.ensures _ c.head_end-at.ensures in
+    omega (arith, g.0, g.1)
+
+pub loop-at-preserved : goal.loop-at-preserved
+loop-at-preserved c = (placing_goes _ (λ i. (c.type_inv.frame i).fits) _ _ _ c.loop-at.invariant c.loop-at-test.true _ c.push.ensures _ c.head_end-at.ensures).2
 
 pub returns : goal.returns
-returns c = again _ (λ i. (c.shared_slice_known-1.given i).fits) c.requires.0 c.requires.1 _ _ c.place_nodes-n.ensures
+returns c = placing_done _ (λ i. (c.type_inv.frame i).fits) c.requires.0 c.requires.1 _ c.new-again.ensures _ _ c.loop-at.invariant c.loop-at-test.false

@@ -1,93 +1,52 @@
-use mathlib.Core.Path.{refl}
-use Prim.Native.Nat.{◌-◌, ◌%◌}
-use native.Mathlib.Omega.{arith}
-use lib.ListN.{length-set}
-use Rattle.results.proofs.Symbols.{slot_span, slot_some}
-use Rattle.results.proofs.FillTurns.{going_begins, going_next, fill_end, fill_full, fill_fixed_pre, fill_fixed, fill_unbound, fill_long, fill_copy, fill_bound_pre, fill_bound}
+use Rattle.std.proofs.Common.{[], ◌∙◌, refl, sym, length-set, arith}
+use Rattle.type_rules.proofs.SymbolNumbers.{fixed_small, variable_number}
+use Rattle.results.proofs.FillTurns.{going_begins, going_ends, going_done, going_next, fill_full, fill_fixed_pre, fill_fixed, fill_unbound, slot_span, fill_long, fill_copy, fill_bound_pre, fill_bound}
 use Rattle.results.proofs.fill_pattern.Goals as goal
 
-pub loop-pattern-init : goal.loop-pattern-init
-loop-pattern-init c = going_begins _ _ _ _ _ _ _ c.requires
-
-pub shape_of-types-then-b-eq-PATTERN_END : goal.shape_of-types-then-b-eq-PATTERN_END
-shape_of-types-then-b-eq-PATTERN_END c = c.loop-pattern.invariant.size
-
-pub returns-then-b-eq-PATTERN_END : goal.returns-then-b-eq-PATTERN_END
-returns-then-b-eq-PATTERN_END c = c.loop-pattern.invariant.back _ _ (fill_end c.loop-pattern.p c.loop-pattern.types c.loop-pattern.m c.args.limit
-    c.args.starts.now c.args.ends.now c.args.k c.loop-pattern.invariant.pre.room c.if-b-eq-PATTERN_END.true)
-
-pub shape_of-types-then-limit-m : goal.shape_of-types-then-limit-m
-shape_of-types-then-limit-m c = c.loop-pattern.invariant.size
+pub loop-symbol-init : goal.loop-symbol-init
+loop-symbol-init c = going_begins _ _ _ _ _ c.requires
 
 pub returns-then-limit-m : goal.returns-then-limit-m
-returns-then-limit-m c = c.loop-pattern.invariant.back _ _ (fill_full c.loop-pattern.p c.loop-pattern.types c.loop-pattern.m c.args.limit c.args.starts.now
-    c.args.ends.now c.args.k c.loop-pattern.invariant.pre.room (c.loop-pattern.p % 16) refl c.if-b-eq-PATTERN_END.false
-    c.if-b-lt-VARIABLES.true c.if-limit-m.true)
+returns-then-limit-m c =
+    let l = fixed_small _ (sym c.variable.ensures ∙ c.in_default.is) in
+    going_ends _ _ _ _ _ _ _ _ c.loop-symbol.invariant _ c.loop-symbol-test.true _ _ (fill_full c.loop-symbol.types c.loop-symbol.m c.args.limit c.args.bindings.now c.loop-symbol.invariant.pre.room _ _ l c.if-limit-m.true)
 
-pub bounds-types-m : goal.bounds-types-m
-bounds-types-m c = omega (arith, c.loop-pattern.invariant.pre.room)
+pub loop-symbol-preserved-in_default : goal.loop-symbol-preserved-in_default
+loop-symbol-preserved-in_default c =
+    let l = fixed_small _ (sym c.variable.ensures ∙ c.in_default.is) in
+    going_next _ _ _ _ _ _ _ _ c.loop-symbol.invariant _ c.loop-symbol-test.true _ _
+    (fill_fixed_pre c.loop-symbol.types c.loop-symbol.m c.args.limit c.args.bindings.now c.loop-symbol.invariant.pre.room _ [] l c.byte.result c.byte.ensures c.if-limit-m.false c.loop-symbol.invariant.pre)
+    (length-set _ _ _) (fill_fixed c.loop-symbol.types c.loop-symbol.m c.args.limit c.args.bindings.now c.loop-symbol.invariant.pre.room _ _ l c.byte.result c.byte.ensures c.if-limit-m.false)
 
-pub overflow_add-m : goal.overflow_add-m
-overflow_add-m c = omega (arith, c.loop-pattern.invariant.pre.room)
-
-pub loop-pattern-preserved-then-b-lt-VARIABLES : goal.loop-pattern-preserved-then-b-lt-VARIABLES
-loop-pattern-preserved-then-b-lt-VARIABLES c = going_next _ _ _ _ _ _ _ _ _ _ c.loop-pattern.invariant _ _ (fill_fixed_pre c.loop-pattern.p c.loop-pattern.types c.loop-pattern.m c.args.limit
-    c.args.starts.now c.args.ends.now c.args.k c.loop-pattern.invariant.pre.room (c.loop-pattern.p % 16) refl
-    c.if-b-eq-PATTERN_END.false c.if-b-lt-VARIABLES.true (c.loop-pattern.p % 16) refl c.if-limit-m.false c.loop-pattern.invariant.pre)
-    (length-set c.loop-pattern.types c.loop-pattern.m (c.loop-pattern.p % 16))
-    (fill_fixed c.loop-pattern.p c.loop-pattern.types c.loop-pattern.m c.args.limit c.args.starts.now c.args.ends.now
-    c.args.k c.loop-pattern.invariant.pre.room (c.loop-pattern.p % 16) refl c.if-b-eq-PATTERN_END.false c.if-b-lt-VARIABLES.true
-    (c.loop-pattern.p % 16) refl c.if-limit-m.false)
-
-pub shape_of-types-then-k-v : goal.shape_of-types-then-k-v
-shape_of-types-then-k-v c = c.loop-pattern.invariant.size
-
-pub returns-then-k-v : goal.returns-then-k-v
-returns-then-k-v c = c.loop-pattern.invariant.back _ _ (fill_unbound c.loop-pattern.p c.loop-pattern.types c.loop-pattern.m c.args.limit c.args.starts.now
-    c.args.ends.now c.args.k c.loop-pattern.invariant.pre.room (c.loop-pattern.p % 16) refl c.if-b-eq-PATTERN_END.false
-    c.if-b-lt-VARIABLES.false c.if-k-v.true)
-
-pub offset_bounds-starts-v : goal.offset_bounds-starts-v
-offset_bounds-starts-v c = omega (arith, c.loop-pattern.invariant.pre.env.few, c.loop-pattern.invariant.pre.count)
-
-pub bounds-starts-v : goal.bounds-starts-v
-bounds-starts-v c = omega (arith, c.loop-pattern.invariant.pre.env.few, c.loop-pattern.invariant.pre.count)
-
-pub offset_bounds-ends-v : goal.offset_bounds-ends-v
-offset_bounds-ends-v c = omega (arith, c.loop-pattern.invariant.pre.env.few, c.loop-pattern.invariant.pre.count)
-
-pub bounds-ends-v : goal.bounds-ends-v
-bounds-ends-v c = omega (arith, c.loop-pattern.invariant.pre.env.few, c.loop-pattern.invariant.pre.count)
+pub returns-in_err-span : goal.returns-in_err-span
+returns-in_err-span c =
+    let b = variable_number _ _ (sym c.variable.ensures ∙ c.in-Some.is) in
+    rw c.from_residual.ensures
+    (going_ends _ _ _ _ _ _ _ _ c.loop-symbol.invariant _ c.loop-symbol-test.true _ _ (fill_unbound c.loop-symbol.types c.loop-symbol.m c.args.limit c.args.bindings.now c.loop-symbol.invariant.pre.room _ _ c.in-Some.variable b (sym c.get.ensures ∙ c.in_err-span.was)))
 
 pub overflow_sub-len : goal.overflow_sub-len
-overflow_sub-len c = (slot_span c.loop-pattern.invariant.pre.env c.loop-pattern.invariant.pre.count (c.loop-pattern.p % 16 - 5) c.if-k-v.false).0
+overflow_sub-len c =
+    (slot_span c.loop-symbol.types c.loop-symbol.m c.args.limit c.args.bindings.now c.loop-symbol.invariant.pre.room _ [] c.in-Some.variable refl c.in_ok-span.span (sym c.get.ensures ∙ c.in_ok-span.was) c.loop-symbol.invariant.pre).0
 
 pub overflow_sub-limit : goal.overflow_sub-limit
-overflow_sub-limit c = omega (arith, c.loop-pattern.invariant.pre.room)
-
-pub shape_of-types-then-limit-m-2 : goal.shape_of-types-then-limit-m-2
-shape_of-types-then-limit-m-2 c = c.loop-pattern.invariant.size
+overflow_sub-limit c = c.loop-symbol.invariant.pre.room.0
 
 pub returns-then-limit-m-2 : goal.returns-then-limit-m-2
-returns-then-limit-m-2 c = c.loop-pattern.invariant.back _ _ (fill_long c.loop-pattern.p c.loop-pattern.types c.loop-pattern.m c.args.limit c.args.starts.now
-    c.args.ends.now c.args.k c.loop-pattern.invariant.pre.room (c.loop-pattern.p % 16) refl c.if-b-eq-PATTERN_END.false c.if-b-lt-VARIABLES.false
-    c.if-k-v.false _ _ refl refl c.if-limit-m-2.true)
+returns-then-limit-m-2 c =
+    let b = variable_number _ _ (sym c.variable.ensures ∙ c.in-Some.is) in
+    going_ends _ _ _ _ _ _ _ _ c.loop-symbol.invariant _ c.loop-symbol-test.true _ _ (fill_long c.loop-symbol.types c.loop-symbol.m c.args.limit c.args.bindings.now c.loop-symbol.invariant.pre.room _ _ c.in-Some.variable b c.in_ok-span.span (sym c.get.ensures ∙ c.in_ok-span.was) c.if-limit-m-2.true)
 
 pub copy_within-requires : goal.copy_within-requires
-copy_within-requires c = fill_copy c.loop-pattern.p c.loop-pattern.types c.loop-pattern.m c.args.limit c.args.starts.now c.args.ends.now c.args.k
-    c.loop-pattern.invariant.pre.room (c.loop-pattern.p % 16) refl c.if-b-eq-PATTERN_END.false c.if-b-lt-VARIABLES.false c.if-k-v.false _ _ refl refl
-    c.if-limit-m-2.false c.loop-pattern.invariant.pre
+copy_within-requires c =
+    fill_copy c.loop-symbol.types c.loop-symbol.m c.args.limit c.args.bindings.now c.loop-symbol.invariant.pre.room _ [] c.in-Some.variable refl c.in_ok-span.span (sym c.get.ensures ∙ c.in_ok-span.was) c.if-limit-m-2.false c.loop-symbol.invariant.pre
 
-pub overflow_add-m-in-loop-pattern : goal.overflow_add-m-in-loop-pattern
-overflow_add-m-in-loop-pattern c = omega (arith, c.loop-pattern.invariant.pre.room)
+pub loop-symbol-preserved : goal.loop-symbol-preserved
+loop-symbol-preserved c =
+    let b = variable_number _ _ (sym c.variable.ensures ∙ c.in-Some.is) in
+    going_next _ _ _ _ _ _ _ _ c.loop-symbol.invariant _ c.loop-symbol-test.true _ _
+    (fill_bound_pre c.loop-symbol.types c.loop-symbol.m c.args.limit c.args.bindings.now c.loop-symbol.invariant.pre.room _ [] c.in-Some.variable refl c.in_ok-span.span (sym c.get.ensures ∙ c.in_ok-span.was) c.if-limit-m-2.false _ c.copy_within.ensures c.loop-symbol.invariant.pre)
+    c.copy_within.ensures.long
+    (fill_bound c.loop-symbol.types c.loop-symbol.m c.args.limit c.args.bindings.now c.loop-symbol.invariant.pre.room _ _ c.in-Some.variable b c.in_ok-span.span (sym c.get.ensures ∙ c.in_ok-span.was) c.if-limit-m-2.false _ c.copy_within.ensures)
 
-pub loop-pattern-smaller : goal.loop-pattern-smaller
-loop-pattern-smaller c = omega (arith, slot_some c.loop-pattern.invariant.pre.env c.loop-pattern.invariant.pre.count (c.loop-pattern.p % 16 - 5) c.if-k-v.false)
-
-pub loop-pattern-preserved : goal.loop-pattern-preserved
-loop-pattern-preserved c = going_next _ _ _ _ _ _ _ _ _ _ c.loop-pattern.invariant _ _ (fill_bound_pre c.loop-pattern.p c.loop-pattern.types c.loop-pattern.m c.args.limit
-    c.args.starts.now c.args.ends.now c.args.k c.loop-pattern.invariant.pre.room (c.loop-pattern.p % 16) refl c.if-b-eq-PATTERN_END.false
-    c.if-b-lt-VARIABLES.false c.if-k-v.false _ _ refl refl c.if-limit-m-2.false _ c.copy_within.ensures c.loop-pattern.invariant.pre)
-    c.copy_within.ensures.long (fill_bound c.loop-pattern.p c.loop-pattern.types c.loop-pattern.m c.args.limit
-    c.args.starts.now c.args.ends.now c.args.k c.loop-pattern.invariant.pre.room (c.loop-pattern.p % 16) refl c.if-b-eq-PATTERN_END.false
-    c.if-b-lt-VARIABLES.false c.if-k-v.false _ _ refl refl c.if-limit-m-2.false _ c.copy_within.ensures)
+pub returns : goal.returns
+returns c = going_done _ _ _ _ _ _ _ _ c.loop-symbol.invariant (omega arith)

@@ -1,36 +1,27 @@
-use mathlib.Core.List.{[]}
-use Rattle.stepping.proofs.Turns.{held_none, held_placed, held_expression, held_nexts, held_decide, held_rests, held_splice, held_out, held_done}
-use mathlib.Core.Path.{refl}
+use Rattle.stepping.proofs.Turns.{held_none, held_expression, held_decide, held_rests, held_splice, held_out, held_done}
+use Rattle.stepping.proofs.step_held.Goals.{then-places-k-via-then-places-k, then-places-k-via-else-places-k+then-is_expression_at}
 use Rattle.stepping.proofs.step_held.Goals as goal
 
-pub returns-then-n-k : goal.returns-then-n-k
-returns-then-n-k c = held_none _ _ _ _ c.requires _ _ c.if-n-k.true
+pub returns-then-places-k : goal.returns-then-places-k
+returns-then-places-k c = elim c.then-places-k.branch [
+  | then-places-k-via-then-places-k w ↦ held_none _ c.requires _ _ w.if-places-k.true
+  | then-places-k-via-else-places-k+then-is_expression_at w ↦ held_expression _ c.requires _ _ w.if-places-k.false _ w.is_expression_at.ensures w.if-is_expression_at.true
+]
 
-pub is_expression_at-requires : goal.is_expression_at-requires
-is_expression_at-requires c = held_placed _ _ _ _ c.requires _ [] c.if-n-k.false
+pub decide-requires : goal.decide-requires
+decide-requires c = held_decide _ c.requires _ c.args.out.now c.if-places-k.false
 
-pub returns-then-is_expression_at : goal.returns-then-is_expression_at
-returns-then-is_expression_at c = held_expression _ _ _ _ c.requires _ _ c.if-n-k.false _ c.is_expression_at.ensures c.if-is_expression_at.true
+pub returns-in_default : goal.returns-in_default
+returns-in_default c = held_rests _ c.requires _ _ c.if-places-k.false _ c.is_expression_at.ensures c.if-is_expression_at.false _ _ c.decide.ensures c.in_default.is
 
-pub nexts-requires : goal.nexts-requires
-nexts-requires c = held_nexts _ _ _ _ c.requires _ [] c.if-n-k.false _ c.is_expression_at.ensures c.if-is_expression_at.false _ refl
-
-pub decide-d-requires : goal.decide-d-requires
-decide-d-requires c = held_decide _ _ _ _ c.requires _ [] c.if-n-k.false _ c.is_expression_at.ensures c.if-is_expression_at.false _
-    c.nexts.ensures _ refl
-
-pub returns-then-rests : goal.returns-then-rests
-returns-then-rests c = held_rests _ _ _ _ c.requires _ _ c.if-n-k.false _ c.is_expression_at.ensures c.if-is_expression_at.false _ c.nexts.ensures _ _
-    c.decide-d.ensures _ c.rests.ensures c.if-rests.true
-
-pub splice-m-requires : goal.splice-m-requires
-splice-m-requires c = held_splice _ _ _ _ c.requires _ [] c.if-n-k.false _ c.is_expression_at.ensures c.if-is_expression_at.false _ c.nexts.ensures _ _
-    c.decide-d.ensures _ refl
+pub splice-requires : goal.splice-requires
+splice-requires c = held_splice _ c.requires _ c.args.out.now c.if-places-k.false _ c.is_expression_at.ensures c.if-is_expression_at.false _ _ c.decide.ensures _
+    c.in-Some.is
 
 pub write_out-requires : goal.write_out-requires
-write_out-requires c = held_out _ _ _ _ c.requires _ [] c.if-n-k.false _ c.is_expression_at.ensures c.if-is_expression_at.false _ c.nexts.ensures _ _
-    c.decide-d.ensures _ c.rests.ensures c.if-rests.false _ _ c.splice-m.ensures
+write_out-requires c = rw c.frame.ensures.bytes (held_out _ c.requires _ c.args.out.now c.if-places-k.false _ c.is_expression_at.ensures
+    c.if-is_expression_at.false _ _ c.decide.ensures _ c.in-Some.is _ c.splice.ensures)
 
 pub returns : goal.returns
-returns c = held_done _ _ _ _ c.requires _ _ c.if-n-k.false _ c.is_expression_at.ensures c.if-is_expression_at.false _ c.nexts.ensures _ _
-    c.decide-d.ensures _ c.rests.ensures c.if-rests.false _ _ c.splice-m.ensures _ _ c.write_out.ensures
+returns c = held_done _ c.requires _ _ c.if-places-k.false _ c.is_expression_at.ensures c.if-is_expression_at.false _ _ c.decide.ensures _ c.in-Some.is _
+    c.splice.ensures _ _ (rw c.frame.ensures.bytes at c.write_out.ensures)

@@ -1,21 +1,27 @@
-use Rattle.build.proofs.SpliceTurns.{splice_few, splice_in_lem, splice_build, splice_range, splice_rest, splice_done}
+use mathlib.Core.Path.{sym}
+use lib.Seq.{length-take-le}
+use Rattle.put.proofs.Puts.{puts_as, between_back}
+use Rattle.build.proofs.SpliceTurns.{splice_few, splice_in_lem, splice_range, splice_build, splice_done}
 use Rattle.build.proofs.splicing.splice.Goals as goal
 
 pub start_at-from-requires : goal.start_at-from-requires
-start_at-from-requires c = splice_few _ _ _ _ _ _ _ _ _ c.requires
+start_at-from-requires c = splice_few c.args.places.now _ _ _ c.requires
 
 pub end_at-to-requires : goal.end_at-to-requires
-end_at-to-requires c = splice_in_lem _ _ _ _ _ _ _ _ _ c.requires
+end_at-to-requires c = splice_in_lem c.args.places.now _ _ _ c.requires
 
-pub put_copy-q-requires : goal.put_copy-q-requires
-put_copy-q-requires c = splice_range _ _ _ _ _ _ _ _ _ c.requires _ c.start_at-from.ensures.0 _ c.end_at-to.ensures
+pub build-requires : goal.build-requires
+build-requires c = splice_build c.args.places.now _ _ _ c.requires
 
-pub build-q-requires : goal.build-q-requires
-build-q-requires c = splice_build _ _ _ _ _ _ _ _ _ c.requires
+pub slice_bounds-put_copy-end : goal.slice_bounds-put_copy-end
+slice_bounds-put_copy-end c = sym (length-take-le _ _ (splice_range c.args.places.now _ _ _ c.requires _ c.start_at-from.ensures.0 _ c.end_at-to.ensures).0)
 
-pub put_copy-requires : goal.put_copy-requires
-put_copy-requires c = splice_rest _ _ _ _ _ _ _ _ _ c.requires _ c.start_at-from.ensures.0 _ c.end_at-to.ensures
+pub slice_bounds-put_copy-count : goal.slice_bounds-put_copy-count
+slice_bounds-put_copy-count c = (splice_range c.args.places.now _ _ _ c.requires _ c.start_at-from.ensures.0 _ c.end_at-to.ensures).1
+
+pub slice_bounds-put_copy-start : goal.slice_bounds-put_copy-start
+slice_bounds-put_copy-start c = (splice_range c.args.places.now _ _ _ c.requires _ c.start_at-from.ensures.0 _ c.end_at-to.ensures).1
 
 pub returns : goal.returns
-returns c = splice_done _ _ _ _ _ _ _ _ _ c.requires _ c.start_at-from.ensures.0 _ c.end_at-to.ensures _ _ c.put_copy-q.ensures _ _
-    c.build-q.ensures _ _ c.put_copy.ensures
+returns c = splice_done c.args.places.now _ _ _ c.requires _ c.start_at-from.ensures.0 _ c.end_at-to.ensures _ (rw c.clear.ensures at c.put_copy.ensures) _ c.build.ensures _
+    (puts_as _ _ _ _ (between_back c.args.places.now.bytes.now c.end_at-to.result) c.put_copy-2.ensures)

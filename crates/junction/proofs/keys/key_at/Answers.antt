@@ -1,29 +1,28 @@
-use Prim.Native.Nat.{ℕ, ◌%◌}
 use mathlib.Core.Path.{ap, ◌∙◌}
+use Prim.Native.Nat.{ℕ, ◌-◌, ◌%◌}
+use lib.ListN.{take, drop}
 use native.Mathlib.Omega.{arith}
-use Rattle.junction.proofs.KeyTurns.{rest, rest_next, rest_end, key_placed, key_inside, key_done}
+use Rattle.std.proofs.Common.{sum}
+use Rattle.junction.proofs.KeyTurns.{key_few, key_placed, key_inside, key_done}
 use Rattle.junction.proofs.keys.key_at.Goals as goal
 
-pub end_at-end-requires : goal.end_at-end-requires
-end_at-end-requires c = (key_placed _ _ _ _ c.requires _ c.next_at-n.ensures.0).0
+pub start_at-from-requires : goal.start_at-from-requires
+start_at-from-requires c = (key_few _ _ _ _ c.requires).1
 
-pub start_at-i-requires : goal.start_at-i-requires
-start_at-i-requires c = (key_placed _ _ _ _ c.requires _ c.next_at-n.ensures.0).2
+pub end_at-to-requires : goal.end_at-to-requires
+end_at-to-requires c = key_placed _ _ _ _ c.requires _ c.next_at.ensures.0
 
-pub loop-i-init : goal.loop-i-init
-loop-i-init c = let p = c.requires in
-    let e = c.next_at-n.ensures.0 in
-    (key_inside _ _ _ _ p _ e _ c.end_at-end.ensures, (key_placed _ _ _ _ p _ e).1, omega arith, omega arith)
+pub slice_bounds-sum_of-count : goal.slice_bounds-sum_of-count
+slice_bounds-sum_of-count c = let z = key_inside _ _ _ _ _ c.next_at.ensures.0 _ c.end_at-to.ensures c.requires in omega (arith, c.start_at-from.ensures.0)
 
-pub loop-i-preserved : goal.loop-i-preserved
-loop-i-preserved c = let i = c.loop-i.invariant in
-    let z = rest_next c.args.s.now c.end_at-end.result c.loop-i.i c.loop-i-test.true (omega (arith, i.0)) in
-    (i.0, i.1, omega (arith, i.2, c.wide-sum.ensures.1), omega (arith, i.3, z, c.wide-sum.ensures.0))
+pub slice_bounds-sum_of-start : goal.slice_bounds-sum_of-start
+slice_bounds-sum_of-start c = let z = key_inside _ _ _ _ _ c.next_at.ensures.0 _ c.end_at-to.ensures c.requires in omega (arith, c.start_at-from.ensures.0)
+
+pub slice_bounds-sum_of-end : goal.slice_bounds-sum_of-end
+slice_bounds-sum_of-end c = let z = key_inside _ _ _ _ _ c.next_at.ensures.0 _ c.end_at-to.ensures c.requires in omega (arith, c.start_at-from.ensures.0)
 
 pub returns : goal.returns
-returns c = let end = c.end_at-end in
-    let s = c.args.s.now in
-    let z = rest_end s end.result c.loop-i.i c.loop-i-test.false in
-    key_done _ _ _ _ _ c.next_at-n.ensures.0 _ end.ensures _
-    (ap (λ (x : ℕ). x % 191) (omega (arith, c.loop-i.invariant.3, z))
-    ∙ ap (λ (x : ℕ). rest s end.result x % 191) c.start_at-i.ensures.0)
+returns c =
+    let s = c.args.places.now.bytes.now in
+    key_done _ _ _ _ _ c.next_at.ensures.0 _ c.end_at-to.ensures _
+    (ap (λ (x : ℕ). x % 191) (c.sum_of.ensures ∙ ap (λ (x : ℕ). sum (take (c.end_at-to.result - x) (drop x s))) c.start_at-from.ensures.0))

@@ -1,24 +1,24 @@
 use mathlib.Core.Path.{sym, ◌∙◌}
-use Rattle.decision.proofs.Series.{imp_first_lem, imp_and_lem, imp_last_lem}
+use Rattle.decision.proofs.Series.{imp_series, ends_some, ends_none}
 use Rattle.logic.proofs.implication.implication_at.Goals as goal
 
-pub implication_first_at-first-requires : goal.implication_first_at-first-requires
-implication_first_at-first-requires c = c.requires
+pub returns-then-is_some : goal.returns-then-is_some
+returns-then-is_some c =
+    let d = c.implication_first_at-first in
+    let z = sym c.is_some.ensures ∙ c.if-is_some.true in
+    imp_series _ _ _ _ _ d.result d.ensures d.result (ends_some d.result _ z) d.result (ends_some d.result _ z)
 
-pub returns-then-not-rests : goal.returns-then-not-rests
-returns-then-not-rests c = imp_first_lem _ _ _ _ _ _ c.implication_first_at-first.ensures (sym c.rests.ensures ∙ c.if-not-rests.true)
-
-pub implication_and_at-within-requires : goal.implication_and_at-within-requires
-implication_and_at-within-requires c = c.requires
-
-pub returns-then-not-rests-2 : goal.returns-then-not-rests-2
-returns-then-not-rests-2 c = imp_and_lem _ _ _ _ _ _ c.implication_first_at-first.ensures (sym c.rests.ensures ∙ c.if-not-rests.false) _
-    c.implication_and_at-within.ensures (sym c.rests-2.ensures ∙ c.if-not-rests-2.true)
-
-pub implication_last_at-requires : goal.implication_last_at-requires
-implication_last_at-requires c = c.requires
+pub returns-then-is_some-2 : goal.returns-then-is_some-2
+returns-then-is_some-2 c =
+    let d = c.implication_first_at-first in
+    let e = c.implication_and_at-within in
+    imp_series _ _ _ _ _ d.result d.ensures e.result (ends_none d.result e.result _ (sym c.is_some.ensures ∙ c.if-is_some.false) e.ensures)
+    e.result (ends_some e.result _ (sym c.is_some-2.ensures ∙ c.if-is_some-2.true))
 
 pub returns : goal.returns
-returns c = imp_last_lem _ _ _ _ _ _ c.implication_first_at-first.ensures (sym c.rests.ensures ∙ c.if-not-rests.false) _
-    c.implication_and_at-within.ensures (sym c.rests-2.ensures ∙ c.if-not-rests-2.false) _
-    c.implication_last_at.ensures
+returns c =
+    let d = c.implication_first_at-first in
+    let e = c.implication_and_at-within in
+    let r = c.implication_last_at in
+    imp_series _ _ _ _ _ d.result d.ensures e.result (ends_none d.result e.result _ (sym c.is_some.ensures ∙ c.if-is_some.false) e.ensures)
+    r.result (ends_none e.result r.result _ (sym c.is_some-2.ensures ∙ c.if-is_some-2.false) r.ensures)

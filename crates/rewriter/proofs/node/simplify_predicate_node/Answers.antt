@@ -8,33 +8,33 @@ use Rattle.rewriter.proofs.NodeTurns.{into, junction_here, junction_done, to_imp
 use Rattle.rewriter.proofs.node.simplify_predicate_node.Goals as goal
 
 pub tag_at-tag-requires : goal.tag_at-tag-requires
-tag_at-tag-requires c = here_placed c.requires.here
+tag_at-tag-requires c = here_placed c.requires
 
 pub overflow_add-a : goal.overflow_add-a
-overflow_add-a c = let z = here_few c.requires.here in omega arith
+overflow_add-a c = let z = here_few c.requires in omega arith
 
 pub second_of-b-requires : goal.second_of-b-requires
-second_of-b-requires c = here_few c.requires.here
+second_of-b-requires c = here_few c.requires
 
 pub simplify_assoc_pred-requires : goal.simplify_assoc_pred-requires
-simplify_assoc_pred-requires c = junction_here _ _ _ _ _ c.tag_at-tag.ensures (inl c.in-351.is) c.requires.here _ c.requires.long
+simplify_assoc_pred-requires c = junction_here _ _ _ _ _ c.tag_at-tag.ensures (inl c.in-351.is) c.requires
 
 pub simplify_assoc_pred-requires-in-352 : goal.simplify_assoc_pred-requires-in-352
-simplify_assoc_pred-requires-in-352 c = junction_here _ _ _ _ _ c.tag_at-tag.ensures (inr c.in-352.is) c.requires.here _ c.requires.long
+simplify_assoc_pred-requires-in-352 c = junction_here _ _ _ _ _ c.tag_at-tag.ensures (inr c.in-352.is) c.requires
 
 pub implication_at-requires : goal.implication_at-requires
 unfolding lookup class_of form_at
 implication_at-requires c = two_here _ _ _ _ _ c.tag_at-tag.ensures 251 c.in-251.is predicate predicate (λ x. refl) _
-    c.second_of-b.ensures c.requires.here
+    c.second_of-b.ensures c.requires
 
 pub equivalence_at-requires : goal.equivalence_at-requires
 unfolding lookup class_of form_at
 equivalence_at-requires c = two_here _ _ _ _ _ c.tag_at-tag.ensures 252 c.in-252.is predicate predicate (λ x. refl) _
-    c.second_of-b.ensures c.requires.here
+    c.second_of-b.ensures c.requires
 
 pub negation_at-requires : goal.negation_at-requires
 unfolding lookup class_of form_at
-negation_at-requires c = here_child _ _ _ _ _ c.tag_at-tag.ensures 701 c.in-701.is predicate (λ x. refl) c.requires.here
+negation_at-requires c = here_child _ _ _ _ _ c.tag_at-tag.ensures 701 c.in-701.is predicate (λ x. refl) c.requires
 
 pub returns-in-351 : goal.returns-in-351
 returns-in-351 c = junction_done _ _ _ _ _ c.tag_at-tag.ensures (inl c.in-351.is) _ _ c.simplify_assoc_pred.ensures
@@ -43,21 +43,21 @@ pub returns-in-352 : goal.returns-in-352
 returns-in-352 c = junction_done _ _ _ _ _ c.tag_at-tag.ensures (inr c.in-352.is) _ _ c.simplify_assoc_pred-in-352.ensures
 
 pub returns-in-251 : goal.returns-in-251
-returns-in-251 c = into _ _ _ _ _ _ c.requires.long _ (to_imp _ _ _ _ _ c.tag_at-tag.ensures _ c.second_of-b.ensures
+returns-in-251 c = into _ _ _ _ _ _ _ (to_imp _ _ _ _ _ c.tag_at-tag.ensures _ c.second_of-b.ensures
     c.in-251.is _ c.implication_at.ensures)
 
 pub returns-in-252 : goal.returns-in-252
-returns-in-252 c = into _ _ _ _ _ _ c.requires.long _ (to_eqv _ _ _ _ _ c.tag_at-tag.ensures _ c.second_of-b.ensures
+returns-in-252 c = into _ _ _ _ _ _ _ (to_eqv _ _ _ _ _ c.tag_at-tag.ensures _ c.second_of-b.ensures
     c.in-252.is _ c.equivalence_at.ensures)
 
 pub returns-in-701 : goal.returns-in-701
-returns-in-701 c = into _ _ _ _ _ _ c.requires.long _ (to_not _ _ _ _ _ c.tag_at-tag.ensures c.in-701.is _ c.negation_at.ensures)
+returns-in-701 c = into _ _ _ _ _ _ _ (to_not _ _ _ _ _ c.tag_at-tag.ensures c.in-701.is _ c.negation_at.ensures)
 
 pub returns-in-851 : goal.returns-in-851
-returns-in-851 c = into _ _ _ _ _ _ c.requires.long _ (to_forall _ _ _ _ _ c.tag_at-tag.ensures c.in-851.is _ c.forall_at.ensures)
+returns-in-851 c = into _ _ _ _ _ _ _ (to_forall _ _ _ _ _ c.tag_at-tag.ensures c.in-851.is _ c.forall_at.ensures)
 
 pub returns-in-852 : goal.returns-in-852
-returns-in-852 c = into _ _ _ _ _ _ c.requires.long _ (to_exists _ _ _ _ _ c.tag_at-tag.ensures c.in-852.is _ c.exists_at.ensures)
+returns-in-852 c = into _ _ _ _ _ _ _ (to_exists _ _ _ _ _ c.tag_at-tag.ensures c.in-852.is _ c.exists_at.ensures)
 
 pub returns-in_default : goal.returns-in_default
-returns-in_default c = into _ _ _ _ _ _ c.requires.long _ (to_none _ _ _ _ _ c.tag_at-tag.ensures c.in_default.in_default-own.rest)
+returns-in_default c = into _ _ _ _ _ _ _ (to_none _ _ _ _ _ c.tag_at-tag.ensures c.in_default.in_default-own.rest)

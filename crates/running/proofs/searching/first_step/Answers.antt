@@ -1,49 +1,27 @@
-use Rattle.running.proofs.SearchTurns.{read_as, read_length, stands_at, as_framed, as_held, first_refused, first_searched}
-use mathlib.Core.Path.{sym, ◌∙◌}
+use Rattle.running.proofs.SearchTurns.{read_length, stands_at, as_nexts, as_search, first_done}
+use Rattle.checking.proofs.Accepted.{accepted_parse}
+use Rattle.std.proofs.Common.{refl}
 use Rattle.running.proofs.searching.first_step.Goals as goal
 
 pub read_again-read-requires : goal.read_again-read-requires
-read_again-read-requires c = (c.requires.0.t, read_as _ (λ i. (c.shared_slice_known-1.given i).fits) _ c.requires.0.checks)
+read_again-read-requires c = (c.requires.0.0, accepted_parse _ (λ i. (c.type_inv.frame i).fits) _ c.requires.0.1)
 
 pub binding_ok-requires : goal.binding_ok-requires
-binding_ok-requires c = (
-  read_length _ (λ i. (c.shared_slice_known-1.given i).fits) _ c.requires.0.checks,
-  c.requires.1,
-  (c.requires.0.t, stands_at _ (λ i. (c.shared_slice_known-1.given i).fits) _ c.requires.0.checks),
-)
+binding_ok-requires c =
+    let b = λ (i : _). (c.type_inv.frame i).fits in
+    (read_length _ b _ c.requires.0.1, c.requires.1, (c.requires.0.0, stands_at _ b _ c.requires.0.1))
 
 pub nexts-requires : goal.nexts-requires
-nexts-requires c = record {
-  t = c.requires.0.t;
-  framed = as_framed _ (λ i. (c.shared_slice_known-1.given i).fits) _ c.requires.0.checks _
-      (sym c.in-Nodes.is ∙ c.read_again-read.ensures.0) _ c.read_again-read.ensures.1;
-  long = c.requires.2;
-}
+nexts-requires c = as_nexts _ (λ i. (c.type_inv.frame i).fits) _ c.requires.0.1 _ c.read_again-read.ensures _ c.requires.2
 
 pub search-requires : goal.search-requires
-search-requires c = record {
-  t = c.requires.0.t;
-  table = c.nexts.ensures.table c.requires.0.t
-      (as_framed _ (λ i. (c.shared_slice_known-1.given i).fits) _ c.requires.0.checks _
-      (sym c.in-Nodes.is ∙ c.read_again-read.ensures.0) _ c.read_again-read.ensures.1);
-  held = as_held _
-      (λ i. (c.shared_slice_known-1.given i).fits) _ c.requires.0.checks _ (sym c.in-Nodes.is ∙ c.read_again-read.ensures.0) _
-      c.read_again-read.ensures.1 _ _ _ c.binding_ok.ensures;
-  room = c.requires.0.room;
-}
+search-requires c = as_search _ (λ i. (c.type_inv.frame i).fits) _ c.requires.0.1 c.read_again-read.result c.read_again-read.ensures _ _ _ c.binding_ok.ensures _
+    c.nexts.ensures _ refl refl refl refl refl
 
-pub returns-in-Refused : goal.returns-in-Refused
-returns-in-Refused c = (
-  first_refused _ (λ i. (c.shared_slice_known-1.given i).fits) _ c.requires.0.room _
-      (sym c.in-Refused.is ∙ c.read_again-read.ensures.0),
-  c.requires.1,
-  c.requires.2,
-)
-
-pub returns-in-Nodes : goal.returns-in-Nodes
-returns-in-Nodes c = (
-  first_searched _ (λ i. (c.shared_slice_known-1.given i).fits) _ (sym c.in-Nodes.is ∙ c.read_again-read.ensures.0) _
-      c.read_again-read.ensures.1 _ _ _ c.binding_ok.ensures _ c.nexts.ensures _ _ c.search.ensures,
+pub returns : goal.returns
+returns c = (
+  first_done _ (λ i. (c.type_inv.frame i).fits) c.read_again-read.result c.read_again-read.ensures _ _ _ c.binding_ok.ensures _ c.nexts.ensures _
+      refl refl refl refl refl _ _ c.search.ensures,
   c.binding_ok.ensures.size,
   c.nexts.ensures.long,
 )

@@ -1,15 +1,17 @@
-use Rattle.rewriter.proofs.PairTurns.{equal_empty, equal_right, equal_left}
-use mathlib.Core.Path.{sym, ◌∙◌}
+use Rattle.std.proofs.Common.{Some, None, refl}
+use Rattle.rewriter.proofs.PairTurns.{equal_series}
 use Rattle.rewriter.proofs.equals.equality.equal_at.Goals as goal
 
-pub returns-then-not-rests : goal.returns-then-not-rests
-returns-then-not-rests c = equal_empty _ _ _ _ _ _ c.empty_rules_at-empty.ensures (sym c.rests.ensures ∙ c.if-not-rests.true)
+pub returns-in-Some : goal.returns-in-Some
+returns-in-Some c =
+    let d = Some c.in-Some.empty in
+    equal_series _ _ _ _ _ d c.in-Some.ensures d refl d refl
 
-pub returns-then-not-rests-2 : goal.returns-then-not-rests-2
-returns-then-not-rests-2 c = equal_right _ _ _ _ _ _ c.empty_rules_at-empty.ensures (sym c.rests.ensures ∙ c.if-not-rests.false) _
-    c.type_rule_at-left.ensures (sym c.rests-2.ensures ∙ c.if-not-rests-2.true)
+pub returns-in-Some-type_rule_at : goal.returns-in-Some-type_rule_at
+returns-in-Some-type_rule_at c =
+    let e = Some c.in-Some-type_rule_at.left in
+    equal_series _ _ _ _ _ None c.in_default.ensures e c.in-Some-type_rule_at.ensures e refl
 
 pub returns : goal.returns
-returns c = equal_left _ _ _ _ _ _ c.empty_rules_at-empty.ensures (sym c.rests.ensures ∙ c.if-not-rests.false) _
-    c.type_rule_at-left.ensures (sym c.rests-2.ensures ∙ c.if-not-rests-2.false) _
-    c.type_rule_at.ensures
+returns c =
+    equal_series _ _ _ _ _ None c.in_default.ensures None c.in_default-type_rule_at.ensures c.type_rule_at-2.result c.type_rule_at-2.ensures

@@ -1,34 +1,28 @@
 use native.Mathlib.Omega.{arith}
-use Rattle.rewriter.proofs.SingleTurns.{one_small, count_first, count_next, count_end}
-use Rattle.rewriter.proofs.InterTurns.{inter_placed, inter_child}
+use Rattle.rewriter.proofs.SingleTurns.{one_more, count_first, count_child, count_next, count_end}
+use Rattle.rewriter.proofs.InterTurns.{inter_tree, inter_few}
 use Rattle.rewriter.proofs.inter.singles.count_singles.Goals as goal
 
-pub arity_at-n-requires : goal.arity_at-n-requires
-arity_at-n-requires c = (inter_placed _ _ _ _ c.requires).0
+pub children-c-items-requires : goal.children-c-items-requires
+children-c-items-requires c = inter_tree _ _ _ _ c.requires
 
-pub overflow_add-c : goal.overflow_add-c
-overflow_add-c c = let z = (inter_placed _ _ _ _ c.requires).1 in omega arith
-
-pub loop-i-init : goal.loop-i-init
-loop-i-init c = (omega arith, omega arith, count_first _ _ _ _)
+pub loop-c-init : goal.loop-c-init
+loop-c-init c = rw c.into_iter-c-iterator.ensures.into_iter_gives (
+  omega (arith, inter_few _ _ _ _ c.requires _ c.children-c-items.ensures),
+  count_first _ _ _ _ _ c.children-c-items.ensures,
+)
 
 pub is_single-requires : goal.is_single-requires
-is_single-requires c = (inter_child _ _ _ _ _ _ c.arity_at-n.ensures _ _ c.loop-i.invariant.2 c.loop-i-test.true c.requires).0
+is_single-requires c = count_child _ _ _ _ _ _ c.loop-c.invariant.1 _ _ c.in-Some.ensures.steps c.requires
 
 pub overflow_add-m : goal.overflow_add-m
-overflow_add-m c = let z = one_small c.is_single.result _ c.one_if-m.ensures in omega arith
+overflow_add-m c = let z = one_more c.is_single.result _ c.from-m.ensures _ _ _ c.in-Some.ensures.steps in omega arith
 
-pub next_at-c-requires : goal.next_at-c-requires
-next_at-c-requires c = (inter_child _ _ _ _ _ _ c.arity_at-n.ensures _ _ c.loop-i.invariant.2 c.loop-i-test.true c.requires).1
-
-pub loop-i-preserved : goal.loop-i-preserved
-loop-i-preserved c = (
-  omega arith,
-  (let z = one_small c.is_single.result _ c.one_if-m.ensures in omega arith),
-  count_next _ _ _
-      _ _ c.arity_at-n.ensures _ _ _ c.loop-i.invariant.2 c.loop-i-test.true _ c.is_single.ensures _
-      c.one_if-m.ensures _ c.next_at-c.ensures.0,
+pub loop-c-preserved : goal.loop-c-preserved
+loop-c-preserved c = (
+  (let z = one_more c.is_single.result _ c.from-m.ensures _ _ _ c.in-Some.ensures.steps in omega arith),
+  count_next _ _ _ _ _ _ c.loop-c.invariant.1 _ _ c.in-Some.ensures.steps _ c.is_single.ensures _ c.from-m.ensures,
 )
 
 pub returns : goal.returns
-returns c = count_end _ _ _ _ _ c.arity_at-n.ensures _ _ _ c.loop-i.invariant.2 c.loop-i-test.false
+returns c = count_end _ _ _ _ _ _ c.loop-c.invariant.1 c.in-None.ensures.steps.0

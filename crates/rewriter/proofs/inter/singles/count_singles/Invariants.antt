@@ -1,10 +1,8 @@
-use Prim.Native.Nat.{◌-◌, ◌≤◌}
+use Prim.Native.Nat.{◌+◌, ◌≤◌}
+use lib.ListN.{length}
 use Rattle.rewriter.proofs.SingleTurns.{Counts}
-use Rattle.decision.proofs.Children.{Lefts}
+use Rattle.decision.proofs.ChildWalks.{Lefts}
 use Rattle.rewriter.proofs.inter.singles.count_singles.Given as goal
 
-abbrev pub invariant-loop-i : goal.invariant-loop-i
-invariant-loop-i l = (l.i ≤ l.n) × (l.m ≤ l.i) × Lefts l.s l.starts l.nexts l.k (Counts l.m) l.c l.i
-
-abbrev pub decreases-loop-i : goal.decreases-loop-i
-decreases-loop-i l = l.n - l.i
+abbrev pub invariant-loop-c : goal.invariant-loop-c
+invariant-loop-c l = (l.m + length l.c-iterator ≤ 2048) × Lefts l.places.bytes.now l.places.starts.now l.places.nexts.now l.k (Counts l.m) l.c-iterator

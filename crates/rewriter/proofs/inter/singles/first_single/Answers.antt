@@ -1,33 +1,26 @@
-use native.Mathlib.Omega.{arith}
-use Rattle.rewriter.proofs.SingleTurns.{first_first, first_found, first_next, first_none}
-use Rattle.rewriter.proofs.InterTurns.{inter_placed, inter_child}
+use Rattle.std.proofs.Common.{rules, refl, true, false}
+use Rattle.std.proofs.lemmas.Iterator.{first_from_find}
+use Rattle.std.proofs.lemmas.Iterator.Consumers.{YieldsList-from_first}
+use Rattle.std.proofs.lemmas.Iterator.Adapters.{serves_from_places}
+use Rattle.nav.specs.PlaceTables.{Placed}
+use Rattle.rewriter.specs.Inter.{SinglePost}
+use Rattle.rewriter.proofs.InterTurns.{inter_tree, inter_child}
+use Rattle.rewriter.proofs.SingleTurns.{first_done}
 use Rattle.rewriter.proofs.inter.singles.first_single.Goals as goal
 
-pub arity_at-n-requires : goal.arity_at-n-requires
-arity_at-n-requires c = (inter_placed _ _ _ _ c.requires).0
+pub children-requires : goal.children-requires
+children-requires c = inter_tree _ _ _ _ c.requires
 
-pub overflow_add-c : goal.overflow_add-c
-overflow_add-c c = let z = (inter_placed _ _ _ _ c.requires).1 in omega arith
-
-pub loop-i-init : goal.loop-i-init
-loop-i-init c = (omega arith, first_first _ _ _ _)
-
-pub is_single-requires : goal.is_single-requires
-is_single-requires c = (inter_child _ _ _ _ _ _ c.arity_at-n.ensures _ _ c.loop-i.invariant.1 c.loop-i-test.true c.requires).0
-
-pub returns-then-is_single : goal.returns-then-is_single
-returns-then-is_single c = first_found _ _ _ _ _ c.arity_at-n.ensures _ _ c.loop-i.invariant.1 c.loop-i-test.true _
-    c.is_single.ensures c.if-is_single.true
-
-pub next_at-c-requires : goal.next_at-c-requires
-next_at-c-requires c = (inter_child _ _ _ _ _ _ c.arity_at-n.ensures _ _ c.loop-i.invariant.1 c.loop-i-test.true c.requires).1
-
-pub loop-i-preserved : goal.loop-i-preserved
-loop-i-preserved c = (
-  omega arith,
-  first_next _ _ _ _ _ c.arity_at-n.ensures _ _ c.loop-i.invariant.1 c.loop-i-test.true _
-      c.is_single.ensures c.if-is_single.false _ c.next_at-c.ensures.0,
-)
+pub find-requires-clause-callable : goal.find-requires-clause-callable
+find-requires-clause-callable c =
+    serves_from_places (YieldsList-from_first (λ x. x) (λ x. x) c.children.result refl) (λ x q k. search rules)
+    (λ x i l e.
+    let p : Placed c.args.places.now.bytes.now c.args.places.now.starts.now x = inter_child _ _ _ _ c.requires _ c.children.ensures x i l e in
+    search rules)
 
 pub returns : goal.returns
-returns c = first_none _ _ _ _ _ c.arity_at-n.ensures _ _ c.loop-i.invariant.1 c.loop-i-test.false
+returns c =
+    first_done _ _ _ _ _ c.children.ensures _
+    (first_from_find _ _ _ (λ x. SinglePost c.args.places.now.bytes.now c.args.places.now.starts.now x true)
+    (λ x. SinglePost c.args.places.now.bytes.now c.args.places.now.starts.now x false) c.find.ensures.ran
+    (YieldsList-from_first (λ x. x) (λ x. x) c.children.result refl) (λ x q k. search rules) (λ x q k. search rules))

@@ -1,0 +1,36 @@
+-- The word of an answer is that of what the definition gives: the number of a refusal is the definition's.
+-- Main results: check_word_lem, step_word_lem, run_word_lem.
+use Rattle.std.proofs.Common.{◌≡◌, ℕ, ◌+◌, ◌*◌, ◌^◌, List, refl, ap}
+use Rattle.frame.proofs.RefusalNumbers.{number_back}
+use Rattle.typing.specs.Check.{Checked, accepted, refused, check, check_answer}
+use Rattle.typing.proofs.Answers.{check_number}
+use Rattle.step.specs.Step.{Outcome, wrote, kept, turned_down, step, step_answer}
+use Rattle.step.proofs.Answers.{step_number}
+use Rattle.run.specs.Run as R
+use Rattle.run.specs.Run.{REST, SPENT, FULL, RunOutcome, ended, run, run_answer}
+use Rattle.run.proofs.Answers.{run_number}
+use Rattle.words.specs.Words.{check_word, step_word, run_word, check_answer_word, step_answer_word, run_answer_word}
+
+pub check_word_lem : (s : List ℕ) → check_answer_word (check_answer (check s)) ≡ check_word (check s)
+check_word_lem s = go (check s) refl
+  where
+    go : (x : Checked) → check s ≡ x → check_answer_word (check_answer x) ≡ check_word x
+    go (accepted t) h = refl
+    go (refused n) h = number_back n (check_number s n h)
+
+pub step_word_lem : (s : List ℕ) (k c : ℕ) → step_answer_word (step_answer (step s k c)) ≡ step_word (step s k c)
+step_word_lem s k c = go (step s k c) refl
+  where
+    go : (x : Outcome) → step s k c ≡ x → step_answer_word (step_answer x) ≡ step_word x
+    go (wrote xs) h = refl
+    go kept h = refl
+    go (turned_down n) h = ap (λ i. 131072 + i) (number_back n (step_number s k c n h))
+
+pub run_word_lem : (s : List ℕ) (budget c : ℕ) → run_answer_word (run_answer (run s budget c)) ≡ run_word (run s budget c)
+run_word_lem s budget c = go (run s budget c) refl
+  where
+    go : (x : RunOutcome) → run s budget c ≡ x → run_answer_word (run_answer x) ≡ run_word x
+    go (ended REST n xs) h = refl
+    go (ended SPENT n xs) h = refl
+    go (ended FULL n xs) h = refl
+    go (R.turned_down n) h = ap (λ i. 4 * 2 ^ 48 + i) (number_back n (run_number s budget c n h))
