@@ -5,12 +5,12 @@ use Rattle.std.proofs.Common.{Option, Some, None}
 use Rattle.std.specs.Option.{is_some}
 use mathlib.Core.Path.{◌≡◌, refl, sym, ap, ap₂, ◌∙◌, subst}
 use mathlib.Core.Bool.{true, false, and-true}
-use mathlib.Core.List.{List, [], ◌∷◌, append-nil}
+use mathlib.Core.List.{List, [], ◌∷◌}
 use Prim.Native.Nat.{ℕ, ◌+◌, ◌-◌, ◌≤◌, ◌<◌}
 use native.Mathlib.Omega.{arith}
 use lib.ListN.{length, get_or, set, length-set}
 use Rattle.frame.specs.Trees.{head, Tree, node, Forest, nil, cons, append, count, nodes, nodes_in}
-use Rattle.frame.specs.Tags.{predicate}
+use Rattle.frame.specs.Tags.{predicate, types_of}
 use Rattle.frame.specs.Operators.{#BoundIdent}
 use Rattle.frame.specs.Encoding.{enc, encs}
 use Rattle.frame.specs.Reading.{frame_limit}
@@ -19,15 +19,16 @@ use Rattle.frame.specs.Spans.{Bytes, Spans}
 use Rattle.frame.specs.At.{IsAt}
 use mathlib.Core.Logic.{inl, inr}
 use Rattle.tags.specs.declared.forms.Form.TheVariants.{BoundIdentifier, QuantifiedPredicate, QuantifiedExpression}
+use Rattle.tags.specs.TagCodes.{meant}
 use Rattle.heads.specs.HeadPost.{HeadStands, KnownPost}
 use Rattle.heads.specs.declared.Head.{Head as ReadHead}
 use Rattle.frame.proofs.Inversion.{true_not}
 use Rattle.frame.proofs.ReadTypes.{tys_long}
-use Rattle.heads.proofs.View.{at_span, at_wf}
+use Rattle.reading.proofs.AgainTurns.{frame_rest}
 use Rattle.typing.specs.Binding.{closed_tree, closed_forest}
 use Rattle.heads.specs.Leaves.{LeavesAt}
-use Rattle.binding.specs.Bound.{Opened, Outside, Ready, Row, RowHere, OpenPost, BoundRow, BindingPost}
-use Rattle.binding.proofs.OpenBinders.{Binders, opened_below}
+use Rattle.binding.specs.Bound.{Opened, Outside, Ready, Row, RowHere, BindersStand, OpenPost, BoundRow, BindingPost}
+use Rattle.binding.proofs.OpenBinders.{opened_below}
 use Rattle.binding.proofs.BinderTags.{Binding, under_plain, under_binding, bound_tag, other_tag}
 use Rattle.binding.proofs.BoundWalk.{
   Walk,
@@ -51,10 +52,6 @@ pub record Going (s : List ℕ) (at m depth k : ℕ) (b₀ l₀ : List ℕ) (p l
   pub from : at ≤ p
   pub size : length b ≡ length b₀
   pub back : (b₂ l₂ : List ℕ) (r : Option (ℕ × ℕ)) → BoundRow s p left depth j b l b₂ l₂ r → BoundRow s at m depth k b₀ l₀ b₂ l₂ r
-
-pub going_begins : (s : List ℕ) (at m depth k : ℕ) (b l : List ℕ) → Ready s at depth k b l → RowHere s at m depth b
-    → Going s at m depth k b l at m k b l
-going_begins s at m depth k b l y h = record { ready = y; here = h; from = omega arith; size = refl; back = λ b₂ l₂ r w. w }
 
 pub going_done : (s : List ℕ) (at m depth k : ℕ) (b₀ l₀ : List ℕ) (p left j : ℕ) (b l : List ℕ)
     → Going s at m depth k b₀ l₀ p left j b l → left ≤ 0 → BoundRow s at m depth k b₀ l₀ b l (Some (p, j))
@@ -226,8 +223,8 @@ module _ {s : List ℕ} {at m depth k : ℕ} {b₀ l₀ : List ℕ} {p left j : 
             back = λ b₂ l₂ r next. w.back b₂ l₂ r (plain_back b₂ l₂ r next);
           }
 
-  -- ---- a node with binders
-  module _ (bind : Binding hd.form) where
+  -- ---- a node with binders; n, how many types its form says
+  module _ (bind : Binding hd.form) (n : ℕ) (many : n ≡ types_of (meant hd.form).layout (meant hd.form).carried x) where
     bound_apart : Binding hd.form → hd.form ≡ BoundIdentifier → ⊥
     bound_apart (inl x) e = cc
     bound_apart (inr x) e = cc
@@ -235,42 +232,38 @@ module _ {s : List ℕ} {at m depth k : ℕ} {b₀ l₀ : List ℕ} {p left j : 
     apart : g ≡ #BoundIdent → ⊥
     apart = other_tag g hd.form u.known.form (bound_apart bind)
 
-    pub types_here : Binders s tp to
-    types_here = (now.us, now.types, now.wf.types)
+    pub types_here : BindersStand s tp n
+    types_here = (now.us, to, now.many ∙ sym many, now.types, now.wf.types)
 
-    module _ (b₁ : List ℕ) (inside : ℕ) (op : OpenPost s tp to depth b b₁ inside) where
-      opened_in : (ts : Forest) (q : ℕ) (v : FirstNode s p left ts q hd)
-          → (inside ≡ depth + length v.us) × ((Γ : Ctx) → Opened s Γ b depth → Opened s (under g v.us Γ) b₁ inside)
-      opened_in ts q v =
-          let f = op.by v.us v.types v.wf.types in (
-            f.0,
-            λ Γ o. subst (λ (Δ : Ctx). Opened s Δ b₁ inside) (under_binding g hd.form u.known.form bind v.us Γ) (f.1 Γ o),
-          )
+    module _ (b₁ : List ℕ) (inside : ℕ) (op : OpenPost s tp n depth b b₁ inside) where
+      opened_in : (ts : Forest) (q : ℕ) (v : FirstNode s p left ts q hd) (Γ : Ctx) → Opened s Γ b depth → Opened s (under g v.us Γ) b₁ inside
+      opened_in ts q v Γ o =
+          subst (λ (Δ : Ctx). Opened s Δ b₁ inside) (under_binding g hd.form u.known.form bind v.us Γ)
+          (op.by v.us to (v.many ∙ sym many) v.types v.wf.types Γ o)
 
       pub call_here : Ready s to inside (j + 1) b₁ l × RowHere s to c inside b₁
       call_here =
           let y = w.ready in
           let h = w.here in
           let e = turn_room in
-          let f = opened_in h.0 h.2 now in (
+          let k = now.many in (
             record {
               fits = y.fits;
               within = e.2;
-              opened = omega (arith, y.opened, f.0, tys_long now.us, now.types.long);
+              opened = omega (arith, y.opened, op.many, tys_long now.us, now.types.long);
               place = omega (arith, y.place);
               binders_room = omega (arith, y.binders_room, op.size);
               leaves_size = y.leaves_size;
             },
-            (now.ks, under g now.us h.1, now.mid, now.kids, f.1 h.1 h.4),
+            (now.ks, under g now.us h.1, now.mid, now.kids, opened_in h.0 h.2 now h.1 h.4),
           )
 
       module _ (b₂ l₂ : List ℕ) (r₂ : Option (ℕ × ℕ)) (post : BoundRow s to c inside (j + 1) b₁ l b₂ l₂ r₂) where
         over : (ts : Forest) (Γ : Ctx) (q : ℕ) (v : FirstNode s p left ts q hd) → Opened s Γ b depth
             → Walk s (node (head g v.n v.us) v.ks) Γ depth j v.mid b l b₂ l₂ r₂
         over ts Γ q v o =
-            let f = opened_in ts q v in
-            walk_node g v.n v.us v.ks Γ apart s depth inside j v.mid b l b₁ b₂ l₂ r₂ (omega (arith, f.0)) op.kept op.size
-            (post.by v.ks (under g v.us Γ) v.mid v.kids (f.1 Γ o))
+            walk_node g v.n v.us v.ks Γ apart s depth inside j v.mid b l b₁ b₂ l₂ r₂ (omega (arith, op.many)) op.kept op.size
+            (post.by v.ks (under g v.us Γ) v.mid v.kids (opened_in ts q v Γ o))
 
         pub turn_stop : r₂ ≡ None → BoundRow s at m depth k b₀ l₀ b₂ l₂ None
         turn_stop er = w.back b₂ l₂ None (record { by = by })
@@ -305,10 +298,10 @@ module _ {s : List ℕ} {at m depth k : ℕ} {b₀ l₀ : List ℕ} {p left j : 
                   let z = past ts Γ q v o in
                   let done = z.2 in
                   let after : Row s e (left - 1) v.later q = subst (λ (d : ℕ). Row s d (left - 1) v.later q) (sym z.0) v.after in
-                  let n : WalkAll s v.later Γ depth i q b₂ l₂ b₃ l₃ r = next.by v.later Γ q after
+                  let rest : WalkAll s v.later Γ depth i q b₂ l₂ b₃ l₃ r = next.by v.later Γ q after
                   (opened_below s Γ b b₂ depth done.kept o) in
                   rw v.is (walk_cons s t v.later Γ depth j q v.mid b l b₂ l₂ b₃ l₃ r done
-                  (subst (λ (h : ℕ). WalkAll s v.later Γ depth h q b₂ l₂ b₃ l₃ r) z.1 n))
+                  (subst (λ (h : ℕ). WalkAll s v.later Γ depth h q b₂ l₂ b₃ l₃ r) z.1 rest))
 
           pub turn_over : (p + 2 ≤ e) × (e ≤ length s) × Going s at m depth k b₀ l₀ e (left - 1) i b₂ l₂
           turn_over =
@@ -357,13 +350,7 @@ ready_first s b₀ l₀ f h z = record {
 
 -- a frame is a row of one tree
 pub whole : (s : List ℕ) → Bytes s → (t : Tree) → IsAt s predicate 0 t (length s) → Row s 0 1 (cons t nil) (length s)
-unfolding enc
-whole s bs t a = record {
-  sorts = predicate ∷ [];
-  span = subst (Spans s 0 (length s)) (sym (append-nil (enc t))) (at_span s bs predicate 0 t (length s) a);
-  wf = (at_wf s bs predicate 0 t (length s) a, tt);
-  many = refl;
-}
+whole s bs t a = let r = frame_rest s bs t a in record { sorts = predicate ∷ []; span = r.span; wf = r.wf; many = refl }
 
 module _ (s : List ℕ) (bs : Bytes s) (l₀ b₀ b₁ l₁ : List ℕ) (r : Option (ℕ × ℕ)) (h : (t : Tree) × IsAt s predicate 0 t (length s))
     (post : BoundRow s 0 1 0 0 b₀ l₀ b₁ l₁ r) where

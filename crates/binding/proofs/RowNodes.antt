@@ -9,7 +9,7 @@ use lib.ListN.{length, length-append}
 use Rattle.frame.specs.Types.{Ty}
 use Rattle.frame.specs.Trees.{head, Tree, node, Forest, nil, cons, append, count, nodes}
 use Rattle.frame.specs.Tags as T
-use Rattle.frame.specs.Tags.{payload_of, sorts_of}
+use Rattle.frame.specs.Tags.{payload_of, types_of, sorts_of}
 use Rattle.tags.specs.declared.forms.Sort.{Sort}
 use Rattle.tags.specs.declared.forms.Form.{Form}
 use Rattle.tags.specs.declared.forms.Form.TheVariants.{BoundIdentifier}
@@ -25,7 +25,7 @@ use Rattle.frame.proofs.Forests.{encs_append, count_append, wfs_append}
 use Rattle.frame.proofs.Extents.{nodes_enc}
 use Rattle.frame.proofs.ReadBack.{enc_long}
 use Rattle.tags.proofs.TagTables.{code_form}
-use Rattle.heads.proofs.View.{stands_at, kids_span, kids_wf, known_view}
+use Rattle.heads.proofs.View.{stands_at, kids_span, kids_wf, known_view, known_many}
 use Rattle.binding.specs.Bound.{Row, RowHere}
 
 -- ---- the first tree
@@ -85,6 +85,7 @@ pub record FirstNode (s : List ℕ) (at m : ℕ) (ts : Forest) (q : ℕ) (hd : R
   pub index : hd.form ≡ BoundIdentifier → n ≡ hd.number
   pub alone : hd.form ≡ BoundIdentifier → hd.count ≡ 0
   pub types : Spans s hd.types hd.children (enc_tys us)
+  pub many : length us ≡ types_of (meant hd.form).layout (meant hd.form).carried hd.number
   pub wf : HeadWf e hd.tag n us (count ks)
   pub kids : Row s hd.children hd.count ks mid
   pub after : Row s mid (m - 1) later q
@@ -110,6 +111,7 @@ module _ (s : List ℕ) (bs : Bytes s) (at m : ℕ) (l : 0 < m) (hd : ReadHead) 
             ∙ ap (λ (f : T.Form). sorts_of f.layout (number_in hd.tag (payload_in hd) v.us (count v.ks))) (sym (code_form hd.tag hd.form kn.form))
             ∙ ap (λ (f : Form). sorts_of (meant f).layout (number_in hd.tag (payload_in hd) v.us (count v.ks))) z);
         types = v.top.types;
+        many = known_many s bs at hd kn f.e f.t f.mid v;
         wf = v.top.wf;
         kids = record {
           sorts = _;

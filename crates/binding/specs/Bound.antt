@@ -52,11 +52,16 @@ abbrev pub RowHere : List ℕ → ℕ → ℕ → ℕ → List ℕ → Type 0
 RowHere s at m depth binders = (ts : Forest) × (Γ : Ctx) × (q : ℕ) × Row s at m ts q × Opened s Γ binders depth
 
 -- ---- binders are opened
-pub record OpenPost (s : List ℕ) (at end depth : ℕ) (old new : List ℕ) (r : ℕ) : Type 0 where
+-- n types stand in a row from `at` on, none longer than the limit
+abbrev pub BindersStand : List ℕ → ℕ → ℕ → Type 0
+BindersStand s at n = (us : List Ty) × (end : ℕ) × (length us ≡ n) × Spans s at end (enc_tys us) × TysWf us
+
+pub record OpenPost (s : List ℕ) (at n depth : ℕ) (old new : List ℕ) (r : ℕ) : Type 0 where
   pub size : length new ≡ length old
   pub kept : Below depth old new
-  pub by : (us : List Ty) → Spans s at end (enc_tys us) → TysWf us
-      → (r ≡ depth + length us) × ((Γ : Ctx) → Opened s Γ old depth → Opened s (push us Γ) new r)
+  pub many : r ≡ depth + n
+  pub by : (us : List Ty) (end : ℕ) → length us ≡ n → Spans s at end (enc_tys us) → TysWf us
+      → (Γ : Ctx) → Opened s Γ old depth → Opened s (push us Γ) new r
 
 -- ---- trees are gone over
 abbrev pub bound_answer : Bool → ℕ → ℕ → Option (ℕ × ℕ)

@@ -14,7 +14,7 @@ use Rattle.frame.specs.Operators.{#SetExt, #In, #SubsetEq, #BUnion, #BInter, #No
 use Rattle.frame.specs.Encoding.{enc_number, enc, encs}
 use Rattle.frame.specs.Places.{Ctx, under, found, find}
 use Rattle.frame.proofs.Splices.{find_lt}
-use Rattle.frame.proofs.Within.{kids_of_lem, kid_first, kid_next}
+use Rattle.frame.proofs.Within.{KidsAtPlace, kids_of_lem, kid_first, kid_next}
 use Rattle.frame.proofs.Forests.{count_append, encs_append}
 use Rattle.frame.proofs.Extents.{some_node}
 use Rattle.std.proofs.Common.{Option}
@@ -29,9 +29,9 @@ use Rattle.put.proofs.Puts.{puts_then, puts_as}
 use Rattle.templates.proofs.Joins.{plain_bytes, inter_bytes, union_bytes}
 use Rattle.decision.specs.Decision.{ApartMeans}
 use Rattle.decision.proofs.Shapes.{Counts, few_of, some_two, place_few}
-use Rattle.build.specs.Rows.{CopyPost, row_of, RowAt, RowPre, RowPost, MinusRowPost}
+use Rattle.build.specs.Rows.{CopyPost, row_of, minuend_bytes, subtrahend_bytes, Shares, RowPre, RowPost, MinusRowPost}
 use Rattle.build.specs.Subtree.{joined_bytes, BuildPre, BuildPost, OfApart, OfWithin}
-use Rattle.build.specs.declared.rows.Share.TheVariants.{Besides, Minuend, Subtrahend}
+use Rattle.build.proofs.RowTurns.{besides}
 use Rattle.build.proofs.SubtreeTurns.{many_then, new_is}
 
 -- ---- an ∩ has from 2 to 255 operands
@@ -46,7 +46,7 @@ module _ (pl : Places) (t : Tree) (tb : PlacesOf pl t) (at : ℕ) (Ξ : Ctx) (x 
       let o = place_sorted pl.bytes.now t pl.starts.now pl.count tb.framed at Ξ (node (head #BInter x vs) ks) f in
       (some_two #BInter inter_counts x vs ks o, few_of #BInter inter_counts x vs ks o)
 
-  inter_row : RowAt t (at + 1) (under #BInter vs Ξ) ks
+  inter_row : KidsAtPlace t [] (at + 1) (under #BInter vs Ξ) ks
   inter_row = kids_of_lem t [] at Ξ #BInter x vs ks f
 
   inter_pre : RowPre pl at
@@ -85,7 +85,7 @@ two_bytes g es h a b = plain_bytes g (pair a b) es h ∙ ap (λ (l : List ℕ). 
 -- ---- rows as trees
 -- no child before or behind place k is at it
 row_before : (k c : ℕ) (left right : Forest) → c + nodes_in left ≤ k
-    → row_of (Besides k) c (append left right) ≡ encs left ++ row_of (Besides k) (c + nodes_in left) right
+    → row_of (besides k) c (append left right) ≡ encs left ++ row_of (besides k) (c + nodes_in left) right
 unfolding row_of enc nodes
 row_before k c nil right h = let z : c + 0 ≡ c = omega arith in rw z refl
 row_before k c (cons w left) right h =
@@ -93,10 +93,10 @@ row_before k c (cons w left) right h =
     let z : eqb c k ≡ false = ne_eqb c k (λ e. omega arith) in
     let y : c + nodes w + nodes_in left ≡ c + (nodes w + nodes_in left) = omega arith in
     rw z (ap (λ (l : List ℕ). enc w ++ l) (row_before k (c + nodes w) left right (omega arith) ∙ ap
-    (λ (i : ℕ). encs left ++ row_of (Besides k) i right) y) ∙ sym
-    (append_assoc (enc w) (encs left) (row_of (Besides k) (c + (nodes w + nodes_in left)) right)))
+    (λ (i : ℕ). encs left ++ row_of (besides k) i right) y) ∙ sym
+    (append_assoc (enc w) (encs left) (row_of (besides k) (c + (nodes w + nodes_in left)) right)))
 
-row_behind : (k c : ℕ) (right : Forest) → k < c → row_of (Besides k) c right ≡ encs right
+row_behind : (k c : ℕ) (right : Forest) → k < c → row_of (besides k) c right ≡ encs right
 unfolding row_of enc
 row_behind k c nil h = refl
 row_behind k c (cons w right) h =
@@ -105,7 +105,7 @@ row_behind k c (cons w right) h =
 
 -- all but the one at place k
 row_besides : (k c : ℕ) (left : Forest) (w : Tree) (right : Forest) → k ≡ c + nodes_in left
-    → row_of (Besides k) c (append left (cons w right)) ≡ encs (append left right)
+    → row_of (besides k) c (append left (cons w right)) ≡ encs (append left right)
 unfolding row_of
 row_besides k c left w right e =
     let a = some_node w in
@@ -113,7 +113,7 @@ row_besides k c left w right e =
     row_before k c left (cons w right) (omega arith) ∙ rw z
     (ap (λ (l : List ℕ). encs left ++ l) (row_behind k (c + nodes_in left + nodes w) right (omega arith)) ∙ sym (encs_append left right))
 
-row_minuends : (c : ℕ) (ks : Forest) → row_of Minuend c ks ≡ encs (minuends ks)
+row_minuends : (c : ℕ) (ks : Forest) → row_of minuend_bytes c ks ≡ encs (minuends ks)
 unfolding row_of minuends enc
 row_minuends c nil = refl
 row_minuends c (cons w ks) = ap (λ (l : List ℕ). enc (minuend (minus_of w)) ++ l) (row_minuends (c + nodes w) ks)
@@ -137,7 +137,7 @@ unfolding subtrahends
 few_subtrahends nil = omega arith
 few_subtrahends (cons w ks) = omega (arith, few_subtrahends ks, one_subtrahend (minus_of w) (subtrahends ks))
 
-row_subtrahends : (c : ℕ) (ks : Forest) → row_of Subtrahend c ks ≡ encs (subtrahends ks)
+row_subtrahends : (c : ℕ) (ks : Forest) → row_of subtrahend_bytes c ks ≡ encs (subtrahends ks)
 unfolding row_of subtrahends enc
 row_subtrahends c nil = refl
 row_subtrahends c (cons w ks) =
@@ -145,7 +145,7 @@ row_subtrahends c (cons w ks) =
 
 -- ---- build_apart
 -- the operand at a place of a row
-row_at : (t : Tree) (c : ℕ) (Γ : Ctx) (left : Forest) (w : Tree) (right : Forest) → RowAt t c Γ (append left (cons w right))
+row_at : (t : Tree) (c : ℕ) (Γ : Ctx) (left : Forest) (w : Tree) (right : Forest) → KidsAtPlace t [] c Γ (append left (cons w right))
     → find t [] (c + nodes_in left) ≡ found Γ w
 unfolding nodes
 row_at t c Γ nil w right r = let z : c + 0 ≡ c = omega arith in ap (find t []) z ∙ kid_first t [] c Γ w right r
@@ -190,9 +190,9 @@ module _ (at single : ℕ) (pl : Places) where
     pub apart_built : (o₀ o₁ : Option (List ℕ)) → Puts o₀ o₁ (enc_number 2 #Not) → (o₂ : Option (List ℕ))
         → Puts o₁ o₂ (enc_number 2 #In) → (o₃ : Option (List ℕ)) → CopyPost pl (single + 1) o₂ o₃ → (o₄ : Option (List ℕ))
         → Puts o₃ o₄ (joined_bytes #BInter (m - 1)) → (o₅ : Option (List ℕ))
-        → RowPost pl at (Besides single) o₄ o₅ → BuildPost (OfApart at single) pl o₀ o₅
+        → (gives : ℕ → Option ℕ → Type 0) → Shares gives pl (besides single) → RowPost gives pl at o₄ o₅ → BuildPost (OfApart at single) pl o₀ o₅
     unfolding lookup class_of form_at
-    apart_built o₀ o₁ h₁ o₂ h₂ o₃ h₃ o₄ h₄ o₅ h₅ =
+    apart_built o₀ o₁ h₁ o₂ h₂ o₃ h₃ o₄ h₄ o₅ gives s h₅ =
         record {
           puts = λ t c p new tb h w ans.
               (let rest : Forest = append w.left w.right in
@@ -201,7 +201,7 @@ module _ (at single : ℕ) (pl : Places) where
               let e = inter_count pl t tb at w.Ξ w.n w.vs (operands t c w) w.at_node m pm in
               let x₃ = h₃.puts t _ w.a tb (member_at t c tb w).1 in
               let x₅ = puts_as o₄ o₅ _ _ (row_besides single (at + 1) w.left (many #SetExt (sole w.a)) w.right w.there)
-              (h₅.puts t w.Ξ #BInter w.n w.vs (operands t c w) tb w.at_node) in
+              (h₅.puts (besides single) s t w.Ξ #BInter w.n w.vs (operands t c w) tb w.at_node) in
               let z : m - 1 ≡ count rest = omega (
                 arith,
                 count_append w.left
@@ -224,9 +224,6 @@ module _ (at : ℕ) (pl : Places) where
   pub within_row : BuildPre (OfWithin at) pl → RowPre pl at
   within_row p = inter_pre pl p.t p.table at _ _ _ _ p.means.at_node
 
-  pub within_few : BuildPre (OfWithin at) pl → at < 2048
-  within_few p = place_few p.table p.means.at_node
-
   module _ (m : ℕ) (pm : ArityAt pl at m) where
     pub within_many : BuildPre (OfWithin at) pl → m ≤ 255
     within_many p = (inter_many pl p.t p.table at _ _ _ _ p.means.at_node m pm).1
@@ -238,11 +235,12 @@ module _ (at : ℕ) (pl : Places) where
         omega (arith, pd.counts p.t w.Ξ #BInter w.n w.vs w.ks p.table w.at_node, few_subtrahends w.ks, (inter_few pl p.t p.table at w.Ξ w.n w.vs w.ks w.at_node).1)
 
     pub within_built : (o₀ o₁ : Option (List ℕ)) → Puts o₀ o₁ (enc_number 2 #SubsetEq) → (o₂ : Option (List ℕ))
-        → Puts o₁ o₂ (joined_bytes #BInter m) → (o₃ : Option (List ℕ)) → RowPost pl at Minuend o₂ o₃ → (d : ℕ)
+        → Puts o₁ o₂ (joined_bytes #BInter m) → (o₃ : Option (List ℕ)) → (lefts : ℕ → Option ℕ → Type 0)
+        → Shares lefts pl minuend_bytes → RowPost lefts pl at o₂ o₃ → (d : ℕ)
         → MinusRowPost pl at d → (o₄ : Option (List ℕ)) → Puts o₃ o₄ (joined_bytes #BUnion d) → (o₅ : Option (List ℕ))
-        → RowPost pl at Subtrahend o₄ o₅ → BuildPost (OfWithin at) pl o₀ o₅
+        → (rights : ℕ → Option ℕ → Type 0) → Shares rights pl subtrahend_bytes → RowPost rights pl at o₄ o₅ → BuildPost (OfWithin at) pl o₀ o₅
     unfolding lookup class_of form_at
-    within_built o₀ o₁ h₁ o₂ h₂ o₃ h₃ d pd o₄ h₄ o₅ h₅ =
+    within_built o₀ o₁ h₁ o₂ h₂ o₃ lefts s₃ h₃ d pd o₄ h₄ o₅ rights s₅ h₅ =
         record {
           puts = λ t c p new tb h w ans.
               (let ks = w.ks in
@@ -251,9 +249,9 @@ module _ (at : ℕ) (pl : Places) where
               let y = ap enc (new_is (two #SubsetEq a b) new 38 p (sym w.answer ∙ ans)) in
               let e = inter_count pl t tb at w.Ξ w.n w.vs ks w.at_node m pm in
               let x₂ = puts_as o₁ o₂ _ _ (ap (joined_bytes #BInter) (e ∙ sym (count_minuends ks))) h₂ in
-              let x₃ = puts_as o₂ o₃ _ _ (row_minuends (at + 1) ks) (h₃.puts t w.Ξ #BInter w.n w.vs ks tb w.at_node) in
+              let x₃ = puts_as o₂ o₃ _ _ (row_minuends (at + 1) ks) (h₃.puts minuend_bytes s₃ t w.Ξ #BInter w.n w.vs ks tb w.at_node) in
               let x₄ = puts_as o₃ o₄ _ _ (ap (joined_bytes #BUnion) (pd.counts t w.Ξ #BInter w.n w.vs ks tb w.at_node)) h₄ in
-              let x₅ = puts_as o₄ o₅ _ _ (row_subtrahends (at + 1) ks) (h₅.puts t w.Ξ #BInter w.n w.vs ks tb w.at_node) in
+              let x₅ = puts_as o₄ o₅ _ _ (row_subtrahends (at + 1) ks) (h₅.puts subtrahend_bytes s₅ t w.Ξ #BInter w.n w.vs ks tb w.at_node) in
               let first = puts_as o₁ o₃ _ _ (sym (joined_bytes_lem #BInter inter_bytes (minuends ks))) (puts_then o₁ o₂ o₃ _ _ x₂ x₃) in
               let second = puts_as o₃ o₅ _ _ (sym (joined_bytes_lem #BUnion union_bytes (subtrahends ks)))
               (puts_then o₃ o₄ o₅ _ _ x₄ x₅) in

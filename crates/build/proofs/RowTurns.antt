@@ -1,27 +1,28 @@
 -- The ways out of the functions of src/rows.rt.
--- Main results: copied; the shares (besides_none .. subtrahend_none); row_placed, row_child, row_first, row_next, row_end; minus_few .. minus_end;
--- kept_first .. kept_end.
+-- Main results: copied; the shares (besides_share .. subtrahend_none); row_tree, row_child, row_first .. row_place; minus_done; kept_first ..
+-- kept_end.
 use mathlib.Core.Path.{◌≡◌, refl, sym, ap, ◌∙◌}
-use mathlib.Core.Bool.{Bool, true, false}
+use mathlib.Core.Bool.{Bool, true, false, not}
 use mathlib.Core.List.{List, [], ◌∷◌, append-nil}
 use Prim.Native.Nat.{ℕ, zero, suc, ◌+◌, ◌≤◌, ◌<◌}
 use native.Mathlib.Omega.{arith}
 use lib.ListN.{length, get_or, drop, drop_of_length-le}
 use lib.Dec.{eqb}
 use borrow.Author.Tests.{eq-eqb, ne_eqb, eqb-true}
-use Rattle.std.proofs.Common.{Option, slice_index_or}
+use Rattle.std.proofs.Common.{Option, Some, None, slice_index_or}
+use Rattle.std.specs.Bool.{then_some}
 use Rattle.std.specs.Int.{from_bool}
-use Rattle.frame.specs.Trees.{head, Tree, node, Forest, nil, cons, count, nodes, nodes_in, tag_of}
-use Rattle.frame.specs.Tags.{predicate, expression, lookup, class_of, form_at}
+use Rattle.frame.specs.Trees.{head, Tree, node, Forest, nil, cons, count, nodes, tag_of}
+use Rattle.frame.specs.Tags.{pick, predicate, expression, lookup, class_of, form_at}
 use Rattle.frame.specs.Encoding.{enc, encs}
 use Rattle.frame.specs.Places.{Ctx, under, found, find}
-use Rattle.frame.proofs.Extents.{some_node}
 use Rattle.frame.proofs.Frames.{enc_injective}
 use Rattle.frame.proofs.Splices.{find_some, find_lt}
 use Rattle.nav.specs.declared.Places.{Places}
-use Rattle.nav.specs.PlaceTables.{Table, places_from, child_places}
-use Rattle.nav.specs.AtPlaces.{PlacesOf, AtPlace, InTables, TreeAt, TagAt, ChildrenAt}
+use Rattle.nav.specs.PlaceTables.{Table}
+use Rattle.nav.specs.AtPlaces.{PlacesOf, AtPlace, InTables, TreeAt, TagAt, ChildrenAt, CountedAt}
 use Rattle.nav.proofs.Hops.{place_sorted, framed_few, place_end}
+use Rattle.nav.proofs.CountTurns.{counted_children}
 use Rattle.nav.proofs.SamePlaces.{two_children}
 use Rattle.rules.specs.EqualsEmptySet.{minus_of, minuend, with_subtrahend, subtrahends}
 use Rattle.put.specs.Out.{Puts, behind}
@@ -31,9 +32,7 @@ use Rattle.decision.specs.declared.kept.KeptChild.{KeptChild}
 use Rattle.decision.proofs.Shapes.{Double, double, place_few}
 use Rattle.decision.proofs.ChildWalks.{Lefts, walk_first, walk_next, walk_end, walk_tree}
 use Rattle.filling.specs.Operands.{SubtreePost}
-use Rattle.build.specs.Rows.{CopyPost, share_of, row_of, ShareOfPost, RowPre, RowPost, MinusRowPost, KeptPre, KeptPost}
-use Rattle.build.specs.declared.rows.Share.{Share}
-use Rattle.build.specs.declared.rows.Share.TheVariants.{Besides, Minuend, Subtrahend}
+use Rattle.build.specs.Rows.{CopyPost, row_of, minuend_bytes, subtrahend_bytes, BytesAt, ShareAt, Shares, Sharing, RowPre, RowPost, MinusRowPost, KeptPre, KeptPost}
 
 -- ---- places of one frame
 module _ (pl : Places) where
@@ -52,6 +51,13 @@ module _ (pl : Places) where
       let e : t ≡ u = enc_injective t u predicate a.framed.formed b.framed.formed (sym a.framed.bytes ∙ b.framed.bytes) in
       b.framed.size ∙ ap nodes (sym e) ∙ sym a.framed.size
 
+  -- what stands where the closure says
+  pub row_place : (gives : ℕ → Option ℕ → Type 0) → Sharing gives pl → (c : ℕ) → InTables pl c → (j : ℕ) → gives c (Some j) → InTables pl j
+  row_place gives s c p j g =
+      let v = find_some p.t [] c p.below in
+      let x = (s.1 c (Some j) g).bytes p.t v.0 v.1 p.table v.2 in
+      record { t = p.t; table = p.table; below = find_lt p.t [] j x.0 x.1 x.2 }
+
 -- ---- shares
 -- a difference has two operands
 minus_double : (v : Tree) → Rattle.nav.proofs.Hops.Sorted v → tag_of v ≡ 213 → Double 213 v
@@ -61,128 +67,77 @@ minus_double v o z = double 213 expression expression (λ x. refl) v o z
 not_minus : (v : Tree) → (tag_of v ≡ 213 → ⊥) → (minuend (minus_of v) ≡ v) × ((ks : Forest) → with_subtrahend (minus_of v) ks ≡ ks)
 not_minus (node (head g n us) ks) d = let z = ne_eqb g 213 d in (rw z refl, λ ls. rw z refl)
 
-module _ (pl : Places) (c : ℕ) (o : Option (List ℕ)) where
-  pub besides_none : (x : Share) (k : ℕ) → x ≡ Besides k → c ≡ k → ShareOfPost pl c x o o
-  besides_none x k e z = record {
-    puts = λ t Γ w tb f. puts_as o o _ _
-        (sym (ap (λ (y : Share). share_of y c w) e ∙ rw (eq-eqb c k z) refl)) (puts_nil o);
+-- the bytes of a child that is not at place k
+abbrev pub besides : ℕ → ℕ → Tree → List ℕ
+besides k c w = pick (eqb c k) [] (enc w)
+
+pub besides_share : (pl : Places) (k c : ℕ) (o : Option ℕ) → o ≡ then_some (not (eqb c k)) c → ShareAt (besides k) pl c o
+besides_share pl k c o e = record { bytes = λ t Γ w tb f. go t Γ w f (eqb c k) o e }
+  where
+    go : (t : Tree) (Γ : Ctx) (w : Tree) → find t [] c ≡ found Γ w → (b : Bool) (o : Option ℕ) → o ≡ then_some (not b) c → BytesAt t o (pick b [] (enc w))
+    go t Γ w f true o e = rw e refl
+    go t Γ w f false o e = rw e (Γ, w, f, refl)
+
+module _ (pl : Places) (c tag : ℕ) (pt : TagAt pl c tag) where
+  -- the operands of a difference, and their places
+  parts : tag ≡ 213 → (t : Tree) (Γ : Ctx) (w : Tree) → PlacesOf pl t → find t [] c ≡ found Γ w
+      → (d : Double 213 w) × ((find t [] (c + 1) ≡ found (under 213 d.us Γ) d.a)
+      × (find t [] (get_or pl.nexts.now (c + 1) 0) ≡ found (under 213 d.us Γ) d.b))
+  parts key t Γ w tb f =
+      let d = minus_double w (place_sorted pl.bytes.now t pl.starts.now pl.count tb.framed c Γ w f) (sym (pt.tag t pl.count Γ w tb.framed f) ∙ key) in
+      (d, two_children t pl.nexts.now tb.follows c Γ 213 d.n d.us d.a d.b (f ∙ ap (found Γ) d.is))
+
+  pub minuend_left : tag ≡ 213 → ShareAt minuend_bytes pl c (Some (c + 1))
+  minuend_left key = record {
+    bytes = λ t Γ w tb f.
+        (let d = parts key t Γ w tb f in
+        (_, d.0.a, d.1.0, ap (λ (u : Tree). enc (minuend (minus_of u))) d.0.is));
   }
 
-  module _ (q : Option (List ℕ)) where
-    pub besides_some : (x : Share) (k : ℕ) → x ≡ Besides k → (c ≡ k → ⊥) → CopyPost pl c o q → ShareOfPost pl c x o q
-    besides_some x k e d p =
-        record { puts = λ t Γ w tb f. puts_as o q _ _ (sym (ap (λ (y : Share). share_of y c w) e ∙ rw (ne_eqb c k d) refl)) (p.puts t Γ w tb f) }
+  pub minuend_whole : (tag ≡ 213 → ⊥) → ShareAt minuend_bytes pl c (Some c)
+  minuend_whole h = record {
+    bytes = λ t Γ w tb f. (Γ, w, f, ap enc (not_minus w (λ z. h (pt.tag t pl.count Γ w tb.framed f ∙ z))).0);
+  }
 
-  module _ (tag : ℕ) (pt : TagAt pl c tag) where
-    -- the operands of a difference, and their places
-    parts : tag ≡ 213 → (t : Tree) (Γ : Ctx) (w : Tree) → PlacesOf pl t → find t [] c ≡ found Γ w
-        → (d : Double 213 w) × ((find t [] (c + 1) ≡ found (under 213 d.us Γ) d.a)
-        × (find t [] (get_or pl.nexts.now (c + 1) 0) ≡ found (under 213 d.us Γ) d.b))
-    parts key t Γ w tb f =
-        let d = minus_double w (place_sorted pl.bytes.now t pl.starts.now pl.count tb.framed c Γ w f) (sym (pt.tag t pl.count Γ w tb.framed f) ∙ key) in
-        (d, two_children t pl.nexts.now tb.follows c Γ 213 d.n d.us d.a d.b (f ∙ ap (found Γ) d.is))
+  pub subtrahend_right : tag ≡ 213 → (b : ℕ) → (c + 1 < 2048 → b ≡ get_or pl.nexts.now (c + 1) 0) → ShareAt subtrahend_bytes pl c (Some b)
+  unfolding enc
+  subtrahend_right key b eb = record {
+    bytes = λ t Γ w tb f.
+        (let d = parts key t Γ w tb f in (
+          _,
+          d.0.b,
+          ap (find t []) (eb (place_few tb d.1.0)) ∙ d.1.1,
+          ap (λ (u : Tree). encs (with_subtrahend (minus_of u) nil)) d.0.is ∙ append-nil (enc d.0.b),
+        ));
+  }
 
-    pub left_in : tag ≡ 213 → InTables pl c → InTables pl (c + 1)
-    left_in key p =
-        let v = find_some p.t [] c p.below in
-        let d = parts key p.t v.0 v.1 p.table v.2 in
-        record { t = p.t; table = p.table; below = find_lt p.t [] (c + 1) _ _ d.1.0 }
-
-    second_is : tag ≡ 213 → (b : ℕ) → (c + 1 < 2048 → b ≡ get_or pl.nexts.now (c + 1) 0) → (t : Tree) (Γ : Ctx) (w : Tree) → PlacesOf pl t
-        → find t [] c ≡ found Γ w → b ≡ get_or pl.nexts.now (c + 1) 0
-    second_is key b eb t Γ w tb f = eb (place_few tb (parts key t Γ w tb f).1.0)
-
-    pub right_in : tag ≡ 213 → (b : ℕ) → (c + 1 < 2048 → b ≡ get_or pl.nexts.now (c + 1) 0) → InTables pl c → InTables pl b
-    right_in key b eb p =
-        let v = find_some p.t [] c p.below in
-        let d = parts key p.t v.0 v.1 p.table v.2 in
-        record {
-          t = p.t;
-          table = p.table;
-          below = rw (second_is key b eb p.t v.0 v.1 p.table v.2)
-              (find_lt p.t [] (get_or pl.nexts.now (c + 1) 0) _ _ d.1.1);
-        }
-
-    module _ (q : Option (List ℕ)) (x : Share) where
-      pub minuend_left : x ≡ Minuend → tag ≡ 213 → CopyPost pl (c + 1) o q → ShareOfPost pl c x o q
-      minuend_left e key p =
-          record {
-            puts = λ t Γ w tb f.
-                (let d = parts key t Γ w tb f in
-                puts_as o q _ _ (sym (ap (λ (y : Share). share_of y c w) e ∙ ap (λ (u : Tree). enc (minuend (minus_of u))) d.0.is))
-                (p.puts t _ d.0.a tb d.1.0));
-          }
-
-      pub minuend_whole : x ≡ Minuend → (tag ≡ 213 → ⊥) → CopyPost pl c o q → ShareOfPost pl c x o q
-      minuend_whole e h p =
-          record {
-            puts = λ t Γ w tb f.
-                puts_as o q _ _ (sym (ap (λ (y : Share). share_of y c w) e ∙ ap enc
-                (not_minus w (λ z. h (pt.tag t pl.count Γ w tb.framed f ∙ z))).0)) (p.puts t Γ w tb f);
-          }
-
-      pub subtrahend_right : x ≡ Subtrahend → tag ≡ 213 → (b : ℕ) → (c + 1 < 2048 → b ≡ get_or pl.nexts.now (c + 1) 0) → CopyPost pl b o q
-          → ShareOfPost pl c x o q
-      unfolding enc
-      subtrahend_right e key b eb p =
-          record {
-            puts = λ t Γ w tb f.
-                (let d = parts key t Γ w tb f in
-                puts_as o q _ _ (sym (ap (λ (y : Share). share_of y c w) e ∙ ap (λ (u : Tree). encs (with_subtrahend (minus_of u) nil))
-                d.0.is ∙ append-nil (enc d.0.b)))
-                (p.puts t _ d.0.b tb (ap (find t []) (second_is key b eb t Γ w tb f) ∙ d.1.1)));
-          }
-
-    pub subtrahend_none : (x : Share) → x ≡ Subtrahend → (tag ≡ 213 → ⊥) → ShareOfPost pl c x o o
-    unfolding enc
-    subtrahend_none x e h =
-        record {
-          puts = λ t Γ w tb f.
-              puts_as o o _ _ (sym (ap (λ (y : Share). share_of y c w) e ∙ ap encs
-              ((not_minus w (λ z. h (pt.tag t pl.count Γ w tb.framed f ∙ z))).1 nil))) (puts_nil o);
-        }
+  pub subtrahend_none : (tag ≡ 213 → ⊥) → ShareAt subtrahend_bytes pl c None
+  unfolding enc
+  subtrahend_none h = record {
+    bytes = λ t Γ w tb f. ap encs ((not_minus w (λ z. h (pt.tag t pl.count Γ w tb.framed f ∙ z))).1 nil);
+  }
 
 -- a child counts as one where its tag is that of a difference
 module _ (pl : Places) (c tag : ℕ) (pt : TagAt pl c tag) (t : Tree) (Γ : Ctx) (v : Tree) (tb : PlacesOf pl t) (f : find t [] c ≡ found Γ v) where
-  minus_one : (a : ℕ) → a ≡ from_bool (eqb tag 213) → (ls : Forest) → count (with_subtrahend (minus_of v) ls) ≡ a + count ls
-  minus_one a ea ls = go (eqb tag 213) refl ea
+  minus_one : (b : Bool) → b ≡ eqb tag 213 → (ls : Forest) → count (with_subtrahend (minus_of v) ls) ≡ from_bool b + count ls
+  minus_one true e ls =
+      let key : tag ≡ 213 = eqb-true tag 213 (sym e) in
+      let d = minus_double v (place_sorted pl.bytes.now t pl.starts.now pl.count tb.framed c Γ v f) (sym (pt.tag t pl.count Γ v tb.framed f) ∙ key) in
+      let y : count (with_subtrahend (minus_of v) ls) ≡ count (cons d.b ls) = ap (λ (u : Tree). count (with_subtrahend (minus_of u) ls)) d.is in
+      omega arith
+  minus_one false e ls =
+      let y = ap count ((not_minus v (λ i. other (pt.tag t pl.count Γ v tb.framed f ∙ i))).1 ls) in
+      omega arith
     where
-      go : (b : Bool) → eqb tag 213 ≡ b → a ≡ from_bool b → count (with_subtrahend (minus_of v) ls) ≡ a + count ls
-      go true e z =
-          let key : tag ≡ 213 = eqb-true tag 213 e in
-          let d = minus_double v (place_sorted pl.bytes.now t pl.starts.now pl.count tb.framed c Γ v f) (sym (pt.tag t pl.count Γ v tb.framed f) ∙ key) in
-          let y : count (with_subtrahend (minus_of v) ls) ≡ count (cons d.b ls) = ap (λ (u : Tree). count (with_subtrahend (minus_of u) ls)) d.is in
-          omega arith
-      go false e z =
-          let y = ap count ((not_minus v (λ i. other e (pt.tag t pl.count Γ v tb.framed f ∙ i))).1 ls) in
-          omega arith
-        where
-          other : eqb tag 213 ≡ false → tag ≡ 213 → ⊥
-          other e i = let h : ◌≡◌ {A = Bool} true false = sym (eq-eqb tag 213 i) ∙ e in cc
-
-pub one_more : (b : Bool) (r : ℕ) → r ≡ from_bool b → (places : List ℕ) (c : ℕ) (more : List ℕ) → places ≡ c ∷ more
-    → (r ≤ 1) × (length places ≡ suc (length more))
-one_more true r e places c more z = (omega arith, ap length z)
-one_more false r e places c more z = (omega arith, ap length z)
-
-count_nodes : (ks : Forest) → count ks ≤ nodes_in ks
-unfolding nodes
-count_nodes nil = omega arith
-count_nodes (cons w ks) = omega (arith, count_nodes ks, some_node w)
+      other : tag ≡ 213 → ⊥
+      other i = let h : ◌≡◌ {A = Bool} true false = sym (eq-eqb tag 213 i) ∙ sym e in cc
 
 -- ---- the children of the node at place k
 -- what has been written, from o₀ to o, is the row of ks but for that of the others
-abbrev pub Rowing : Share → ℕ → Option (List ℕ) → Option (List ℕ) → Forest → ℕ → Forest → Type 0
-Rowing x k o₀ o ks c rest = behind o (row_of x c rest) ≡ behind o₀ (row_of x (k + 1) ks)
-
-few_children : (ks : Forest) (c : ℕ) → length (places_from ks c) ≡ count ks
-few_children nil c = refl
-few_children (cons w ks) c = ap suc (few_children ks (c + nodes w))
+abbrev pub Rowing : (ℕ → Tree → List ℕ) → ℕ → Option (List ℕ) → Option (List ℕ) → Forest → ℕ → Forest → Type 0
+Rowing f k o₀ o ks c rest = behind o (row_of f c rest) ≡ behind o₀ (row_of f (k + 1) ks)
 
 module _ (pl : Places) (k : ℕ) where
-  pub row_placed : RowPre pl k → AtPlace pl k
-  row_placed p = record { t = p.t; n = pl.count; framed = p.table.framed; below = find_lt p.t [] k _ _ p.there }
-
   pub row_tree : RowPre pl k → TreeAt pl k
   row_tree p = record { t = p.t; n = pl.count; table = p.table; below = find_lt p.t [] k _ _ p.there }
 
@@ -204,58 +159,49 @@ module _ (pl : Places) (k : ℕ) where
         (λ t n Γ v tb f. let z = same_count pl p.t t n p.table tb in known t Γ v (rw z at tb) f) Q step
 
   -- ---- put_row
-  module _ (x : Share) (o₀ : Option (List ℕ)) where
-    pub row_first : (places : List ℕ) → ChildrenAt pl k places → Lefts pl.bytes.now pl.starts.now pl.nexts.now k (Rowing x k o₀ o₀) places
-    row_first = walk_first pl.bytes.now pl.starts.now pl.nexts.now k (Rowing x k o₀ o₀) (λ ks. refl)
+  -- the same of whichever bytes the closure's answers have, which are as `gives` says
+  module _ (gives : ℕ → Option ℕ → Type 0) (o₀ : Option (List ℕ)) where
+    abbrev pub Rows : Option (List ℕ) → List ℕ → Type 0
+    Rows o places = (f : ℕ → Tree → List ℕ) → Shares gives pl f → Lefts pl.bytes.now pl.starts.now pl.nexts.now k (Rowing f k o₀ o) places
 
-    module _ (o : Option (List ℕ)) (places : List ℕ) (ls : Lefts pl.bytes.now pl.starts.now pl.nexts.now k (Rowing x k o₀ o) places) where
-      pub row_next : RowPre pl k → (c : ℕ) (more : List ℕ) → places ≡ c ∷ more → (q : Option (List ℕ)) → ShareOfPost pl c x o q
-          → Lefts pl.bytes.now pl.starts.now pl.nexts.now k (Rowing x k o₀ q) more
-      unfolding row_of
-      row_next p c more e q post =
-          row_walk (Rowing x k o₀ o) places ls c more e p (λ w. Puts o q (share_of x c w)) (λ t Γ v tb f. post.puts t Γ v tb f) (Rowing x k o₀ q)
-          (λ ks w others r h. puts_then o q (behind q (row_of x (c + nodes w) others)) (share_of x c w) (row_of x (c + nodes w) others) r refl ∙ h)
+    pub row_first : (places : List ℕ) → ChildrenAt pl k places → Rows o₀ places
+    row_first places post f h = walk_first pl.bytes.now pl.starts.now pl.nexts.now k (Rowing f k o₀ o₀) (λ ks. refl) places post
 
-      pub row_end : places ≡ [] → RowPost pl k x o₀ o
+    module _ (o : Option (List ℕ)) (places : List ℕ) (ls : Rows o places) where
+      module _ (p : RowPre pl k) (c : ℕ) (more : List ℕ) (e : places ≡ c ∷ more) where
+        row_next : (q : Option (List ℕ))
+            → ((f : ℕ → Tree → List ℕ) → Shares gives pl f → (t : Tree) (Γ : Ctx) (w : Tree) → PlacesOf pl t → find t [] c ≡ found Γ w → Puts o q (f c w))
+            → Rows q more
+        unfolding row_of
+        row_next q put f h =
+            row_walk (Rowing f k o₀ o) places (ls f h) c more e p (λ w. Puts o q (f c w)) (λ t Γ w tb at. put f h t Γ w tb at) (Rowing f k o₀ q)
+            (λ ks w others r x. puts_then o q (behind q (row_of f (c + nodes w) others)) (f c w) (row_of f (c + nodes w) others) r refl ∙ x)
+
+        pub row_passed : gives c None → Rows o more
+        row_passed g = row_next o (λ f h t Γ w tb at. puts_as o o _ _ (sym ((h c None g).bytes t Γ w tb at)) (puts_nil o))
+
+        pub row_taken : (j : ℕ) → gives c (Some j) → (q : Option (List ℕ)) → CopyPost pl j o q → Rows q more
+        row_taken j g q post = row_next q (λ f h t Γ w tb at.
+            (let x = (h c (Some j) g).bytes t Γ w tb at in puts_as o q _ _ (sym x.3) (post.puts t x.0 x.1 tb x.2)))
+
+      pub row_end : places ≡ [] → RowPost gives pl k o₀ o
       unfolding row_of
-      row_end h = record {
-        puts = λ t Γ g i us ks tb f.
-            walk_end pl.bytes.now pl.starts.now pl.nexts.now k (Rowing x k o₀ o) places ls h (λ ks. Puts o₀ o (row_of x (k + 1) ks))
-            (λ ks c z. puts_nil o ∙ z) t pl.count Γ g i us ks tb f;
+      row_end e = record {
+        puts = λ f h t Γ g i us ks tb at.
+            walk_end pl.bytes.now pl.starts.now pl.nexts.now k (Rowing f k o₀ o) places (ls f h) e (λ ks. Puts o₀ o (row_of f (k + 1) ks))
+            (λ ks c z. puts_nil o ∙ z) t pl.count Γ g i us ks tb at;
       }
 
   -- ---- count_minus
-  -- m of ks are behind, but for those of the others
-  abbrev pub Minused : ℕ → Forest → ℕ → Forest → Type 0
-  Minused m ks c rest = count (subtrahends ks) ≡ m + count (subtrahends rest)
-
-  pub minus_few : RowPre pl k → (places : List ℕ) → ChildrenAt pl k places → length places ≤ 2048
-  unfolding nodes
-  minus_few p places post =
-      let v : Tree = node (head p.g p.x p.us) p.ks in
-      let z : length places ≡ length (child_places v k) = ap length (post.are p.t pl.count p.Γ v p.table p.there) in
-      let y : length (child_places v k) ≡ count p.ks = few_children p.ks (k + 1) in
-      omega (arith, z, y, count_nodes p.ks, place_end p.t [] k p.Γ v p.there, framed_few pl.bytes.now p.t pl.starts.now pl.count p.table.framed)
-
-  pub minus_first : (places : List ℕ) → ChildrenAt pl k places → Lefts pl.bytes.now pl.starts.now pl.nexts.now k (Minused 0) places
-  minus_first = walk_first pl.bytes.now pl.starts.now pl.nexts.now k (Minused 0) (λ ks. omega arith)
-
-  module _ (m : ℕ) (places : List ℕ) (ls : Lefts pl.bytes.now pl.starts.now pl.nexts.now k (Minused m) places) where
-    pub minus_next : RowPre pl k → (c : ℕ) (more : List ℕ) → places ≡ c ∷ more → (tag : ℕ) → TagAt pl c tag → (a : ℕ) → a ≡ from_bool (eqb tag 213)
-        → Lefts pl.bytes.now pl.starts.now pl.nexts.now k (Minused (m + a)) more
-    unfolding subtrahends
-    minus_next p c more e tag pt a ea =
-        row_walk (Minused m) places ls c more e p (λ w. (ls : Forest) → count (with_subtrahend (minus_of w) ls) ≡ a + count ls)
-        (λ t Γ v tb f ls. minus_one pl c tag pt t Γ v tb f a ea ls) (Minused (m + a))
-        (λ ks w others r h. let z = r (subtrahends others) in omega arith)
-
-    pub minus_end : places ≡ [] → MinusRowPost pl k m
-    unfolding subtrahends
-    minus_end h = record {
-      counts = λ t Γ g i us ks tb f.
-          walk_end pl.bytes.now pl.starts.now pl.nexts.now k (Minused m) places ls h (λ ks. m ≡ count (subtrahends ks)) (λ ks c z. omega arith)
-          t pl.count Γ g i us ks tb f;
-    }
+  pub minus_done : (gives : ℕ → Bool → Type 0) → ((c : ℕ) (b : Bool) → gives c b → (tag : ℕ) × TagAt pl c tag × (b ≡ eqb tag 213)) → (m : ℕ)
+      → CountedAt gives pl k m → MinusRowPost pl k m
+  unfolding subtrahends
+  minus_done gives known m h = record {
+    counts = λ t Γ g i us ks tb f.
+        counted_children gives t (λ ls. count (subtrahends ls)) refl
+        (λ c Θ w fw b a ls. (let z = known c b a in minus_one pl c z.0 z.1 t Θ w tb fw b z.2 (subtrahends ls)))
+        pl pl.count tb k Γ g i us ks f m h;
+  }
 
 -- ---- put_kept
 drop_next : (items : List KeptChild) (i : ℕ) → i < length items → drop i items ≡ slice_index_or items i (record { place = 0; key = 0 }) ∷ drop (i + 1) items

@@ -16,9 +16,7 @@ use Rattle.typing.specs.Signature.{signature}
 use Rattle.typing.proofs.Decides.{accepted_wf}
 use Rattle.nav.specs.declared.Places.{Places}
 use Rattle.nav.specs.AtPlaces.{PlacesOf, InTables, EndAt}
-use Rattle.nav.specs.PlaceTables.{Framed}
-use Rattle.nav.proofs.Hops.{framed_few, place_sorted, place_stands}
-use Rattle.frame.specs.Spans.{Spans}
+use Rattle.nav.proofs.Hops.{framed_few}
 use Rattle.rules.specs.Dispatch.{dispatch}
 use Rattle.rules.proofs.Instance.{instance}
 use Rattle.rules.proofs.EquationAccepted.{equation_accepted}
@@ -27,17 +25,11 @@ use Rattle.put.proofs.Puts.{puts_then}
 use Rattle.decision.specs.declared.Decision.{Decision}
 use Rattle.decision.specs.declared.kept.KeptChild.{KeptChild}
 use Rattle.filling.specs.Operands.{HeldIn}
+use Rattle.filling.proofs.Subtrees.{span_at}
 use Rattle.build.specs.Subtree.{BuildPre, BuildPost, Formed, OfDecision}
 use Rattle.step.proofs.Places.{accepted_at}
 use Rattle.step.proofs.Steps.{as_predicate}
 use Rattle.build.specs.SplicePosts.{Decided, SplicePre, SplicePost}
-
--- ---- where a subtree stands
-span_at : (s : List ℕ) (t : Tree) (st : List ℕ) (n : ℕ) (fr : Framed s t st n) (k : ℕ) (Γ : Ctx) (v : Tree) → find t [] k ≡ found Γ v → (q : ℕ)
-    → q ≡ get_or st k 0 + length (enc v) → Spans s (get_or st k 0) q (enc v)
-span_at s t st n fr k Γ v f q e =
-    let o = place_sorted s t st n fr k Γ v f in
-    subst (λ (j : ℕ). Spans s (get_or st k 0) j (enc v)) (sym e) (place_stands s t st n fr k Γ v f o.0 o.1).bytes
 
 -- ---- `splice`
 -- what the rules build at a predicate of an accepted tree is well formed

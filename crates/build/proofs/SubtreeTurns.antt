@@ -1,5 +1,5 @@
 -- The ways out of the functions of src/lib.rt.
--- Main results: fill_row_none .. fill_row_more; many_byte, joined_one, joined_more; and for each kind of decision what the code asks on its way
+-- Main results: fill_row_tree .. fill_row_end; many_byte, joined_one; and for each kind of decision what the code asks on its way
 -- and what it has written at the end.
 use mathlib.Core.Path.{◌≡◌, refl, sym, ap, ap₂, ◌∙◌}
 use mathlib.Core.Bool.{Bool, true, false}
@@ -8,7 +8,7 @@ use Prim.Native.Nat.{ℕ, suc, ◌+◌, ◌≤◌, ◌<◌}
 use native.Mathlib.Omega.{arith}
 use lib.ListN.{length}
 use lib.Dec.{eqb, leb}
-use borrow.Author.Tests.{eq-eqb, ne_eqb, leb-true}
+use borrow.Author.Tests.{eq-eqb, leb-true}
 use Rattle.frame.specs.Types.{Ty}
 use Rattle.frame.specs.Trees.{head, Tree, node, Forest, nil, cons, count, nodes, tag_of, many}
 use Rattle.frame.specs.Tags.{pick, Sort, predicate, Layout, counted, form_of, number_of, in_range}
@@ -31,7 +31,6 @@ use Rattle.templates.proofs.Joins.{counted_bytes}
 use Rattle.decision.specs.Decision.{At, places_of, joint, each_filled, EachMeans}
 use Rattle.decision.specs.declared.kept.KeptChild.{KeptChild}
 use Rattle.decision.proofs.ChildWalks.{head_of}
-use Rattle.decision.proofs.Shapes.{place_few}
 use Rattle.filling.specs.Operands.{HeldIn, FillAt, FillPre, FillPost}
 use Rattle.build.specs.Rows.{KeptPre, KeptPost}
 use Rattle.build.specs.Subtree.{many_bytes, joined_bytes, BinderAt, FillRowPre, FillRowPost, BuildPre, BuildPost, OfEach, OfKept}
@@ -122,15 +121,6 @@ module _ (g m : ℕ) (o : Option (List ℕ)) where
   pub joined_one : m ≡ 1 → Puts o o (joined_bytes g m)
   joined_one e = puts_as o o _ _ (sym (rw (eq-eqb m 1 e) refl)) (puts_nil o)
 
-  pub joined_more : (m ≡ 1 → ⊥) → (z : Option (List ℕ)) → Puts o z (many_bytes g m) → Puts o z (joined_bytes g m)
-  joined_more d z h = puts_as o z _ _ (sym (rw (ne_eqb m 1 d) refl)) h
-
-pub joint_or : (p : ℕ) → p ≡ 86 → 352 ≡ joint p
-joint_or p e = rw (eq-eqb p 86 e) refl
-
-pub joint_and : (p : ℕ) → (p ≡ 86 → ⊥) → 351 ≡ joint p
-joint_and p d = rw (ne_eqb p 86 d) refl
-
 pub joint_small : (p g : ℕ) → g ≡ joint p → g < 65536
 joint_small p g e = go (eqb p 86) e
   where
@@ -152,9 +142,6 @@ module _ (place at binder : ℕ) (pl : Places) where
 
   pub each_placed : BuildPre (OfEach place at binder) pl → AtPlace pl at
   each_placed p = record { t = p.t; n = pl.count; framed = p.table.framed; below = find_lt p.t [] at _ _ p.means.at_node }
-
-  pub each_few : BuildPre (OfEach place at binder) pl → at < 2048
-  each_few p = place_few p.table p.means.at_node
 
   module _ (m : ℕ) (pm : ArityAt pl at m) where
     count_is : (t : Tree) (c : Change) → PlacesOf pl t → (e : EachMeans t place at binder c) → m ≡ count e.ks

@@ -14,7 +14,7 @@ use Rattle.decision.specs.declared.Decision.{Decision}
 use Rattle.filling.specs.Operands.{HeldIn}
 use Rattle.step.specs.Step.{is_predicate}
 
--- ---- the new frame in the scratch buffer
+-- ---- the new frame in the writer
 -- in the tree t, at the predicate v at place k, the decision stands for what the rules answer
 pub record Decided (t : Tree) (k : ℕ) (kept : List KeptChild) (d : Decision) : Type 0 where
   pub Γ : Ctx

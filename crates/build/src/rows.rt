@@ -1,23 +1,13 @@
 // Subtrees of the frame, one after the other.
+ghost use Rattle.std.specs.Prelude.{Some};
 ghost use Rattle.nav.specs.AtPlaces.{InTables};
-ghost use Rattle.build.specs.Rows.{CopyPost, ShareOfPost, RowPre, RowPost, MinusRowPost, KeptPre, KeptPost};
+ghost use Rattle.build.specs.Rows.{CopyPost, ShareAt, minuend_bytes, subtrahend_bytes, Sharing, RowPre, RowPost, MinusRowPost, KeptPre, KeptPost};
 
 use decision::kept::Kept;
 use filling::subtree_at;
 use frame::operators::SETMINUS;
 use nav::Places;
 use put::Writer;
-
-// What of each child goes into a row.
-#[derive(Clone, Copy, Debug, PartialEq, Eq)]
-pub enum Share {
-    // the child itself, unless it is at this place
-    Besides(usize),
-    // of a difference A ∖ B its A, else the child itself
-    Minuend,
-    // of a difference A ∖ B its B, else nothing
-    Subtrahend,
-}
 
 // The subtree at place k.
 pub fn copy_at(places: &Places<'_>, k: usize, out: &mut Writer)
@@ -27,39 +17,44 @@ pub fn copy_at(places: &Places<'_>, k: usize, out: &mut Writer)
     out.put_copy(subtree_at(places, k));
 }
 
-// The share of the child at place c.
-fn put_share(places: &Places<'_>, c: usize, share: Share, out: &mut Writer)
+// Of a difference A ∖ B at place c the place of its A, else c.
+pub fn minuend_of(places: &Places<'_>, c: usize) -> usize
     requires { InTables places.now c }
-    ensures { ShareOfPost places.now c share out.old out.new }
+    ensures { ShareAt minuend_bytes places.now c (Some result) }
 {
-    match share {
-        Share::Besides(k) => {
-            if c != k {
-                copy_at(places, c, out);
-            }
-        }
-        Share::Minuend => {
-            if places.tag_at(c) == SETMINUS {
-                copy_at(places, c + 1, out);
-            } else {
-                copy_at(places, c, out);
-            }
-        }
-        Share::Subtrahend => {
-            if places.tag_at(c) == SETMINUS {
-                copy_at(places, places.second_of(c), out);
-            }
-        }
+    if places.tag_at(c) == SETMINUS {
+        return c + 1;
     }
+    c
 }
 
-// The shares of the children of the node at place k.
-pub fn put_row(places: &Places<'_>, k: usize, share: Share, out: &mut Writer)
-    requires { RowPre places.now k }
-    ensures { RowPost places.now k share out.old out.new }
+// Of a difference A ∖ B at place c the place of its B.
+pub fn subtrahend_of(places: &Places<'_>, c: usize) -> Option<usize>
+    requires { InTables places.now c }
+    ensures { ShareAt subtrahend_bytes places.now c result }
+{
+    if places.tag_at(c) == SETMINUS {
+        return Some(places.second_of(c));
+    }
+    None
+}
+
+// For each child of the node at place k the subtree at the place that `share` answers of the child's place, if it answers one.
+pub fn put_row<F: Fn(usize) -> Option<usize>>(
+    places: &Places<'_>,
+    k: usize,
+    share: F,
+    out: &mut Writer,
+)
+    requires callable { (c : _) → InTables places.now c → F.pre share c }
+    requires shares { Sharing (F.post share) places.now }
+    requires node { RowPre places.now k }
+    ensures { RowPost (F.post share) places.now k out.old out.new }
 {
     for c in places.children(k) {
-        put_share(places, c, share, out);
+        if let Some(place) = share(c) {
+            copy_at(places, place, out);
+        }
     }
 }
 
@@ -68,17 +63,13 @@ pub fn count_minus(places: &Places<'_>, k: usize) -> usize
     requires { RowPre places.now k }
     ensures { MinusRowPost places.now k result }
 {
-    let mut m = 0;
-    for c in places.children(k) {
-        m += usize::from(places.tag_at(c) == SETMINUS);
-    }
-    m
+    places.count_children(k, |c| places.tag_at(c) == SETMINUS)
 }
 
 // The subtrees at the places that the lent list has.
 pub fn put_kept(places: &Places<'_>, kept: &Kept, out: &mut Writer)
-    requires { KeptPre places.now kept.now }
-    ensures { KeptPost places.now kept.now out.old out.new }
+    requires { KeptPre places.now kept.now.items }
+    ensures { KeptPost places.now kept.now.items out.old out.new }
 {
     for child in kept.as_slice() {
         copy_at(places, usize::from(child.place), out);

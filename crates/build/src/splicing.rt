@@ -9,8 +9,8 @@ use put::Writer;
 
 // The frame's bytes with those of the decision's subtree in the place of the subtree at place k, and nothing else, if they fit.
 pub fn splice(places: &Places<'_>, k: usize, kept: &Kept, decision: Decision, out: &mut Writer)
-    requires { SplicePre places.now k kept.now decision }
-    ensures { SplicePost places.now k kept.now decision out.new }
+    requires { SplicePre places.now k kept.now.items decision }
+    ensures { SplicePost places.now k kept.now.items decision out.new }
 {
     let from = places.start_at(k);
     let to = places.end_at(k);

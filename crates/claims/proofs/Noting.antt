@@ -119,9 +119,6 @@ pub record PowerBytes (s : List ℕ) (p n : ℕ) : Type 0 where
   pub given_byte : get_or s (p + 1) 0 ≡ 2
   pub number : number_at 2 s (p + 2) ≡ n
 
-next_place : (p i : ℕ) → p + 1 + i ≡ p + suc i
-next_place p i = omega arith
-
 pub power_bytes : (s : List ℕ) (p n q : ℕ) → n < 65536 → TypeAt s p q (pow (given n)) → PowerBytes s p n
 unfolding enc_ty
 power_bytes s p n q l a =

@@ -22,7 +22,7 @@ enum Claim {
 
 // What an entry of the table says.
 // Kept: a table of `Option<Claim>` is at least twice as long, so that of all two-byte numbers would take 128 KiB more of the
-// fixed memory, to be cleared for each frame that needs it.
+// fixed memory at least, to be cleared for each frame that needs it.
 fn claim_of(entry: u16) -> Option<Claim>
     ensures { EntrySays entry result }
 {
@@ -35,7 +35,7 @@ fn claim_of(entry: u16) -> Option<Claim>
 
 // Whether the type from p up to q stands at e as well.
 fn same_type(s: &[u8], p: usize, q: usize, e: usize) -> bool
-    requires { (p ≤ q) × (q ≤ length s.now) × (e ≤ length s.now) × (length s.now ≤ frame_limit) }
+    requires { (p ≤ q) × (q ≤ length s.now) × (e ≤ length s.now) }
     ensures { SameType s.now p q e result }
 {
     let n = q - p;
@@ -43,6 +43,8 @@ fn same_type(s: &[u8], p: usize, q: usize, e: usize) -> bool
 }
 
 // Whether the type at p is the power of the given set n.
+// Kept: by the bytes of types (types/src/lib.rt).
+// Kept: here and below n is a number below 65,536 by a clause, as `heads::number` reads it; as a u16 it would be cast at each call.
 pub fn is_power(s: &[u8], p: usize, n: usize) -> bool
     requires { (p ≤ length s.now) × (length s.now ≤ frame_limit) × (n < 65536) }
     ensures { PowerPost s.now p n result }
@@ -51,13 +53,16 @@ pub fn is_power(s: &[u8], p: usize, n: usize) -> bool
 }
 
 // An identifier n whose type stands from p up to q.
-// Kept: the frame and the table are no struct, since one is lent to be read and the other to be written, for a call each.
+// Kept: a bool, here and below: whether the claim agrees with those before. `identifiers` has a reason more to stop.
+// Kept: the frame and the table are no struct: one is lent to be read, the other to be written. The contracts leave open what the
+// table holds after a clash, so that it holds claims would still be a clause of each call, and no fact of the struct.
 pub fn note_identifier(s: &[u8], n: usize, p: usize, q: usize, table: &mut [u16]) -> bool
     requires { (n < 65536) × (n < length table.old) × Held s.now table.old × ((t : Ty) × TypeAt s.now p q t) }
     ensures { NamePost s.now n p q table.old table.new result }
 {
     match claim_of(table[n]) {
         None => {
+            // Kept: `as`: no `From` makes a shorter number, and by `try_from` the proof would be asked the same and the line be longer.
             table[n] = (p + 1) as u16;
             true
         }

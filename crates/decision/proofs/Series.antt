@@ -1,11 +1,10 @@
 -- One rule after another.
--- Main results: changes (a decision stands for a tree); or_first, means_series; ends_some, ends_none (by a test of the first decision);
+-- Main results: changes (a decision stands for a tree); or_first, means_series;
 -- same_rule, turned, series, imp_series (the ways out of implication_at of logic/src/implication.rt).
-use mathlib.Core.Path.{◌≡◌, refl, sym, ◌∙◌}
-use mathlib.Core.Bool.{true, false}
+use mathlib.Core.Path.{◌≡◌, sym, ◌∙◌}
 use mathlib.Core.List.{List}
 use Prim.Native.Nat.{ℕ}
-use Rattle.std.proofs.Common.{Option, Some, None, MatchOption, is_some}
+use Rattle.std.proofs.Common.{Option, Some, None, MatchOption}
 use Rattle.frame.specs.Trees.{Tree}
 use Rattle.frame.specs.Places.{Ctx}
 use Rattle.rules.specs.Change.{Change, to, ◌or_else◌}
@@ -34,15 +33,6 @@ pub means_series : (t x : Tree) (Ξ : Ctx) (kept : List ℕ) (d r : Option Decis
     → MatchOption d (Means t x Ξ kept r e) (λ y. r ≡ Some y) → Means t x Ξ kept r (c or_else e)
 means_series t x Ξ kept None r c e m o = rw m o
 means_series t x Ξ kept (Some d) r c e m o = rw o (or_first t x Ξ kept d c e m)
-
--- by a test of the first decision
-pub ends_some : (d : Option Decision) (P : Type 0) → is_some d ≡ true → MatchOption d P (λ y. d ≡ Some y)
-ends_some None P h = cc
-ends_some (Some d) P h = refl
-
-pub ends_none : (d r : Option Decision) (P : Type 0) → is_some d ≡ false → P → MatchOption d P (λ y. r ≡ Some y)
-ends_none None r P h p = p
-ends_none (Some d) r P h p = cc
 
 -- ---- rules on two trees
 module _ (s st nx : List ℕ) (a b : ℕ) where

@@ -1,5 +1,5 @@
 -- The shape that a tag gives to a tree that stands at a place, where its children are, and decisions with a fixed pattern.
--- Main results: here_few, here_placed, here_tree, first_tree, first_placed, second_placed; bare, single, double, any (the shape by the tag);
+-- Main results: here_few, here_placed, tree_placed, first_tree, first_placed, second_placed; bare, single, double, any (the shape by the tag);
 -- fixed_at, each_means (what a decision stands for); by_node, by_single, by_double, by_each, by_pair, by_two (decisions by the tag).
 use Rattle.std.proofs.Common.{Option, Some, None}
 use mathlib.Core.Path.{◌≡◌, refl, sym, ap, ap₂, ◌∙◌}
@@ -46,8 +46,8 @@ here_few h = place_few h.table h.there
 pub here_placed : {s st nx : List ℕ} {k : ℕ} → Here s st nx k → Placed s st k
 here_placed h = placed h.table h.there
 
-pub here_tree : {s st nx : List ℕ} {k : ℕ} → Here s st nx k → InTree s st nx k
-here_tree {s} {st} {nx} {k} h = record { t = h.t; n = h.n; table = h.table; below = find_lt h.t [] k h.Γ h.v h.there }
+pub tree_placed : {s st nx : List ℕ} {k : ℕ} → InTree s st nx k → Placed s st k
+tree_placed h = record { t = h.t; n = h.n; framed = h.table.framed; below = h.below }
 
 pub first_tree : {s st nx : List ℕ} {a b : ℕ} → HereTwo s st nx a b → InTree s st nx a
 first_tree {s} {st} {nx} {a} h = record { t = h.t; n = h.n; table = h.table; below = find_lt h.t [] a h.Γ h.v h.first }
@@ -89,7 +89,7 @@ any g (node (head h n us) ks) z = record { n = n; us = us; ks = ks; is = ap (λ 
 bare_in : (g n : ℕ) (us : List Ty) (ks : Forest) (es : List Sort) → es ≡ [] → Wfs ks es → Bare g (node (head g n us) ks)
 bare_in g n us nil es z w = record { n = n; us = us; is = refl }
 bare_in g n us (cons a ks) [] z w = absurd w
-bare_in g n us (cons a ks) (e ∷ es) z w = let x : ◌≡◌ {A = ℕ} 0 1 = cc in absurd (omega arith)
+bare_in g n us (cons a ks) (e ∷ es) z w = cc
 
 single_in : (g n : ℕ) (us : List Ty) (ks : Forest) (e : Sort) → Wfs ks (e ∷ []) → Single g (node (head g n us) ks)
 single_in g n us nil e w = absurd w

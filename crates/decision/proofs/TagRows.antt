@@ -1,11 +1,10 @@
 -- Decisions by a table of tags. A row has a tag and the place of the source that it leads to; what holds of all rows is said by
 -- one equation between lists, which computes.
 -- Main results: by_nodes, by_children, by_doubles.
-use mathlib.Core.Path.{◌≡◌, refl, ap}
+use mathlib.Core.Path.{◌≡◌, refl}
 use mathlib.Core.Bool.{Bool, true, false, not, ◌&&◌, ◌||◌}
 use mathlib.Core.List.{List, [], ◌∷◌}
 use Prim.Native.Nat.{ℕ}
-use native.Mathlib.Omega.{arith}
 use lib.Dec.{eqb, ltb}
 use borrow.Author.Tests.{eqb-true}
 use Rattle.frame.specs.Types.{Ty}
@@ -30,14 +29,6 @@ abbrev pub over : {A : Type 0} → (ℕ → ℕ → A) → List Row → List A
 over f [] = []
 over f (row g p ∷ rs) = f g p ∷ over f rs
 
-abbrev first : {A : Type 0} → A → List A → A
-first d [] = d
-first d (x ∷ l) = x
-
-abbrev others : {A : Type 0} → List A → List A
-others [] = []
-others (x ∷ l) = l
-
 module _ {A : Type 0} (f e : ℕ → ℕ → A) where
   row_or : (g p h q : ℕ) (b c d : Bool) → eqb g h ≡ b → eqb p q ≡ c → f h q ≡ e h q → ((b && c) || d) ≡ true
       → (d ≡ true → f g p ≡ e g p) → f g p ≡ e g p
@@ -46,9 +37,11 @@ module _ {A : Type 0} (f e : ℕ → ℕ → A) where
   row_or g p h q false c d zg zp z i later = later i
 
   at_row : (rs : List Row) → over f rs ≡ over e rs → (g p : ℕ) → is_row rs g p ≡ true → f g p ≡ e g p
-  at_row [] z g p i = let x : ◌≡◌ {A = ℕ} 0 1 = cc in absurd (omega arith)
+  at_row [] z g p i = cc
   at_row (row h q ∷ rs) z g p i =
-      row_or g p h q (eqb g h) (eqb p q) (is_row rs g p) refl refl (ap (first (f h q)) z) i (at_row rs (ap others z) g p)
+      let now : f h q ≡ e h q = cc in
+      let later : over f rs ≡ over e rs = cc in
+      row_or g p h q (eqb g h) (eqb p q) (is_row rs g p) refl refl now i (at_row rs later g p)
 
 -- all rows have right sides, and nodes of their tags have the binders that those take
 abbrev bound : ℕ → ℕ → Bool

@@ -6,7 +6,8 @@ pub mod operands; // operands.rt: decisions on the children of a node
 pub mod contains; // contains.rt: a tree beside another
 pub mod kept; // kept.rt: the children that a rule keeps
 
-// Kept: numbers for the places of the source (1 to 87), since the definitions number them (`to 66 ..`): names would only spell the numbers.
+// Kept: numbers for the places of the source (1 to 87), here, in the crates of the rules and in `programs`, since the definitions number
+// them (`to 66 ..`): names would only spell the numbers.
 // What a rule decides at a node. `place` is a place of the source, numbered as the definitions and docs/RULES.md number them; the other
 // numbers are places of the frame's tables. `specs/Decision.antt` says what answer of the definitions each decision stands for.
 #[derive(Clone, Copy, Debug, PartialEq, Eq)]

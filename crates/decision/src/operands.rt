@@ -18,6 +18,8 @@ pub fn fixed(place: usize, first: usize, second: usize, binder: usize) -> Option
     })
 }
 
+// Kept: apart from `fixed`: with one function for both, each caller would give the pattern or the operand twice. All these answer an
+// `Option`, as they are the values of arms some of which decide nothing.
 // Another pattern, on one operand.
 pub fn patterned(place: usize, pattern: usize, operand: usize, binder: usize) -> Option<Decision>
     ensures { result ≡ Some (Fixed place pattern operand operand binder) }

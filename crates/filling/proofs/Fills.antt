@@ -1,14 +1,14 @@
 -- What stands in the buffers fills a template, whichever it is; which templates ask for types.
--- Main results: asks_one, asks_none, fill_types, fill_places, fill_ready, fill_done.
+-- Main results: asks_any, fill_types, fill_places, fill_ready, fill_done.
 use mathlib.Core.Path.{◌≡◌, refl, sym, ap, ◌∙◌}
 use mathlib.Core.Bool.{Bool, true, false, not, ◌&&◌, ◌||◌}
 use mathlib.Core.List.{List, [], ◌∷◌}
-use Prim.Native.Nat.{ℕ, zero, suc, ◌≤◌, ◌<◌}
-use native.Mathlib.Omega.{arith}
-use lib.ListN.{length, get_or}
+use Prim.Native.Nat.{ℕ, zero, suc, ◌<◌}
+use lib.ListN.{length}
 use lib.Dec.{ltb}
 use borrow.Author.Tests.{ltb-true}
 use Rattle.std.proofs.Common.{Option}
+use Rattle.std.specs.List.{list_any}
 use Rattle.frame.specs.Types.{Ty}
 use Rattle.frame.specs.Trees.{head, Tree, node}
 use Rattle.frame.specs.Tags.{form_of}
@@ -32,10 +32,6 @@ use Rattle.decision.specs.Decision.{filling, takes_binders, has_binders, Bound}
 use Rattle.filling.specs.Operands.{asks_types, HeldIn, TypeOfPre, TypeOfPost, SubtreePost, BindersPost, FillAt, FillPre, FillPost}
 
 -- ---- whether a part asks for types
-or_true : (a b : Bool) → b ≡ true → a || b ≡ true
-or_true true b e = refl
-or_true false b e = e
-
 asks_part : (c : C.Part) (ps : List Part) → asks_types (part_then c ps) ≡ asks_type c || asks_types ps
 unfolding asks_types
 asks_part (P.Tag g) ps = refl
@@ -48,24 +44,10 @@ asks_part (P.Empty i) ps = refl
 asks_part (P.Full i) ps = refl
 
 -- one of the parts does, or none
-pub asks_one : (cs : List C.Part) (ps : List Part) (i : ℕ) (d : C.Part) → parts_of cs ≡ ps → i < length cs → true ≡ asks_type (get_or cs i d)
-    → true ≡ asks_types ps
-asks_one cs ps i d e h a = go cs i h a ∙ ap asks_types e
-  where
-    go : (cs : List C.Part) (i : ℕ) → i < length cs → true ≡ asks_type (get_or cs i d) → true ≡ asks_types (parts_of cs)
-    go [] i h a = absurd (omega arith)
-    go (c ∷ cs) zero h a = sym (asks_part c (parts_of cs) ∙ ap (λ (b : Bool). b || asks_types (parts_of cs)) (sym a))
-    go (c ∷ cs) (suc i) h a = sym (asks_part c (parts_of cs) ∙ or_true (asks_type c) (asks_types (parts_of cs)) (sym (go cs i (omega arith) a)))
-
-pub asks_none : (cs : List C.Part) (ps : List Part) (i : ℕ) (d : C.Part) → parts_of cs ≡ ps → length cs ≤ i
-    → ((j : ℕ) → j < i → asks_type (get_or cs j d) ≡ false) → false ≡ asks_types ps
+pub asks_any : (cs : List C.Part) → list_any asks_type cs ≡ asks_types (parts_of cs)
 unfolding asks_types
-asks_none cs ps i d e h a = go cs (λ j k. a j (omega arith)) ∙ ap asks_types e
-  where
-    go : (cs : List C.Part) → ((j : ℕ) → j < length cs → asks_type (get_or cs j d) ≡ false) → false ≡ asks_types (parts_of cs)
-    go [] a = refl
-    go (c ∷ cs) a =
-        go cs (λ j k. a (suc j) (omega arith)) ∙ sym (asks_part c (parts_of cs) ∙ ap (λ (b : Bool). b || asks_types (parts_of cs)) (a 0 (omega arith)))
+asks_any [] = refl
+asks_any (c ∷ cs) = ap (λ (b : Bool). asks_type c || b) (asks_any cs) ∙ sym (asks_part c (parts_of cs))
 
 -- ---- templates have two operands, and binders at the places that take them
 small : ℕ → Bool
@@ -98,14 +80,14 @@ module _ (r : Operands) (a b : Tree) (t u : Ty) (us : List Ty) where
   abbrev f : Filling
   f = record { operands = a ∷ b ∷ []; types = t ∷ u ∷ []; binder_types = us }
 
-  module _ (first : r.first.now ≡ enc a) (second : r.second.now ≡ enc b) where
+  module _ (first : r.first.subtree.now ≡ enc a) (second : r.second.subtree.now ≡ enc b) where
     operand_holds : (i : ℕ) → small i ≡ true → subtree_of r i ≡ enc (operand_at i f.operands)
     unfolding small
     operand_holds zero h = first
     operand_holds (suc zero) h = second
     operand_holds (suc (suc i)) h = true_not h
 
-    type_holds : (r.first_type.now ≡ enc_ty t) × (r.second_type.now ≡ enc_ty u) → (i : ℕ) → small i ≡ true
+    type_holds : (r.first.own_type.now ≡ enc_ty t) × (r.second.own_type.now ≡ enc_ty u) → (i : ℕ) → small i ≡ true
         → type_bytes r i ≡ enc_ty (type_at i f.types)
     unfolding small
     type_holds m zero h = m.0
@@ -113,7 +95,7 @@ module _ (r : Operands) (a b : Tree) (t u : Ty) (us : List Ty) where
     type_holds m (suc (suc i)) h = true_not h
 
     module _ (c : Bool) (bound : c ≡ true → r.binders.now ≡ length us ∷ enc_tys us) where
-      all_holds : (ps : List Part) → fits c ps ≡ true → (asks_types ps ≡ true → (r.first_type.now ≡ enc_ty t) × (r.second_type.now ≡ enc_ty u))
+      all_holds : (ps : List Part) → fits c ps ≡ true → (asks_types ps ≡ true → (r.first.own_type.now ≡ enc_ty t) × (r.second.own_type.now ≡ enc_ty u))
           → Holds r f ps
       unfolding fits asks_types Holds
       all_holds [] h m = tt
@@ -154,9 +136,9 @@ module _ (p : Places) (pattern first second binder : ℕ) where
           record { t = pre.t; table = pre.table; below = find_lt pre.t [] binder w.Θ (node (head w.g w.x pre.us) w.ks) w.at_binder },
         )
 
-  module _ (asked : Bool) (says : asked ≡ asks_types (template pattern)) (r : Operands) (of_first : SubtreePost p first r.first.now)
-      (of_second : SubtreePost p second r.second.now) (first_type : asked ≡ true → TypeOfPost p first r.first_type.now)
-      (second_type : asked ≡ true → TypeOfPost p second r.second_type.now) (of_binders : BindersPost p binder r.binders.now) where
+  module _ (asked : Bool) (says : asked ≡ asks_types (template pattern)) (r : Operands) (of_first : SubtreePost p first r.first.subtree.now)
+      (of_second : SubtreePost p second r.second.subtree.now)
+      (types : asked ≡ true → TypeOfPost p first r.first.own_type.now × TypeOfPost p second r.second.own_type.now) (of_binders : BindersPost p binder r.binders.now) where
     holds : (t : Tree) (Δ : Ctx) (a b : Tree) (us : List Ty) → PlacesOf p t → HeldIn p t → FillAt t pattern first second binder Δ a b us
         → Holds r (filling Δ a b us) (template pattern)
     holds t Δ a b us tb h w =
@@ -164,7 +146,7 @@ module _ (p : Places) (pattern first second binder : ℕ) where
         (takes_binders pattern)
         (λ e. of_binders.is t w.Θ w.g w.x us w.ks tb w.at_binder (bound_has pattern w.g w.bound e))
         (template pattern) (template_fits pattern (bound_few pattern w.g w.bound))
-        (λ e. ((first_type (says ∙ e)).is t Δ a h w.at_first, (second_type (says ∙ e)).is t Δ b h w.at_second))
+        (λ e. ((types (says ∙ e)).0.is t Δ a h w.at_first, (types (says ∙ e)).1.is t Δ b h w.at_second))
 
     pub fill_ready : FillPre p pattern first second binder → (pattern < 88) × Fillable (template pattern) r
     fill_ready pre = (

@@ -1,5 +1,5 @@
 -- The ways out of the functions of src/lib.rt that find an operand's type.
-use mathlib.Core.Path.{◌≡◌, sym, ap, ◌∙◌, subst}
+use mathlib.Core.Path.{◌≡◌, refl, sym, ap, ◌∙◌, subst}
 use mathlib.Core.List.{List, []}
 use Prim.Native.Nat.{ℕ, ◌+◌, ◌*◌, ◌≤◌, ◌<◌}
 use native.Mathlib.Omega.{arith}
@@ -16,13 +16,20 @@ use Rattle.frame.proofs.Splices.{find_some}
 use Rattle.heads.proofs.View.{stands_at}
 use Rattle.typing.specs.Typing.{type_of}
 use Rattle.synthesis.specs.TypingPosts.{TypePre, TypePost, Typing}
-use Rattle.std.proofs.Common.{Option, Some, None}
+use Rattle.std.proofs.Common.{Option, Some, None, Result, Ok, Err}
+use Rattle.std.specs.Option.{IsSome}
+use Rattle.std.specs.Result.{IsOk, MatchResult}
 use Rattle.nav.specs.PlaceTables.{arity}
 use Rattle.nav.specs.AtPlaces.{ArityAt}
 use Rattle.nav.specs.declared.Places.{Places}
 use Rattle.nav.proofs.Hops.{framed_few, place_end, place_sorted, place_stands}
 use Rattle.filling.specs.Operands.{HeldIn, TypeOfPre, WorkFor, TypeOfPost}
 use Rattle.filling.proofs.Subtrees.{held_leaves, held_typed, held_short}
+
+-- what is short enough is taken over
+pub fits : {A E : Type 0} (r : Result A E) (P : A → Type 0) (n : ℕ) → MatchResult r P (λ _. 64 < n) → n ≤ 64 → IsOk r
+fits (Ok v) P n p l = refl
+fits (Err e) P n p l = absurd (omega arith)
 
 module _ (p : Places) (k : ℕ) where
   abbrev start : ℕ
@@ -108,8 +115,13 @@ module _ (p : Places) (k : ℕ) where
             z ∙ ap (λ (i : ℕ). take i work) y ∙ x.bytes);
       }
 
-      pub type_refused : a ≡ None → (r : List ℕ) → TypeOfPost p k r
-      type_refused e r = record {
-        is = λ t Δ v h f. (let y : Typing None v Δ work = typed_as None e t h Δ v f in
-            true_not (sym y ∙ held_typed p.bytes.now p.starts.now p.leaves.now p.count t h k Δ v f));
-      }
+      -- an expression of an accepted tree has a type
+      pub type_some : IsSome a
+      type_some = go a refl
+        where
+          go : (b : Option ℕ) → a ≡ b → IsSome b
+          go None e =
+              let v = find_some pre.t [] k pre.below in
+              let y : Typing None v.1 v.0 work = typed_as None e pre.t pre.held v.0 v.1 v.2 in
+              true_not (sym y ∙ held_typed p.bytes.now p.starts.now p.leaves.now p.count pre.t pre.held k v.0 v.1 v.2)
+          go (Some m) e = refl

@@ -1,52 +1,46 @@
 // What a pattern is filled with: the operands and binders as they stand in the frame, and the operands' types.
 #![tactic(auto)]
 
-mod type_bytes; // type_bytes.rt: the bytes of one type
-
-ghost use Rattle.std.specs.Prelude.{◌≡◌, ◌<◌, true};
+ghost use Rattle.std.specs.Prelude.{◌≡◌, ◌<◌};
 ghost use Rattle.nav.specs.AtPlaces.{InTables};
 ghost use Rattle.templates.specs.Programs.{template};
 ghost use Rattle.filling.specs.Operands.{asks_types, TypeOfPre, WorkFor, TypeOfPost, SubtreePost, BindersPost, FillPre, FillPost};
 
+use arrayvec::ArrayVec;
 use nav::Places;
-use parts::Operands;
+use parts::{OperandBytes, Operands};
 use programs::program_of;
 use put::Writer;
 use synthesis::type_tree;
-use type_bytes::TypeBytes;
+
+// The bytes of a type, which has at most 64.
+type TypeBytes = ArrayVec<u8, 64>;
 
 // Whether the right side has a type that is made from an operand's.
 fn asks_types(pattern: usize) -> bool
     requires { pattern < 88 }
     ensures { result ≡ asks_types (template pattern) }
 {
-    // Kept: with `iter().any(..)` what it answers was not proved from its contract.
-    let program = program_of(pattern);
-    for part in program {
-        if part.asks_type() {
-            return true;
-        }
-    }
-    false
+    program_of(pattern).iter().any(|part| part.asks_type())
 }
 
 // The type of the subtree at place k; `work` has room for a type of 64 bytes for each of its nodes.
 fn type_with(places: &Places<'_>, k: usize, work: &mut [u8]) -> TypeBytes
     requires { TypeOfPre places.now k × WorkFor places.now k work.old }
-    ensures { TypeOfPost places.now k result }
+    ensures { TypeOfPost places.now k result.items }
 {
-    match type_tree(places.bytes, places.start_at(k), k, places.leaves, work) {
-        Some(m) => TypeBytes::of(&work[..m]),
-        None => TypeBytes::none(),
-    }
+    // The tree was accepted, so each of its subtrees has a type.
+    let m = type_tree(places.bytes, places.start_at(k), k, places.leaves, work).unwrap();
+    TypeBytes::try_from(&work[..m]).unwrap()
 }
 
 // The same, with room for 2,048 nodes; most operands have no operands, a short frame has few nodes, and a buffer takes time to clear.
 fn type_of_place(places: &Places<'_>, k: usize) -> TypeBytes
     requires { TypeOfPre places.now k }
-    ensures { TypeOfPost places.now k result }
+    ensures { TypeOfPost places.now k result.items }
 {
-    // Kept: a buffer of each size, since a larger one takes longer to clear; each is one call.
+    // Kept: a buffer of each size, since a larger one takes longer to clear; each is one call. One function for these and for the sizes of
+    // `checking` would lend its buffer to a closure, whose clauses would be those of the functions here and there.
     if places.arity_at(k) == 0 {
         return type_with(places, k, &mut [0; 128]);
     }
@@ -57,17 +51,6 @@ fn type_of_place(places: &Places<'_>, k: usize) -> TypeBytes
         return type_with(places, k, &mut [0; 32768]);
     }
     type_with(places, k, &mut [0; 131136])
-}
-
-// The same where it is asked for.
-fn type_if(asked: bool, places: &Places<'_>, k: usize) -> TypeBytes
-    requires { TypeOfPre places.now k }
-    ensures { asked ≡ true → TypeOfPost places.now k result }
-{
-    if asked {
-        return type_of_place(places, k);
-    }
-    TypeBytes::none()
 }
 
 // The bytes of the subtree at place k.
@@ -91,6 +74,7 @@ fn behind_tag<'a>(places: &Places<'a>, k: usize) -> &'a [u8]
     &places.bytes[from..]
 }
 
+// Kept: a pattern and three places and no struct: `build` makes them from a decision or, in a row, anew for each child.
 // The pattern, filled with the operands at two places and the binders of the node at a third.
 pub fn fill(
     places: &Places<'_>,
@@ -103,14 +87,20 @@ pub fn fill(
     requires { FillPre places.now pattern first second binder }
     ensures { FillPost places.now pattern first second binder out.old out.new }
 {
-    let asked = asks_types(pattern);
-    let first_type = type_if(asked, places, first);
-    let second_type = type_if(asked, places, second);
+    let (first_type, second_type) = if asks_types(pattern) {
+        (type_of_place(places, first), type_of_place(places, second))
+    } else {
+        (TypeBytes::new(), TypeBytes::new())
+    };
     let operands = Operands {
-        first: subtree_at(places, first),
-        second: subtree_at(places, second),
-        first_type: first_type.as_slice(),
-        second_type: second_type.as_slice(),
+        first: OperandBytes {
+            subtree: subtree_at(places, first),
+            own_type: &first_type,
+        },
+        second: OperandBytes {
+            subtree: subtree_at(places, second),
+            own_type: &second_type,
+        },
         binders: behind_tag(places, binder),
     };
     parts::fill_template(pattern, &operands, out);

@@ -89,7 +89,7 @@ abbrev TysNumber : TysRes → Type 0
 TysNumber (ok_ts ts p) = Unit {0}
 TysNumber (no_ts c) = IsNumber c
 
-tys_number : (n : ℕ) (s : List ℕ) (p : ℕ) → TysNumber (read_tys n s p)
+pub tys_number : (n : ℕ) (s : List ℕ) (p : ℕ) → TysNumber (read_tys n s p)
 unfolding read_tys
 tys_number zero s p = tt
 tys_number (suc n) s p = go (read_ty (suc type_limit) (p + type_limit) s p) (ty_number (suc type_limit) (p + type_limit) s p) (tys_number n s)
@@ -107,7 +107,7 @@ abbrev HeadNumber : HeadRes → Type 0
 HeadNumber (ok_h h p es) = Unit {0}
 HeadNumber (no_h c) = IsNumber c
 
-head_number : (s : List ℕ) (at : ℕ) (e : Sort) → HeadNumber (read_head s at e)
+pub head_number : (s : List ℕ) (at : ℕ) (e : Sort) → HeadNumber (read_head s at e)
 unfolding read_head with_form with_number
 head_number s at e =
     let fm = form_of (number_at 2 s at) in

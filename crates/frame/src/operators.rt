@@ -1,4 +1,7 @@
 // The tags that the code names, under Rodin's names; `specs/Operators.antt` has them for the definitions.
+// Kept: numbers and no enum, since a frame has a node's tag as a number and the definitions go by it, most of them by ranges: each of
+// the listed tags would stand once more in a match from numbers to cases, which every head that is read would go through. The tables of
+// `tags` and `type_rules` go by the same numbers.
 
 pub const FREE_IDENT: usize = 1;
 

@@ -1,7 +1,8 @@
 // Whether a comprehension set of maplets is a function, as its form shows it (`functional_check`, document 000): each of its
 // binders that the right side of the maplet uses stands on the left side at a pattern position. A set of binders is a mask of
 // 32 bits ("`HashSet` of binder indices becomes a 32-bit mask"): bit i stands for the binder with index i.
-// Kept: a mask and no set, since the project uses no heap and the document asks for one.
+// Kept: a mask and no set, since the project uses no heap and the document asks for a mask.
+// Kept: that trees stand at the places is a clause of each function; nav/src/lib.rt says why it is no field of a `Places`.
 #![tactic(auto)]
 
 ghost use Rattle.std.specs.Prelude.{◌≡◌, ◌*◌, ◌≤◌};
@@ -14,14 +15,7 @@ use nav::Places;
 fn is_binder(tag: usize) -> bool
     ensures { result ≡ is_binder tag }
 {
-    match tag {
-        QUNION => true,
-        QINTER => true,
-        CSET => true,
-        FORALL => true,
-        EXISTS => true,
-        _ => false,
-    }
+    matches!(tag, QUNION | QINTER | CSET | FORALL | EXISTS)
 }
 
 // How many binders the node at place k has around its children.

@@ -208,7 +208,7 @@ module _ (s : List ℕ) (at : ℕ) (o : Opening) (post : OpeningPost s at o) whe
 
     pub known_found : Bytes s → HeadStands s at → (to : ℕ) → SkipPost s o.types m to → KnownPost s at (headed o to)
     unfolding head_at tys_of
-    known_found bs hs to sk = record { form = post.form; by = λ e t q a. found e t q a }
+    known_found bs hs to sk = record { form = post.form; number = post.number; by = λ e t q a. found e t q a }
       where
         found : (e : T.Sort) (t : Tree) (q : ℕ) → IsAt s e at t q → Ok (said (headed o to)) ≡ head_there s at e
         found e t q a =

@@ -2,8 +2,8 @@
 -- tree's own head and its children.
 -- Main results: at_span, at_wf, at_end_lem, stands_at, parse_at (what it is to stand somewhere); kids_span, kids_wf,
 -- kids_end (the same of trees in a row); kids_none, kids_some (the
--- first child and the others); head_of, view, known_view (by a head that was read).
-use mathlib.Core.Path.{◌≡◌, sym, ap, ◌∙◌, subst, subst₂}
+-- first child and the others); head_of, view, known_view (by a head that was read), known_many (how many types it has).
+use mathlib.Core.Path.{◌≡◌, sym, ap, ap₂, ◌∙◌, subst, subst₂}
 use mathlib.Core.List.{List, []}
 use Prim.Native.Nat.{ℕ, zero, suc, ◌+◌, ◌-◌, ◌≤◌}
 use native.Mathlib.Omega.{arith}
@@ -12,22 +12,24 @@ use Rattle.std.proofs.Common.{Ok}
 use Rattle.frame.specs.Types.{Ty}
 use Rattle.frame.specs.Trees.{Head, head, Tree, node, Forest, nil, cons, count}
 use Rattle.frame.specs.Tags as T
-use Rattle.frame.specs.Tags.{predicate, form_of, width, sorts_of}
+use Rattle.frame.specs.Tags.{predicate, form_of, width, types_of, sorts_of}
 use Rattle.tags.specs.declared.forms.Sort.{Sort}
-use Rattle.tags.specs.TagCodes.{sort_for, first_sort, later_sort, kinds_for}
+use Rattle.tags.specs.TagCodes.{meant, sort_for, first_sort, later_sort, kinds_for}
 use Rattle.frame.specs.Encoding.{enc_tys, enc, encs}
-use Rattle.frame.specs.Reading.{ok_h, read_head, ok, ok_f, read_many, read_node, tree, parse}
+use Rattle.frame.specs.Reading.{number_at, ok_h, read_head, ok, ok_f, read_many, read_node, tree, parse}
 use Rattle.frame.specs.WellFormed.{number_in, HeadWf, Wf, Wfs}
 use Rattle.frame.specs.Spans.{Bytes, Spans}
 use Rattle.frame.specs.At.{types_at, IsAt, KidsAt}
 use Rattle.heads.specs.HeadPost.{facts, head_there, payload_in, sorts_in, KnownPost}
 use Rattle.heads.specs.declared.Head.{Head as ReadHead}
-use Rattle.frame.proofs.Inversion.{no_not, many_inv, many_count, NodeInv, node_inv, head_inv, tag_at}
+use Rattle.frame.proofs.Inversion.{no_not, many_inv, many_count, NodeInv, node_inv, head_inv, behind, tag_at}
 use Rattle.frame.proofs.ReadTrees.{head_read, node_enc, node_wf, many_enc, many_wf}
 use Rattle.frame.proofs.ReadBack.{enc_long, node_back}
+use Rattle.frame.proofs.ReadTypes.{tys_read}
 use Rattle.frame.proofs.Frames.{parse_inv}
 use Rattle.heads.proofs.HeadSays.{head_yes, said_kinds}
 use Rattle.tags.proofs.FormTables.{kinds_rest}
+use Rattle.tags.proofs.TagTables.{code_form}
 
 -- ---- a tree that stands somewhere
 module _ (s : List ℕ) (bs : Bytes s) (e : T.Sort) (at : ℕ) (t : Tree) (q : ℕ) (a : IsAt s e at t q) where
@@ -173,3 +175,16 @@ KnownView s e at t q r =
 pub known_view : (s : List ℕ) → Bytes s → (at : ℕ) (r : ReadHead) → KnownPost s at r → (e : T.Sort) (t : Tree) (q : ℕ) → IsAt s e at t q
     → KnownView s e at t q r
 known_view s bs at r k e t q h = view s e at t q h bs _ _ _ _ _ _ _ (k.by e t q h)
+
+-- how many types its head has
+pub known_many : (s : List ℕ) → Bytes s → (at : ℕ) (r : ReadHead) → KnownPost s at r → (e : T.Sort) (t : Tree) (q : ℕ) (v : KnownView s e at t q r)
+    → length v.us ≡ types_of (meant r.form).layout (meant r.form).carried r.number
+known_many s bs at r k e t q v =
+    let i = head_inv s at e _ _ _ v.headed in
+    let j = i.is in
+    let tag : tag_at s at ≡ r.tag = cc in
+    let us : i.ts ≡ v.us = cc in
+    let f : form_of (tag_at s at) ≡ meant r.form = ap form_of tag ∙ sym (code_form r.tag r.form k.form) in
+    let n : behind s at ≡ r.number = ap (λ (fm : T.Form). number_at (width fm.layout) s (at + 2)) f ∙ sym k.number in
+    let many = (tys_read _ s bs (types_at s at) i.ts _ i.room i.types).many in
+    ap length (sym us) ∙ many ∙ ap₂ (λ (fm : T.Form) (x : ℕ). types_of fm.layout fm.carried x) f n

@@ -86,7 +86,8 @@ pub record OpeningPost (s : List ℕ) (at : ℕ) (o : Opening) : Type 0 where
 pub record HeadEnd (s : List ℕ) (at r : ℕ) : Type 0 where
   pub by : (e : T.Sort) (t : Tree) (q : ℕ) → IsAt s e at t q → (h : Head) (p : ℕ) (es : List T.Sort) → read_head s at e ≡ ok_h h p es → r ≡ p
 
--- r is the head there: its form is that of its tag, and it says all that the definition answers
+-- r is the head there: its form is that of its tag, its number stands behind the tag, and it says all that the definition answers
 pub record KnownPost (s : List ℕ) (at : ℕ) (r : ReadHead) : Type 0 where
   pub form : r.form ≡ form_code (class_of r.tag)
+  pub number : r.number ≡ number_at (width (meant r.form).layout) s (at + 2)
   pub by : (e : T.Sort) (t : Tree) (q : ℕ) → IsAt s e at t q → Ok (said r) ≡ head_there s at e

@@ -24,6 +24,7 @@ pub struct Opening {
 
 // A head: how it begins, where its children start, and how many they are. The form says the sorts of these, and whether the number
 // is a payload.
+// Kept: the four fields of an Opening and no Opening within, since callers ask a head for its tag, its form and its number by name.
 #[derive(Clone, Copy, Debug, PartialEq, Eq)]
 pub struct Head {
     pub tag: usize,
@@ -58,6 +59,7 @@ impl Opening {
 }
 
 // The number in the w bytes at `at`, high byte first.
+// Kept: the library's `from_be_bytes` takes an array, and other libraries' readers one byte or more; w is 0, 1, 2 or 8 as the form says.
 pub fn number(s: &[u8], at: usize, w: usize) -> usize
     requires { (at + w ≤ length s.now) × (w ≤ 8) }
     ensures { result ≡ number_at w s.now at }
@@ -102,6 +104,7 @@ pub fn read_head(s: &[u8], at: usize, sort: Sort) -> Result<Head, Refusal>
 }
 
 // How many bytes of a type stand before its parts: a given set has its number behind the type byte.
+// Kept: here and below by the byte, which was read before (types/src/lib.rt).
 pub fn type_bytes(b: u8) -> usize
     ensures { result ≡ lead_of b }
 {
@@ -121,7 +124,8 @@ pub fn skip_types(s: &[u8], at: usize, m: usize) -> usize
     ensures { SkipPost s.now at m result }
 {
     let mut p = at;
-    // Kept: the count of types that are left goes up at a product and down at a leaf, so no `for` or iterator over a range says it.
+    // Kept: the count of types that are left goes up at a product and down at a leaf, so no `for` over a range says it; an iterator over
+    // a type's bytes would have the same count within.
     let mut left = m;
     while 0 < left {
         let b = s[p];
@@ -139,6 +143,7 @@ pub fn type_end(s: &[u8], at: usize) -> usize
     skip_types(s, at, 1)
 }
 
+// Kept: that a head stands there is a clause of these three and no fact of a struct: each call is at another position.
 // How the head begins of a tree that was read before: nothing of it is checked again.
 pub fn known_opening(s: &[u8], at: usize) -> Opening
     requires { HeadStands s.now at }

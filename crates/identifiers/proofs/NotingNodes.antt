@@ -4,7 +4,7 @@
 use mathlib.Core.Path.{◌≡◌, refl, sym, ap, ◌∙◌, subst}
 use mathlib.Core.Bool.{Bool, true, false}
 use mathlib.Core.List.{List, [], ◌∷◌, ◌++◌, append_assoc, append-nil}
-use Prim.Native.Nat.{ℕ, suc, ◌+◌, ◌≤◌, ◌<◌}
+use Prim.Native.Nat.{ℕ, ◌+◌, ◌≤◌, ◌<◌}
 use native.Mathlib.Omega.{arith}
 use lib.ListN.{length, length-append}
 use borrow.Author.Tests.{ne_eqb, eq-eqb}
@@ -22,13 +22,14 @@ use Rattle.frame.specs.WellFormed.{TyWf, TysWf, number_in, HeadWf}
 use Rattle.frame.specs.Spans.{Spans}
 use Rattle.frame.proofs.Spans.{span_left, span_right}
 use Rattle.frame.proofs.Numbers.{number_length, number_back}
-use Rattle.frame.proofs.ReadBack.{enc_long, node_back}
+use Rattle.frame.proofs.ReadBack.{enc_long}
 use Rattle.frame.proofs.Forests.{encs_append, wfs_append}
 use Rattle.tags.proofs.TagTables.{code_form}
 use Rattle.typing.specs.Typing.{carried_ty}
 use Rattle.typing.specs.Members.{All}
 use Rattle.typing.specs.Identifiers.{Named, named, givens_tys, ident_of}
 use Rattle.reading.specs.Post.{Rest}
+use Rattle.reading.proofs.AgainTurns.{rest_head}
 use Rattle.claims.specs.Table.{TypeAt, Noted, Held, NamePost}
 use Rattle.identifiers.specs.declared.Stop.{Stop}
 use Rattle.identifiers.specs.declared.Stop.TheVariants.{Clashed, Beyond}
@@ -57,7 +58,6 @@ record Next (s : List ℕ) (at g n : ℕ) (us : List Ty) (ks later : Forest) : T
   wf : HeadWf e g n us (count ks)
   small : g ≡ number_at 2 s at
   number : number_at (width (form_of g).layout) s (at + 2) ≡ number_in g n us (count ks)
-  room : (at + 2 ≤ length s) × (at + 2 + width (form_of g).layout ≤ length s)
   types : Spans s (at + 2 + width (form_of g).layout) (at + length (enc_head (head g n us) (count ks))) (enc_tys us)
   sorts : List Sort
   after : Rest s (at + length (enc_head (head g n us) (count ks))) (append ks later) sorts
@@ -94,7 +94,6 @@ next s at g n us ks later (e ∷ es) a =
       wf = h;
       small = sym c.number;
       number = d.number;
-      room = (c.within, d.within);
       types = subst (λ (i : ℕ). Spans s (at + 2 + w) i (enc_tys us)) z (span_left (enc_tys us) (encs (append ks later)) d.rest);
       sorts = sorts_of (form_of g).layout x ++ es;
       after = record {
@@ -175,12 +174,7 @@ first s at l (nil, es, a) = absurd (omega (arith, a.span.long))
 first s at l (cons (node (head g n us) ks) later, es, a) = record { g = g; n = n; us = us; ks = ks; later = later; es = es; rest = a }
 
 pub left_stands : (s : List ℕ) (at : ℕ) → at < length s → Left s at → HeadStands s at
-unfolding enc
-left_stands s at l (nil, es, a) = absurd (omega (arith, a.span.long))
-left_stands s at l (cons t later, [], a) = absurd a.wf
-left_stands s at l (cons t later, e ∷ es, a) =
-    let q : ℕ = at + length (enc t) in
-    (e, t, q, (suc q, node_back t (suc q) s e at q (span_left (enc t) (encs later) a.span) a.wf.0 (omega arith)))
+left_stands s at l (ts, es, a) = rest_head s at ts es l a
 
 ident_none : (g n : ℕ) (us : List Ty) → (g ≡ #FreeIdent → ⊥) → ident_of g n us ≡ []
 ident_none g n us d = rw (ne_eqb g #FreeIdent d)

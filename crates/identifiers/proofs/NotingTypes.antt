@@ -143,9 +143,6 @@ pub record Going (s : List ℕ) (at m : ℕ) (t₀ : List ℕ) (p left : ℕ) (t
   pub back : (t₂ : List ℕ) (r : Result ℕ Stop) → TypesPost s p left t₁ t₂ r → TypesPost s at m t₀ t₂ r
 
 module _ (s : List ℕ) (at m : ℕ) (t₀ : List ℕ) where
-  pub going_begins : Held s t₀ → Some s at m → Going s at m t₀ at m t₀
-  going_begins h a = record { held = h; size = refl; some = a; back = λ t₂ r x. x }
-
   module _ (p left : ℕ) (t₁ : List ℕ) (g : Going s at m t₀ p left t₁) where
     pub going_done : left ≡ 0 → TypesPost s at m t₀ t₁ (Ok p)
     going_done z = g.back t₁ (Ok p) (types_end s p left t₁ z)

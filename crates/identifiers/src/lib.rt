@@ -9,7 +9,6 @@ ghost use Rattle.frame.specs.Types.{Ty};
 ghost use Rattle.frame.specs.Trees.{Tree, Forest};
 ghost use Rattle.frame.specs.Tags.{Sort, predicate};
 ghost use Rattle.frame.specs.At.{IsAt};
-ghost use Rattle.frame.specs.Reading.{frame_limit};
 ghost use Rattle.typing.specs.Identifiers.{names_agree};
 ghost use Rattle.reading.specs.Post.{Rest};
 ghost use Rattle.claims.specs.Table.{Held};
@@ -18,7 +17,9 @@ ghost use Rattle.identifiers.specs.Claims.{TypesAt, TypesPost, NodePost, Clear, 
 use claims::{note_given, note_identifier};
 use frame::operators::FREE_IDENT;
 use heads::{known_opening, number, type_bytes, type_parts};
+use reading::Frame;
 
+// Kept: a byte of a type, as read (types/src/lib.rt).
 const GIVEN_SET: u8 = 2;
 
 // Why no more claims are noted: a number has been claimed with another type, or the table has no entry for a number.
@@ -35,6 +36,8 @@ fn note_types(s: &[u8], at: usize, m: usize, table: &mut [u16]) -> Result<usize,
 {
     let mut p = at;
     let mut left = m;
+    // Kept: the count of types that are left goes up at a product and down at a leaf, so no `for` over a range says it; and apart from
+    // `heads::skip_types`, which never stops on the way.
     while 0 < left {
         let b = s[p];
         if b == GIVEN_SET {
@@ -54,6 +57,7 @@ fn note_types(s: &[u8], at: usize, m: usize, table: &mut [u16]) -> Result<usize,
 
 // The claims of the node at `at`: those of the given sets in its types, and its own if it is an identifier. A node's children are
 // the next nodes, and the next node stands where its types end.
+// Kept: that nodes stand there is a clause and no fact of a struct: each call is at another position.
 fn note_node(s: &[u8], at: usize, table: &mut [u16]) -> Result<usize, Stop>
     requires { (at < length s.now) × Held s.now table.old × ((ts : Forest) × (es : List Sort) × Rest s.now at ts es) }
     ensures { NodePost s.now at table.old table.new result }
@@ -72,24 +76,26 @@ fn note_node(s: &[u8], at: usize, table: &mut [u16]) -> Result<usize, Stop>
 }
 
 // All nodes of the frame, with a table that has no claims yet.
-fn note_nodes(s: &[u8], table: &mut [u16]) -> Result<(), Stop>
-    requires { (length s.now ≤ frame_limit) × ((t : Tree) × IsAt s.now predicate 0 t (length s.now)) × Clear table.old }
-    ensures { (t : Tree) → IsAt s.now predicate 0 t (length s.now) → Decides table.old t result }
+fn note_nodes(frame: &Frame<'_>, table: &mut [u16]) -> Result<(), Stop>
+    requires { Clear table.old }
+    ensures { (t : Tree) → IsAt frame.now.bytes.now predicate 0 t (length frame.now.bytes.now) → Decides table.old t result }
 {
+    let bytes = frame.bytes;
     let mut at = 0;
-    while at < s.len() {
-        at = note_node(s, at, table)?;
+    // Kept: what is noted of a node answers where the next one starts, so no `for` says it; an iterator over heads would find it twice.
+    while at < bytes.len() {
+        at = note_node(bytes, at, table)?;
     }
     Ok(())
 }
 
 // Whether the names of a frame's tree agree, by a table of N numbers; none if the frame has a number beyond it.
-fn names_below<const N: usize>(s: &[u8]) -> Option<bool>
-    requires { (N ≤ 65536) × (length s.now ≤ frame_limit) × ((t : Tree) × IsAt s.now predicate 0 t (length s.now)) }
-    ensures { (t : Tree) → IsAt s.now predicate 0 t (length s.now) → Agreed N t result }
+fn names_below<const N: usize>(frame: &Frame<'_>) -> Option<bool>
+    requires { N ≤ 65536 }
+    ensures { (t : Tree) → IsAt frame.now.bytes.now predicate 0 t (length frame.now.bytes.now) → Agreed N t result }
 {
     let mut table = [0u16; N];
-    match note_nodes(s, &mut table) {
+    match note_nodes(frame, &mut table) {
         Ok(()) => Some(true),
         Err(Stop::Clashed) => Some(false),
         Err(Stop::Beyond) => None,
@@ -99,15 +105,15 @@ fn names_below<const N: usize>(s: &[u8]) -> Option<bool>
 // Whether the names of a frame's tree agree. Nearly all frames have numbers below 256 only, and those with no number from 4,096 on
 // don't pay for clearing the table of all numbers. That one has an entry for each two-byte number: so the time grows with the
 // frame alone, whichever numbers it has.
-pub fn names_ok(s: &[u8]) -> bool
-    requires { (length s.now ≤ frame_limit) × ((t : Tree) × IsAt s.now predicate 0 t (length s.now)) }
-    ensures { (t : Tree) → IsAt s.now predicate 0 t (length s.now) → result ≡ names_agree t }
+pub fn names_ok(frame: &Frame<'_>) -> bool
+    ensures { (t : Tree) → IsAt frame.now.bytes.now predicate 0 t (length frame.now.bytes.now) → result ≡ names_agree t }
 {
-    if let Some(agree) = names_below::<256>(s) {
+    // Kept: no `or_else`, as each closure would need clauses of its own (logic/src/implication.rt).
+    if let Some(agree) = names_below::<256>(frame) {
         return agree;
     }
-    if let Some(agree) = names_below::<4096>(s) {
+    if let Some(agree) = names_below::<4096>(frame) {
         return agree;
     }
-    names_below::<65536>(s).unwrap_or(false)
+    names_below::<65536>(frame).unwrap_or(false)
 }

@@ -1,5 +1,5 @@
 -- What `simplify_assoc_pred` of src/lib.rt answers stands for what the definition of that name gives.
--- Main results: decided_done, settled_done (the ways out of `simplify_assoc_pred`); is_nothing, is_something (by a test of the outcome).
+-- Main results: decided_done, settled_done (the ways out of `simplify_assoc_pred`).
 use mathlib.Core.Path.{◌≡◌, refl, sym, ap, ◌∙◌}
 use mathlib.Core.Bool.{Bool, true, false, not, ◌&&◌}
 use mathlib.Core.List.{List, [], ◌∷◌}
@@ -7,7 +7,7 @@ use Prim.Native.Nat.{ℕ}
 use native.Mathlib.Omega.{arith}
 use lib.Dec.{eqb, ltb}
 use lib.ListN.{length}
-use Rattle.std.proofs.Common.{Option, Some, None, is_some}
+use Rattle.std.proofs.Common.{Option, Some, None}
 use Rattle.std.proofs.lemmas.List.{length-map}
 use borrow.Author.Tests.{eqb-true, eqb-false}
 use Rattle.frame.specs.Types.{Ty}
@@ -143,52 +143,35 @@ module _ (s st nx : List ℕ) (k tag : ℕ) (post : TagPost s st k tag) (lent : 
   not_there : (d : Option Decision) (g neutral determinant : ℕ) → (tag ≡ g → ⊥) → Answers d g neutral determinant
   not_there d g neutral determinant e t n Γ y us ks tb f = absurd (e (post.tag t n Γ (node (head g y us) ks) tb.framed f))
 
-  and_literals : Literals
+  abbrev and_literals : Literals
   and_literals = record { neutral = 610; neutral_pattern = 1; determinant = 611; determinant_pattern = 2 }
 
-  or_literals : Literals
+  abbrev or_literals : Literals
   or_literals = record { neutral = 611; neutral_pattern = 2; determinant = 610; determinant_pattern = 1 }
 
-  -- by the operator
+  -- by the operator, of whose literals P holds
   module _ (d : Option Decision) (P : Literals → Type 0) (conj : P and_literals → Answers d 351 610 611) (disj : P or_literals → Answers d 352 611 610) where
-    by_operator : (b : Bool) → eqb tag 351 ≡ b → P (pick b and_literals or_literals) → JunctionPost s st nx k lent d
-    by_operator true e p = record { conj = conj p; disj = not_there d 352 611 610 (λ z. let y = eqb-true tag 351 e in omega (arith, z)) }
-    by_operator false e p = record { conj = not_there d 351 610 611 (eqb-false tag 351 e); disj = disj p }
+    by_operator : (literals : Literals) → literals ≡ literals_of tag → P literals → JunctionPost s st nx k lent d
+    by_operator literals el h = go (eqb tag 351) refl (rw el at h)
+      where
+        go : (b : Bool) → eqb tag 351 ≡ b → P (pick b and_literals or_literals) → JunctionPost s st nx k lent d
+        go true e p = record { conj = conj p; disj = not_there d 352 611 610 (λ z. let y = eqb-true tag 351 e in omega (arith, z)) }
+        go false e p = record { conj = not_there d 351 610 611 (eqb-false tag 351 e); disj = disj p }
 
   module _ (literals : Literals) (el : literals ≡ literals_of tag) where
     pub decided_done : (r : Option (Unit {0})) → r ≡ None → AbsorbPost s st nx k literals.neutral literals.determinant lent r → (d : Option Decision)
         → d ≡ Some (D.Fixed 62 literals.determinant_pattern k k k) → JunctionPost s st nx k lent d
-    unfolding and_literals or_literals
     decided_done r er absorbed d ed =
         by_operator d
         (λ l. AbsorbPost s st nx k l.neutral l.determinant lent None × (d ≡ Some (D.Fixed 62 l.determinant_pattern k k k)))
         (λ p. rw p.1 (at_decided 351 610 611 2 and_joins (λ q. omega arith) false_literal p.0))
         (λ p. rw p.1 (at_decided 352 611 610 1 or_joins (λ q. omega arith) true_literal p.0))
-        (eqb tag 351) refl (p (literals_of tag) el absorbed ed)
-      where
-        p : (l : Literals) → literals ≡ l → AbsorbPost s st nx k literals.neutral literals.determinant lent r
-            → d ≡ Some (D.Fixed 62 literals.determinant_pattern k k k)
-            → AbsorbPost s st nx k l.neutral l.determinant lent None × (d ≡ Some (D.Fixed 62 l.determinant_pattern k k k))
-        p l e a z = (rw (← e, ← er) a, rw (← e) z)
+        literals el (rw er at absorbed, ed)
 
     pub settled_done : (r : Option (Unit {0})) → r ≡ Some tt → AbsorbPost s st nx k literals.neutral literals.determinant lent r → (n : ℕ) → ArityPost s st k n
         → (d : Option Decision) → d ≡ settled lent k n literals.neutral_pattern → JunctionPost s st nx k lent d
-    unfolding and_literals or_literals
     settled_done r er absorbed n many d ed =
         by_operator d (λ l. AbsorbPost s st nx k l.neutral l.determinant lent (Some tt) × (d ≡ settled lent k n l.neutral_pattern))
         (λ p. rw p.1 (at_settled 351 610 611 1 and_joins (λ q. omega arith) true_literal p.0 n many))
         (λ p. rw p.1 (at_settled 352 611 610 2 or_joins (λ q. omega arith) false_literal p.0 n many))
-        (eqb tag 351) refl (p (literals_of tag) el absorbed ed)
-      where
-        p : (l : Literals) → literals ≡ l → AbsorbPost s st nx k literals.neutral literals.determinant lent r
-            → d ≡ settled lent k n literals.neutral_pattern
-            → AbsorbPost s st nx k l.neutral l.determinant lent (Some tt) × (d ≡ settled lent k n l.neutral_pattern)
-        p l e a z = (rw (← e, ← er) a, rw (← e) z)
-
-pub is_nothing : (r : Option (Unit {0})) (b : Bool) → is_some r ≡ not b → b ≡ true → r ≡ None
-is_nothing None b e z = refl
-is_nothing (Some u) b e z = let y : true ≡ false = rw z at e in cc
-
-pub is_something : (r : Option (Unit {0})) (b : Bool) → is_some r ≡ not b → b ≡ false → r ≡ Some tt
-is_something None b e z = let y : false ≡ true = rw z at e in cc
-is_something (Some u) b e z = refl
+        literals el (rw er at absorbed, ed)

@@ -1,9 +1,9 @@
 -- Keys: the ways out of `key_at`, and that trees with different keys are neither the same nor opposite.
--- Main results: key_few, key_placed, key_inside, key_done (the sum); unlike_by_keys.
+-- Main results: key_placed, key_inside, key_done (the sum); unlike_by_keys.
 use mathlib.Core.Path.{◌≡◌, refl, sym, ap, ◌∙◌}
 use mathlib.Core.Bool.{Bool, true, false}
 use mathlib.Core.List.{List, [], ◌++◌, append-nil}
-use Prim.Native.Nat.{ℕ, ◌+◌, ◌-◌, ◌%◌, ◌≤◌, ◌<◌}
+use Prim.Native.Nat.{ℕ, ◌+◌, ◌-◌, ◌%◌, ◌≤◌}
 use native.Mathlib.Omega.{arith}
 use lib.Dec.{eqb}
 use lib.ListN.{length, take, drop, get_or}
@@ -18,7 +18,7 @@ use Rattle.frame.specs.Places.{Ctx, found, find}
 use Rattle.frame.proofs.SameTrees.{same_tree_lem}
 use Rattle.frame.proofs.Splices.{find_some}
 use Rattle.nav.specs.PlaceTables.{Table, InTree, PlacedIn, EndAtPost}
-use Rattle.nav.proofs.Hops.{Sorted, framed_few, place_stands, place_sorted}
+use Rattle.nav.proofs.Hops.{Sorted, place_stands, place_sorted}
 use Rattle.rules.specs.Simplify.{make_neg}
 use Rattle.decision.proofs.Opposites.{not_shape, neg_one, neg_other}
 use Rattle.junction.specs.Keys.{key_of, KeyPost}
@@ -55,23 +55,20 @@ pub unlike_by_keys : (v w : Tree) → Sorted w → (key_of v ≡ key_of w → �
 unlike_by_keys v w o d = record { same = unlike v w d; opposite = unlike v (make_neg w) (λ z. d (z ∙ key_opposite w o)) }
 
 -- ---- the sum over a tree's bytes
-module _ (s st nx : List ℕ) (k : ℕ) where
-  pub all_nodes : (t : Tree) (n : ℕ) → Table s t st nx n → get_or nx 0 0 ≡ n
-  unfolding find
-  all_nodes (node h ks) n tb = tb.follows.next 0 [] (node h ks) (omega arith) refl ∙ omega (arith, tb.framed.size)
+all_nodes : {s st nx : List ℕ} (t : Tree) (n : ℕ) → Table s t st nx n → get_or nx 0 0 ≡ n
+unfolding find
+all_nodes (node h ks) n tb = tb.follows.next 0 [] (node h ks) (omega arith) refl ∙ omega (arith, tb.framed.size)
 
-  pub key_few : InTree s st nx k → (length s ≤ 4096) × (k < 2048)
-  key_few p = (p.table.framed.short, omega (arith, p.below, framed_few s p.t st p.n p.table.framed))
-
-  pub key_placed : InTree s st nx k → (n : ℕ) → n ≡ get_or nx 0 0 → PlacedIn s n st nx k
-  key_placed p n e =
+module _ {s st nx : List ℕ} {k : ℕ} where
+  pub key_placed : InTree s st nx k → {n : ℕ} → n ≡ get_or nx 0 0 → PlacedIn s n st nx k
+  key_placed p {n} e =
       let z : n ≡ p.n = e ∙ all_nodes p.t p.n p.table in
       record { t = p.t; table = rw z p.table; below = p.below }
 
-  module _ (n : ℕ) (e : n ≡ get_or nx 0 0) (end : ℕ) (post : EndAtPost s n st nx k end) where
+  module _ {n : ℕ} (e : n ≡ get_or nx 0 0) {end : ℕ} (post : EndAtPost s n st nx k end) where
     pub key_inside : InTree s st nx k → (get_or st k 0 ≤ end) × (end ≤ length s)
     key_inside p =
-        let q = key_placed p n e in
+        let q = key_placed p e in
         let x = find_some q.t [] k q.below in
         let fr = q.table.framed in
         let o = place_sorted s q.t st n fr k x.0 x.1 x.2 in

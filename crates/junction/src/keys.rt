@@ -17,6 +17,7 @@ fn sum_of(bytes: &[u8]) -> usize
 }
 
 // The key of the tree at place k: the sum of its bytes, by its remainder.
+#[tactic(auto, using(crate::proofs::KeyTurns::key_inside))]
 pub fn key_at(places: &Places<'_>, k: usize) -> u8
     requires { TreeAt places.now k }
     ensures { KeyAt places.now k result }
@@ -28,5 +29,6 @@ pub fn key_at(places: &Places<'_>, k: usize) -> u8
     };
     let from = places.start_at(k);
     let to = whole.end_at(k);
+    // Kept: `as`: no `From` makes a shorter number, and the proof knows the remainder < 191 unasked; `try_from` is no plainer.
     (sum_of(&places.bytes[from..to]) % NOT_SUM) as u8
 }

@@ -1,5 +1,6 @@
 // ∧ and ∨: which children stay. A neutral literal and a repeat go; a literal that decides, or a child beside its opposite,
 // makes the whole that literal.
+// Kept: that trees stand at the places is a clause of each function; nav/src/lib.rt says why it is no field of a `Places`.
 #![tactic(auto)]
 
 mod keys; // keys.rt: keys that tell most children apart
@@ -63,11 +64,11 @@ fn differs(places: &Places<'_>, one: KeptChild, child: KeptChild) -> Option<bool
 // Whether a child is new beside those kept; nothing where one of them is its opposite, which decides. It is compared with all of
 // them even after it was found to be a repeat: an opposite decides all the same.
 fn is_new(places: &Places<'_>, kept: &Kept, child: KeptChild) -> Option<bool>
-    requires { CanBeNew places.now kept.now child }
-    ensures { NewAt places.now kept.now child result }
+    requires { CanBeNew places.now kept.now.items child }
+    ensures { NewAt places.now kept.now.items child result }
 {
     let mut new = true;
-    for &one in kept.as_slice() {
+    for &one in kept.iter() {
         new &= differs(places, one, child)?;
     }
     Some(new)
@@ -76,7 +77,7 @@ fn is_new(places: &Places<'_>, kept: &Kept, child: KeptChild) -> Option<bool>
 // The children that stay go into the lent list; nothing where one of them decides.
 fn absorb(places: &Places<'_>, k: usize, literals: Literals, kept: &mut Kept) -> Option<()>
     requires { JunctionAt places.now k }
-    ensures { AbsorbAt places.now k literals kept.new result }
+    ensures { AbsorbAt places.now k literals kept.new.items result }
 {
     kept.clear();
     for c in places.children(k) {
@@ -85,6 +86,7 @@ fn absorb(places: &Places<'_>, k: usize, literals: Literals, kept: &mut Kept) ->
             return None;
         }
         if tag != literals.neutral {
+            // Kept: `as`: no `From` makes a shorter number, and the proof knows c < 2048; by `try_from` four answers need an equation.
             let child = KeptChild {
                 place: c as u16,
                 key: key_at(places, c),
@@ -116,16 +118,11 @@ fn settle(kept: &[KeptChild], k: usize, n: usize, neutral_pattern: usize) -> Opt
 // The rule at an ∧ or an ∨.
 pub fn simplify_assoc_pred(places: &Places<'_>, k: usize, kept: &mut Kept) -> Option<Decision>
     requires { JunctionAt places.now k }
-    ensures { JunctionDone places.now k kept.new result }
+    ensures { JunctionDone places.now k kept.new.items result }
 {
     let literals = literals_of(places.tag_at(k));
     if absorb(places, k, literals, kept).is_none() {
         return patterned(62, literals.determinant_pattern, k, k);
     }
-    settle(
-        kept.as_slice(),
-        k,
-        places.arity_at(k),
-        literals.neutral_pattern,
-    )
+    settle(kept, k, places.arity_at(k), literals.neutral_pattern)
 }

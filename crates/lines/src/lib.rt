@@ -21,6 +21,8 @@ enum Pending {
 
 // A line that is read, a piece at a time. `bytes` has those that its digits so far made; they may be too many for a frame, so a line may
 // have any length.
+// Kept: that the characters so far are cs is a clause of each method and no view of a Model, since the fields don't say which they were:
+// of a line that is malformed or too long, nothing is held.
 #[derive(Drop)]
 pub struct LineReader {
     pending: Pending,
@@ -28,6 +30,7 @@ pub struct LineReader {
 }
 
 // The value of a character 0-9, A-F.
+// Kept: the library's `to_digit` takes a-f too, which a frame's text has not.
 #[tactic(auto, unfolding(frame::specs::Lines::digit_of))]
 fn digit_of(c: u8) -> Option<u8>
     ensures { MatchOption result (15 < digit_of c) (λ d. (d ≡ digit_of c) × (d ≤ 15)) }
@@ -110,6 +113,7 @@ impl LineReader {
 }
 
 // The character of a value below 16.
+// Kept: the library's `from_digit` gives a-f, where a frame's text has A-F.
 #[tactic(auto, unfolding(frame::specs::Lines::digit_for))]
 fn digit_for(v: u8) -> u8
     requires { v < 16 }
@@ -122,12 +126,14 @@ fn digit_for(v: u8) -> u8
 }
 
 // Writes the frame's text to the start of out and answers its length; where out is too short, writes nothing.
+// Kept: the length and no slice of out, which would stay lent with it.
 pub fn write_line(frame: &[u8], out: &mut [u8]) -> Option<usize>
     ensures { WritePost frame.now out.old out.new result }
 {
     if out.len() / 2 < frame.len() {
         return None;
     }
+    // Kept: tried over `chunks_exact_mut` with `zip`: what the lent pairs leave in out was not proved.
     for (i, &b) in frame.iter().enumerate() {
         out[2 * i] = digit_for(b / 16);
         out[2 * i + 1] = digit_for(b % 16);

@@ -67,18 +67,16 @@ fn implication_last_at(places: &Places<'_>, a: usize, b: usize) -> Option<Decisi
 }
 
 // ⇒ of the predicates at places a and b: the tests in the source's order.
-// Kept: tests by `is_some`, since after `or_else` (tried) the proof knows nothing of what its closure answered.
+// Kept: no `or_else`: tried, and the proof knows nothing of a closure's answer unless it repeats the called function's clauses.
 pub fn implication_at(places: &Places<'_>, a: usize, b: usize) -> Option<Decision>
     requires { HereBoth places.now a b }
     ensures { DecidesTwoAt simplify_imp places.now a b result }
 {
-    let first = implication_first_at(places, a, b);
-    if first.is_some() {
-        return first;
+    if let Some(first) = implication_first_at(places, a, b) {
+        return Some(first);
     }
-    let within = implication_and_at(places, a, b);
-    if within.is_some() {
-        return within;
+    if let Some(within) = implication_and_at(places, a, b) {
+        return Some(within);
     }
     implication_last_at(places, a, b)
 }

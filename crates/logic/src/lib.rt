@@ -1,4 +1,5 @@
 // ⇔ (75 to 81) and ¬ (82 to 84), and the negation of an operand.
+// Kept: that trees stand at the places is a clause of each function; nav/src/lib.rt says why it is no field of a `Places`.
 #![tactic(auto)]
 
 pub mod implication; // implication.rt: ⇒

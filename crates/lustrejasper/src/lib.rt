@@ -10,6 +10,8 @@ ghost use Rattle.words.specs.Words.{check_word, step_word, run_word};
 
 use words::{check_word, run_word, step_word};
 
+// Kept: numbers for the answers, since `lustrejasper_c` hands them on as they are.
+
 // Whether the frame is accepted: 0, else the number, 2 to 10.
 #[tactic(auto, using(words::proofs::Numbers::check_word_lem))]
 pub fn lustrejasper_check(frame: &[u8]) -> u64
@@ -25,6 +27,7 @@ pub fn lustrejasper_step(frame: &[u8], place: u64, out: &mut [u8]) -> u64
     ensures word { result ≡ step_word (stepped frame.now place (length out.old)) }
     ensures output { out.new ≡ step_output (stepped frame.now place (length out.old)) out.old }
 {
+    // Kept: `as`: no `From` of the language makes a `usize` of a `u64`, and `try_from` would ask what to do where it can't be.
     let a = stepping::step(frame, place as usize, out);
     step_word(a)
 }

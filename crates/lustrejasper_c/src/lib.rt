@@ -1,5 +1,6 @@
 // The static library: the functions of `lustrejasper` for programs in C, Rust and other languages, under the same names and with the same
 // contracts. include/lustrejasper.h declares them. A slice comes as a pointer and then a length.
+// Kept: three functions beside those of `lustrejasper`, since the C interface needs functions of its own, with C names.
 #![tactic(auto)]
 
 ghost use Rattle.std.specs.Prelude.{◌≡◌, length};

@@ -1,5 +1,6 @@
 -- The children of a node, one after the other, by the table and by the tree.
--- Main results: any_child, first_child (a test of each child, made at its place); tree_few, tree_hops, tree_children, child_placed.
+-- Main results: any_child, first_child (a test of each child, made at its place); tree_few, tree_hops, tree_children, child_tree,
+-- child_placed, child_few.
 use mathlib.Core.Path.{◌≡◌, refl, sym, ap, ◌∙◌, subst}
 use mathlib.Core.Bool.{Bool, true, false, ◌||◌}
 use mathlib.Core.List.{List, [], ◌∷◌}
@@ -13,10 +14,11 @@ use Rattle.std.specs.List.{HoldsAt, AllWithin}
 use Rattle.frame.specs.Types.{Ty}
 use Rattle.frame.specs.Trees.{Tree, head, node, Forest, nil, cons, count, nodes, nodes_in, append}
 use Rattle.frame.specs.Places.{Ctx, under, found, find}
+use Rattle.frame.proofs.Extents.{some_node}
 use Rattle.frame.proofs.Splices.{find_some, find_lt}
 use Rattle.frame.proofs.Within.{KidsAtPlace, kid_first, kid_next}
 use Rattle.nav.specs.PlaceTables.{NextsFrom, HopsIn, InTree, ArityPost, ChildrenOf, arity, places_from, child_places, walk}
-use Rattle.nav.proofs.Hops.{framed_few, child_first, hops_node}
+use Rattle.nav.proofs.Hops.{framed_few, place_end, child_first, hops_node}
 
 -- the table leads from each tree in a row to the next
 pub walk_row : (t : Tree) (l : List ℕ) (i : ℕ) → NextsFrom t i l → (ks : Forest) (c : ℕ) (Θ : Ctx) → i ≤ c → KidsAtPlace t [] c Θ ks
@@ -41,6 +43,15 @@ row_below t Θ (cons w ks) c kids (suc i) d h = row_below t Θ ks (c + nodes w) 
 kid_below : (t : Tree) (k : ℕ) (Γ : Ctx) (v : Tree) → find t [] k ≡ found Γ v → (i d : ℕ) → i < length (child_places v k)
     → get_or (child_places v k) i d < nodes t
 kid_below t k Γ (node (head g n us) ks) f i d h = row_below t (under g us Γ) ks (k + 1) (child_first t k Γ g n us ks f) i d h
+
+places_few : (ks : Forest) (c : ℕ) → length (places_from ks c) ≤ nodes_in ks
+unfolding nodes
+places_few nil c = omega arith
+places_few (cons w ks) c = let r = places_few ks (c + nodes w) in omega (arith, some_node w)
+
+kids_few : (t : Tree) (k : ℕ) (Γ : Ctx) (v : Tree) → find t [] k ≡ found Γ v → nodes t ≤ 2048 → length (child_places v k) ≤ 2048
+unfolding nodes
+kids_few t k Γ (node h ks) f few = let e = place_end t [] k Γ (node h ks) f in omega (arith, places_few ks (k + 1))
 
 -- the first of the trees in a row of which a test holds, where `any` says that it holds of one: it is at place p
 pub record FirstChild (t : Tree) (any : Forest → Bool) (Θ : Ctx) (ks : Forest) (c p : ℕ) : Type 0 where
@@ -141,10 +152,19 @@ module _ (s st nx : List ℕ) (k : ℕ) where
   }
 
   -- each of the children's places is a place of the tree
-  pub child_placed : InTree s st nx k → (places : List ℕ) → ChildrenOf s st nx k places → (c i : ℕ) → i < length places → c ≡ get_or places i c
-      → InTree s st nx c
-  child_placed p places post c i h e =
+  pub child_tree : InTree s st nx k → (places : List ℕ) → ChildrenOf s st nx k places → (i d : ℕ) → i < length places → InTree s st nx (get_or places i d)
+  child_tree p places post i d h =
       let v = find_some p.t [] k p.below in
       let z : places ≡ child_places v.1 k = post.are p.t p.n v.0 v.1 p.table v.2 in
-      let y : c ≡ get_or (child_places v.1 k) i c = rw z at e in
-      record { t = p.t; n = p.n; table = p.table; below = rw y (kid_below p.t k v.0 v.1 v.2 i c (rw z at h)) }
+      record { t = p.t; n = p.n; table = p.table; below = rw z (kid_below p.t k v.0 v.1 v.2 i d (rw z at h)) }
+
+  pub child_placed : InTree s st nx k → (places : List ℕ) → ChildrenOf s st nx k places → (c i : ℕ) → i < length places → c ≡ get_or places i c
+      → InTree s st nx c
+  child_placed p places post c i h e = rw e (child_tree p places post i c h)
+
+  -- they are few
+  pub child_few : InTree s st nx k → (places : List ℕ) → ChildrenOf s st nx k places → length places ≤ 2048
+  child_few p places post =
+      let v = find_some p.t [] k p.below in
+      let z : places ≡ child_places v.1 k = post.are p.t p.n v.0 v.1 p.table v.2 in
+      rw z (kids_few p.t k v.0 v.1 v.2 (framed_few s p.t st p.n p.table.framed))

@@ -3,3 +3,4 @@ pub mod PlaceTurns
 mod EarlyTurns
 pub mod SamePlaces
 pub mod ChildPlaces
+pub mod CountTurns

@@ -1,5 +1,5 @@
 -- The ways out of the functions of src/lib.rt, on plain values.
--- Main results: numbers, tag_there, arity_room, arity_read (the tag, the number behind it and the number of children of the
+-- Main results: numbers, tag_there, rooted_head, arity_read (the tag, the number behind it and the number of children of the
 -- tree that stands somewhere);
 -- hop_here, hop_more, hop_none; fill_start, fill_root, fill_hops, fill_turn, fill_done; placed_root, tag_done, children_done;
 -- end_place, end_few, end_inside, end_last.
@@ -26,6 +26,8 @@ use Rattle.frame.proofs.Spans.{span_left}
 use Rattle.frame.proofs.Numbers.{number_back}
 use Rattle.tags.proofs.TagTables.{code_form}
 use Rattle.frame.proofs.Splices.{find_some, find_lt}
+use Rattle.heads.specs.HeadPost.{HeadStands}
+use Rattle.heads.proofs.View.{stands_at}
 use Rattle.sameness.specs.Stands.{Stands}
 use Rattle.nav.specs.PlaceTables.{
   arity,
@@ -67,6 +69,11 @@ numbers s at e g n us ks st =
 pub tag_there : (s : List ℕ) (at : ℕ) (e : Sort) (t : Tree) → Stands s at e t → number_at 2 s at ≡ tag_of t
 tag_there s at e (node (head g n us) ks) st = (numbers s at e g n us ks st).tag
 
+pub rooted_head : (s : List ℕ) (at : ℕ) → Rooted s at → HeadStands s at
+rooted_head s at r =
+    let end : ℕ = at + length (enc r.t) in
+    (r.e, r.t, end, stands_at s r.e at r.t end r.there.bytes r.there.formed)
+
 -- what the code reads: the tag, its form, the number behind it
 module _ (s : List ℕ) (at tag : ℕ) (form : C.Form) (w : ℕ) (et : tag ≡ number_at 2 s at) (ef : form ≡ form_code (class_of tag))
     (ew : w ≡ width (meant form).layout) where
@@ -75,9 +82,6 @@ module _ (s : List ℕ) (at tag : ℕ) (form : C.Form) (w : ℕ) (et : tag ≡ n
 
   wide : (g : ℕ) → number_at 2 s at ≡ g → w ≡ width (form_of g).layout
   wide g z = ew ∙ ap (λ (fm : Form). width fm.layout) (same_form g z)
-
-  pub arity_room : (e : Sort) (t : Tree) → Stands s at e t → at + 2 + w ≤ length s
-  arity_room e (node (head g n us) ks) st = let v = numbers s at e g n us ks st in omega (arith, v.within, wide g v.tag)
 
   pub arity_read : (x : ℕ) → x ≡ number_at w s (at + 2) → (r : ℕ) → r ≡ length (sorts_of (meant form).layout x) → ChildrenPost s at r
   arity_read x ex r er = record { many = many }

@@ -2,7 +2,7 @@
 use Rattle.std.specs.Prelude.{ℕ, Bool, List}
 use Rattle.frame.specs.Trees.{Tree}
 use Rattle.nav.specs.declared.Places.{Places}
-use Rattle.nav.specs.PlaceTables.{Table, Placed, PlacedIn, TagPost, ArityPost, EndAtPost, SortPost, BothPlaced, SameAtPost, InTree, ChildrenOf}
+use Rattle.nav.specs.PlaceTables.{Table, Placed, PlacedIn, TagPost, ArityPost, EndAtPost, SortPost, BothPlaced, SameAtPost, InTree, ChildrenOf, Passing}
 
 -- p has the bytes of t, and the tables of t
 abbrev pub PlacesOf : Places → Tree → Type 0
@@ -37,3 +37,7 @@ SameAt p a b r = SameAtPost p.bytes.now p.starts.now a b r
 
 abbrev pub ChildrenAt : Places → ℕ → List ℕ → Type 0
 ChildrenAt p k places = ChildrenOf p.bytes.now p.starts.now p.nexts.now k places
+
+-- r of the children of the node at place k pass a test that answers as `gives` says
+abbrev pub CountedAt : (ℕ → Bool → Type 0) → Places → ℕ → ℕ → Type 0
+CountedAt gives p k r = (places : List ℕ) × ChildrenAt p k places × Passing gives places r

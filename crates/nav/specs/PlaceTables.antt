@@ -2,6 +2,7 @@
 -- node starts, and which place follows each subtree. With both, code goes from place to place: the first child of place k is
 -- at k + 1, and the next sibling of place c at the place that follows c's subtree.
 use Rattle.std.specs.Prelude.{ℕ, zero, suc, ◌+◌, ◌≤◌, ◌<◌, ◌≡◌, Bool, true, List, [], ◌∷◌, length, get_or}
+use Rattle.std.specs.Int.{from_bool}
 use Rattle.frame.specs.Trees.{Tree, node, Forest, nil, cons, count, tag_of, nodes}
 use Rattle.frame.specs.Tags.{Sort, predicate, form_of}
 use Rattle.tags.specs.TagCodes.{is_expression}
@@ -107,6 +108,11 @@ pub record ChildrenOf (s st nx : List ℕ) (k : ℕ) (places : List ℕ) : Type 
 abbrev pub walk : List ℕ → ℕ → ℕ → List ℕ
 walk l c zero = []
 walk l c (suc m) = c ∷ walk l (get_or l c 0) m
+
+-- m of these places pass a test, of which `gives` says what it may answer at a place
+unfoldable pub Passing : (ℕ → Bool → Type 0) → List ℕ → ℕ → Type 0
+Passing gives [] m = m ≡ 0
+Passing gives (c ∷ places) m = (b : Bool) × gives c b × (n : ℕ) × (m ≡ from_bool b + n) × Passing gives places n
 
 -- the sort that the tag of a tree says, which is the tree's
 abbrev pub sort_of : Tree → Sort

@@ -6,13 +6,16 @@ mod siblings; // siblings.rt: the children of a node, one after the other
 
 ghost use Rattle.std.specs.Prelude.{◌≡◌, ◌+◌, ◌<◌, get_or};
 ghost use Rattle.nav.specs.PlaceTables.{Rooted, ChildrenPost, hops, HopsIn, NextsPre, NextsPost, EarlyPre, EarlyPost};
-ghost use Rattle.nav.specs.AtPlaces.{AtPlace, InTables, TagAt, ArityAt, EndAt, SortAt, AtBoth, SameAt, TreeAt, ChildrenAt};
+ghost use Rattle.nav.specs.AtPlaces.{AtPlace, InTables, TagAt, ArityAt, EndAt, SortAt, AtBoth, SameAt, TreeAt, ChildrenAt, CountedAt};
 
 pub use siblings::Children;
 use tags::Sort;
 
 // A frame with its tables: its bytes, how many places it has, where each starts, which place follows each subtree, and the binders of the
-// bound identifiers. Entries from `count` on are not looked at.
+// bound identifiers. No answer rests on entries from `count` on.
+// Kept: that a tree stands at a place is a clause of each function and no ghost field here: a field could say that there is some tree, and
+// each proof would have to show anew that two calls speak of the same one; and it would ask for all tables where a tag is read by one.
+// Kept: three tables and a count: document 01 asks for "a fixed table of 2,048 node starts", and each table is filled by another crate.
 #[derive(Clone, Copy)]
 pub struct Places<'a> {
     pub bytes: &'a [u8],
@@ -23,6 +26,7 @@ pub struct Places<'a> {
 }
 
 // The tags from the first to the last of these are those of nodes with two operands.
+// Kept: by the tag and not by its form, since trees are told apart by this before the form is looked up.
 const FIRST_BINARY: usize = 101;
 
 const LAST_BINARY: usize = 252;
@@ -32,10 +36,8 @@ fn children_at(s: &[u8], at: usize) -> usize
     requires { Rooted s.now at }
     ensures { ChildrenPost s.now at result }
 {
-    let form = tags::form_of(heads::number(s, at, 2));
-    let w = form.width();
-    let x = heads::number(s, at + 2, w);
-    form.children(x)
+    let opening = heads::known_opening(s, at);
+    opening.form.children(opening.number)
 }
 
 // The place after m subtrees, of which the first is at place c.
@@ -50,7 +52,7 @@ fn hop(nexts: &[u16; 2048], c: usize, m: usize) -> usize
     d
 }
 
-// Kept: no method, since a Places holds this table filled.
+// Kept: no method, since a Places holds this table filled; and no FrameRead, since a public function asks no more than before.
 // The table of the places that follow subtrees, of a frame with n nodes. From the last place to the first: the children of a
 // node come after it, so their entries stand already.
 pub fn nexts(s: &[u8], n: usize, starts: &[u16; 2048], table: &mut [u16; 2048])
@@ -60,6 +62,7 @@ pub fn nexts(s: &[u8], n: usize, starts: &[u16; 2048], table: &mut [u16; 2048])
     for k in (0..n).rev() {
         let m = children_at(s, usize::from(starts[k]));
         let c = hop(table, k + 1, m);
+        // Kept: `as`: no `From` makes a shorter number, and by `try_from` the proof would be asked the same and the line be longer.
         table[k] = c as u16;
     }
 }
@@ -77,6 +80,7 @@ fn differ_early(s: &[u8], x: usize, y: usize, tag: usize) -> bool
 }
 
 impl<'a> Places<'a> {
+    // Kept: an index with its bound, here and below, as the library's own tables ask for one.
     // Where the node at place k starts.
     pub fn start_at(&self, k: usize) -> usize
         requires { k < 2048 }
@@ -151,10 +155,8 @@ impl<'a> Places<'a> {
         requires { k < 2048 }
         ensures { k + 1 < 2048 → result ≡ get_or self.now.nexts.now (k + 1) 0 }
     {
-        if k < 2047 {
-            return self.next_at(k + 1);
-        }
-        0
+        let nexts = self.nexts;
+        nexts.get(k + 1).map_or(0, |&next| usize::from(next))
     }
 
     // The places of the children of the node at place k, in their order.
@@ -163,5 +165,19 @@ impl<'a> Places<'a> {
         ensures { ChildrenAt self.now k result }
     {
         siblings::row(self.nexts, k + 1, self.arity_at(k))
+    }
+
+    // How many children of the node at place k pass the test.
+    pub fn count_children<F: Fn(usize) -> bool>(&self, k: usize, passes: F) -> usize
+        requires callable { (c : _) → TreeAt self.now c → F.pre passes c }
+        requires tree { TreeAt self.now k }
+        ensures { CountedAt (F.post passes) self.now k result }
+    {
+        // Kept: tried as filter and count, whose lemmas take a function that says the test's every answer, also where no node is.
+        let mut m = 0;
+        for c in self.children(k) {
+            m += usize::from(passes(c));
+        }
+        m
     }
 }

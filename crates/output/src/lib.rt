@@ -23,6 +23,7 @@ pub fn write_out(frame: Option<&[u8]>, out: &mut [u8]) -> Result<Step, Refusal>
 }
 
 // What stands against a run before its first step, by what the checks answered, and how many bytes the lent output has.
+// Kept: it takes the answer of the checks and hands its refusal on, so that 12 comes after theirs in one place.
 pub fn admit(checked: Result<usize, Refusal>, lent: usize) -> Result<(), Refusal>
     ensures { AdmitPost checked lent result }
 {

@@ -11,16 +11,20 @@ use Rattle.std.proofs.Common.{Option}
 use Rattle.std.proofs.lemmas.List.{take_more, take-append-drop}
 use Rattle.frame.proofs.Booleans.{both_true}
 use Rattle.frame.proofs.Tables.{all_below, below}
-use Rattle.frame.specs.Encoding.{enc_number}
+use Rattle.frame.specs.Types.{Ty}
+use Rattle.frame.specs.Encoding.{enc_number, enc_ty, enc}
+use Rattle.typing.specs.TypeExpression.{to_expression}
 use Rattle.put.specs.Out.{Puts}
 use Rattle.put.proofs.Puts.{puts_nil, puts_then, puts_as}
-use Rattle.templates.specs.Template.{Mode, whole, of_element, Part, tag, byte, operand, type, expression, binders, Filling, part_bytes, filled}
+use Rattle.templates.specs.Template.{Mode, whole, of_element, Part, tag, byte, operand, type, expression, binders, Filling, made, part_bytes, filled}
 use Rattle.templates.specs.Programs.{is_empty, is_type, templates, among, find_row, template}
 use Rattle.programs.specs.Parts.{part_then, parts_of}
 use Rattle.programs.specs.declared.Part as C
 use Rattle.programs.specs.declared.Part.TheVariants as P
 use Rattle.parts.specs.declared.Operands.{Operands}
-use Rattle.parts.specs.Holds.{subtree_of, type_of, Holds, IsType, MadeType, MadeExpression, TagsFit, Ready, Filled, Fillable}
+use Rattle.parts.specs.Holds.{subtree_of, type_of, Holds, TagsFit, Ready, Filled, Fillable}
+use Rattle.parts.specs.Types.{IsType}
+use Rattle.parts.proofs.MadeTypes.{same_type}
 
 -- ---- parts one after another
 filled_append : (f : Filling) (ps qs : List Part) → filled (ps ++ qs) f ≡ filled ps f ++ filled qs f
@@ -73,49 +77,54 @@ module _ (r : Operands) where
     unfolding filled Holds
     subtree_put i s e w = record { puts = λ f h. puts_as o p _ _ (e ∙ h.0 ∙ sym (append-nil _)) w }
 
-    pub type_put : (m : Mode) (i : ℕ) (s : List ℕ) → s ≡ type_of r i → MadeType s m o p → Filled (type m i ∷ []) r o p
+    pub type_put : (m : Mode) (i : ℕ) (u : Ty) → type_of r i ≡ enc_ty u → Puts o p (enc_ty (made m u)) → Filled (type m i ∷ []) r o p
     unfolding filled Holds
-    type_put m i s e w = record { puts = λ f h. puts_as o p _ _ (sym (append-nil _)) (w.puts _ (e ∙ h.0)) }
+    type_put m i u e w = record {
+      puts = λ f h. puts_as o p _ _ (ap (λ (t : Ty). enc_ty (made m t)) (same_type u _ (sym e ∙ h.0)) ∙ sym (append-nil _)) w;
+    }
 
-    pub expression_put : (m : Mode) (i : ℕ) (s : List ℕ) → s ≡ type_of r i → MadeExpression s m o p → Filled (expression m i ∷ []) r o p
+    pub expression_put : (m : Mode) (i : ℕ) (u : Ty) → type_of r i ≡ enc_ty u → Puts o p (enc (to_expression (made m u)))
+        → Filled (expression m i ∷ []) r o p
     unfolding filled Holds
-    expression_put m i s e w = record { puts = λ f h. puts_as o p _ _ (sym (append-nil _)) (w.puts _ (e ∙ h.0)) }
+    expression_put m i u e w = record {
+      puts = λ f h. puts_as o p _ _ (ap (λ (t : Ty). enc (to_expression (made m t))) (same_type u _ (sym e ∙ h.0)) ∙ sym (append-nil _)) w;
+    }
 
     pub binders_put : Puts o p r.binders.now → Filled (binders ∷ []) r o p
     unfolding filled Holds
     binders_put w = record { puts = λ f h. puts_as o p _ _ (h.0 ∙ sym (append-nil _)) w }
 
-  module _ (o a b : Option (List ℕ)) (i : ℕ) (s t : List ℕ) (ss : s ≡ subtree_of r i) (ts : t ≡ type_of r i) (x : Puts o a (enc_number 2 101))
-      (y : Puts a b s) where
-    pub empty_put : (c p : Option (List ℕ)) → Puts b c (enc_number 2 407) → MadeType t whole c p → Filled (is_empty i []) r o p
+  module _ (o a b : Option (List ℕ)) (i : ℕ) (s : List ℕ) (u : Ty) (ss : s ≡ subtree_of r i) (ts : type_of r i ≡ enc_ty u)
+      (x : Puts o a (enc_number 2 101)) (y : Puts a b s) where
+    pub empty_put : (c p : Option (List ℕ)) → Puts b c (enc_number 2 407) → Puts c p (enc_ty u) → Filled (is_empty i []) r o p
     empty_put c p z w =
         filled_then o a p _ _ (tag_put o a 101 x) (filled_then a b p _ _ (subtree_put a b i s ss y)
-        (filled_then b c p _ _ (tag_put b c 407 z) (type_put c p whole i t ts w)))
+        (filled_then b c p _ _ (tag_put b c 407 z) (type_put c p whole i u ts w)))
 
-    pub full_put : (p : Option (List ℕ)) → MadeExpression t of_element b p → Filled (is_type i []) r o p
+    pub full_put : (p : Option (List ℕ)) → Puts b p (enc (to_expression (made of_element u))) → Filled (is_type i []) r o p
     full_put p w =
-        filled_then o a p _ _ (tag_put o a 101 x) (filled_then a b p _ _ (subtree_put a b i s ss y) (expression_put b p of_element i t ts w))
+        filled_then o a p _ _ (tag_put o a 101 x) (filled_then a b p _ _ (subtree_put a b i s ss y) (expression_put b p of_element i u ts w))
 
   -- ---- what they ask for
   pub tag_fits : (g : ℕ) → Ready (tag g ∷ []) r → g < 65536
   unfolding TagsFit
   tag_fits g h = h.fit.0
 
-  pub type_is : (m : Mode) (i : ℕ) (s : List ℕ) → s ≡ type_of r i → Ready (type m i ∷ []) r → IsType s
+  pub type_is : (m : Mode) (i : ℕ) → Ready (type m i ∷ []) r → IsType (type_of r i)
   unfolding Holds
-  type_is m i s e h = (_, e ∙ h.holds.0)
+  type_is m i h = (_, h.holds.0)
 
-  pub expression_is : (m : Mode) (i : ℕ) (s : List ℕ) → s ≡ type_of r i → Ready (expression m i ∷ []) r → IsType s
+  pub expression_is : (m : Mode) (i : ℕ) → Ready (expression m i ∷ []) r → IsType (type_of r i)
   unfolding Holds
-  expression_is m i s e h = (_, e ∙ h.holds.0)
+  expression_is m i h = (_, h.holds.0)
 
-  pub empty_is : (i : ℕ) (s : List ℕ) → s ≡ type_of r i → Ready (is_empty i []) r → IsType s
+  pub empty_is : (i : ℕ) → Ready (is_empty i []) r → IsType (type_of r i)
   unfolding Holds
-  empty_is i s e h = (_, e ∙ h.holds.1.0)
+  empty_is i h = (_, h.holds.1.0)
 
-  pub full_is : (i : ℕ) (s : List ℕ) → s ≡ type_of r i → Ready (is_type i []) r → IsType s
+  pub full_is : (i : ℕ) → Ready (is_type i []) r → IsType (type_of r i)
   unfolding Holds
-  full_is i s e h = (_, e ∙ h.holds.1.0)
+  full_is i h = (_, h.holds.1.0)
 
 -- ---- the turns of `run_program`
 part_append : (c : C.Part) (ps qs : List Part) → part_then c (ps ++ qs) ≡ part_then c ps ++ qs

@@ -4,9 +4,9 @@
 use mathlib.Core.Path.{◌≡◌, refl, sym, ap, ◌∙◌, subst}
 use mathlib.Core.Bool.{Bool, true, false, ◌&&◌}
 use mathlib.Core.List.{List, []}
-use Prim.Native.Nat.{ℕ, ◌+◌, ◌-◌}
+use Prim.Native.Nat.{ℕ, ◌+◌, ◌-◌, ◌≤◌}
 use native.Mathlib.Omega.{arith}
-use lib.ListN.{length}
+use lib.ListN.{length, drop}
 use lib.Dec.{leb}
 use borrow.Author.Tests.{leb-true, leb-false, le-leb, lt-leb}
 use Rattle.frame.specs.Types.{Ty}
@@ -30,9 +30,8 @@ use Rattle.type_rules.specs.Patterns.{
   ends,
   judge,
 }
-use Rattle.copies.specs.Copies.{Copied}
 use Rattle.results.specs.ResultPosts.{EnvAt, Kept, Filling, FillPost}
-use Rattle.results.specs.declared.bindings.Span.{Span}
+use Rattle.results.specs.declared.Span.{Span}
 use Rattle.patterns.specs.PatternPosts.{
   RowAt,
   MatchPre,
@@ -47,7 +46,8 @@ use Rattle.patterns.specs.PatternPosts.{
   JudgePost,
 }
 use Rattle.std.proofs.Common.{Option, Some, None}
-use Rattle.copies.proofs.CopyLaws.{copied_span}
+use Rattle.results.proofs.SpanLaws.{span_part, pasted_span, pasted_kept}
+use Rattle.std.specs.List.{copy_within}
 use Rattle.patterns.proofs.PairTurns.{env_empty}
 
 -- ---- one answer each
@@ -206,16 +206,18 @@ module _ (R : Rule) {o : List ℕ} {from n : ℕ} where
           }
 
   module _ {o₁ : List ℕ} {m : ℕ} (known : Done R o from n o₁ m) where
-    pub judge_typed : (p : List ℕ) → Copied o₁ n (m - n) o₁ p from → JudgePost R o from n p (Some (from + (m - n)))
-    judge_typed p cp =
+    pub judge_typed : (p : List ℕ) → length p ≡ length o₁ → p ≡ copy_within o₁ n m from → JudgePost R o from n p (Some (from + (m - n)))
+    judge_typed p long cp =
         record {
           answer = λ ts row. (let d = known.answer ts row in
               let l = row.span.long in
-              let z : m - n ≡ length d.0 = omega (arith, d.2) in
-              let y : from + (m - n) ≡ from + length d.0 = omega (arith, z) in
-              subst (λ (w : Judged). Judging w o from p (Some (from + (m - n)))) (sym d.1) (
-                ap Some y,
-                subst (λ (i : ℕ). Spans p from i d.0) y (copied_span (m - n) o₁ p from refl d.3 cp (omega (arith, d.3.within, d.2))),
-                record { long = cp.long ∙ d.4.long; low = λ i h. cp.low i h ∙ d.4.low i (omega arith) },
-              ));
+              let below : from ≤ length o₁ = omega (arith, row.span.within, d.4.long) in
+              let z : length d.0 ≡ m - n = omega (arith, d.2) in
+              let k = pasted_kept o₁ p (drop n o₁) from (m - n) cp below long in
+              subst (λ (w : Judged). Judging w o from p (Some (from + (m - n)))) (sym d.1)
+              (subst (λ (i : ℕ). (Some (from + (m - n)) ≡ Some (from + i)) × Spans p from (from + i) d.0 × Kept o p from) (sym z) (
+                refl,
+                pasted_span o₁ p (drop n o₁) from (m - n) cp below (span_part d.3) z,
+                record { long = long ∙ d.4.long; low = λ i h. k.low i h ∙ d.4.low i (omega arith) },
+              )));
         }

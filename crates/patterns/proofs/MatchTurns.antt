@@ -23,15 +23,20 @@ use Rattle.type_rules.specs.Patterns.{symbol_of, parts_of, Matched, differs, mat
 use Rattle.type_rules.specs.CodeRules.{number, numbers}
 use Rattle.type_rules.specs.declared.Symbol.{Symbol}
 use Rattle.heads.specs.TypeEnds.{TypeAt, EndOf}
-use Rattle.octets.specs.Bytes.{SameBytes}
 use Rattle.results.specs.ResultPosts.{EnvAt}
 use Rattle.results.proofs.FitTypes.{fit_at, fit_snoc}
-use Rattle.results.specs.declared.bindings.Span.{Span}
+use Rattle.results.specs.declared.Span.{Span}
 use Rattle.patterns.specs.PatternPosts.{RowAt, MatchPre, Matching, Next, Standing, VariablePost, MatchPost}
 use Rattle.std.proofs.Common.{Option, Some, None, slice_get, ◌⊎◌, inl, inr}
 use Rattle.std.proofs.lemmas.List.{drop_more, at_drop_all}
 use Rattle.std.proofs.lemmas.Option.{slice_get_within}
-use Rattle.copies.proofs.CopyLaws.{span_get, span_by}
+use Rattle.std.proofs.lemmas.Bool.Decides.{Decides-eqb}
+use Rattle.std.proofs.lemmas.Slice.Eq.{slice_eq-Decides}
+use Rattle.std.specs.Bool.{Decides}
+use lib.Pointwise.{pointwise}
+use Rattle.frame.proofs.Inversion.{true_not}
+use lib.Dec.{eqb}
+use Rattle.results.proofs.SpanLaws.{unbound, span_part}
 use Rattle.typing.proofs.Same.{same_ty_of}
 
 -- ---- types in a row
@@ -125,7 +130,7 @@ module _ (b : ℕ) (ps : List ℕ) (t : Ty) (us ρ : List Ty) where
     off_new k = rw (le-ltb b 5 l, lt-ltb b 9 h, le-ltb (b - 5) (length ρ) (omega arith), ne_eqb (b - 5) (length ρ) (omega arith))
 
 -- ---- a type that stands at the start of a row is the first of the row
-pub same_row : (types : List ℕ) (at n : ℕ) (t : Ty) (us : List Ty) → RowAt types at n (t ∷ us) → (u : Ty) → TyWf u → (e : ℕ) → Spans types at e (enc_ty u) → e ≤ n → t ≡ u
+same_row : (types : List ℕ) (at n : ℕ) (t : Ty) (us : List Ty) → RowAt types at n (t ∷ us) → (u : Ty) → TyWf u → (e : ℕ) → Spans types at e (enc_ty u) → e ≤ n → t ≡ u
 unfolding enc_tys
 same_row types at n t us r u w e a h =
     let xs = enc_ty t ++ enc_tys us in
@@ -152,11 +157,6 @@ at_snoc [] x zero s e = inr (refl, cc)
 at_snoc [] x (suc i) s e = cc
 at_snoc (y ∷ sp) x zero s e = inl e
 at_snoc (y ∷ sp) x (suc i) s e = elim (at_snoc sp x i s e) [ inl h ↦ inl h | inr h ↦ inr (ap suc h.0, h.1) ]
-
-past_all : (sp : List Span) (i : ℕ) → slice_get sp i ≡ None → length sp ≤ i
-past_all [] i e = omega arith
-past_all (s ∷ sp) zero e = cc
-past_all (s ∷ sp) (suc i) e = let h = past_all sp i e in omega arith
 
 env_new : (types : List ℕ) (n : ℕ) (sp : List Span) (ρ : List Ty) → EnvAt types n sp ρ → (t : Ty) → TyWf t
     → (x : Span) → Spans types x.start x.end (enc_ty t) → x.end ≤ n → EnvAt types n (sp ++ (x ∷ [])) (ρ ++ (t ∷ []))
@@ -196,7 +196,7 @@ module _ (v : ℕ) (h : v < 4) (types : List ℕ) (at n : ℕ) (l : at < n) (sp 
   module _ (none : slice_get sp v ≡ None) where
     pub fit_gap : (v ≡ length sp → ⊥) → VariablePost v types at n sp sp None
     fit_gap m =
-        let k = past_all sp v none in
+        let k = unbound sp v none in
         standing sp None (λ rest t vs ρ row env. off_new symbol rest t vs ρ (omega arith) (omega arith) (omega (arith, env.count)))
 
     pub next_new : v ≡ length sp → (q : ℕ) → EndOf types at q
@@ -221,46 +221,56 @@ module _ (v : ℕ) (h : v < 4) (types : List ℕ) (at n : ℕ) (l : at < n) (sp 
     pub bound_span : (ρ : List Ty) → EnvAt types n sp ρ → Spans types s.start s.end (enc_ty (ty (symbol - 5) ρ)) × (s.end ≤ n)
     bound_span ρ env = subst (λ (i : ℕ). Spans types s.start s.end (enc_ty (ty i ρ)) × (s.end ≤ n)) (sym back_to) (env.stands v s is)
 
-    pub fit_long : n - at < s.end - s.start → VariablePost v types at n sp sp None
+    abbrev len : ℕ
+    len = s.end - s.start
+
+    pub fit_long : n - at < len → VariablePost v types at n sp sp None
     fit_long q =
         let k = slice_get_within sp v s is in
-        standing sp None (λ rest t vs ρ row env. off_bound symbol rest t vs ρ (omega arith) (omega arith) (omega (arith, env.count))
+        standing sp None (λ rest t vs ρ r env. off_bound symbol rest t vs ρ (omega arith) (omega arith) (omega (arith, env.count))
         (λ eq. (let a = (bound_span ρ env).0 in
-        let w = row_within types at n t vs row in
-        let y = ap (λ (x : Ty). length (enc_ty x)) eq in
-        omega (arith, a.long))))
+        let w = row_within types at n t vs r in
+        omega (arith, a.long, ap (λ (u : Ty). length (enc_ty u)) eq))))
 
-    pub fit_differ : (x : Bool) → SameBytes types s.start at (s.end - s.start) x → x ≡ false → VariablePost v types at n sp sp None
-    fit_differ x sb ex =
+    -- what stands in the row is compared with what the variable has
+    abbrev same : Bool
+    same = pointwise eqb (take (at + len - at) (drop at types)) (take len (drop s.start types))
+
+    compared : Decides same (take (at + len - at) (drop at types) ≡ take len (drop s.start types))
+    compared = slice_eq-Decides Decides-eqb _ _ same refl
+
+    pub fit_differ : same ≡ false → VariablePost v types at n sp sp None
+    fit_differ ex =
         let k = slice_get_within sp v s is in
-        standing sp None (λ rest t vs ρ row env. off_bound symbol rest t vs ρ (omega arith) (omega arith) (omega (arith, env.count))
+        standing sp None (λ rest t vs ρ r env. off_bound symbol rest t vs ρ (omega arith) (omega arith) (omega (arith, env.count))
         (λ eq. (let a = (bound_span ρ env).0 in
-        let f = row_first types at n t vs row in
-        sb.differ ex (λ j h₁. (let y : j < length (enc_ty (ty (symbol - 5) ρ)) = omega (arith, a.long) in
-        let y₂ : j < length (enc_ty t) = subst (λ (u : Ty). j < length (enc_ty u)) (sym eq) y in
-        span_get a j y ∙ ap (λ (u : Ty). get_or (enc_ty u) j 0) (sym eq) ∙ sym (span_get f j y₂))))))
+        let z : at + length (enc_ty t) ≡ at + len = omega (arith, a.long, ap (λ (u : Ty). length (enc_ty u)) eq) in
+        let f = subst (λ (i : ℕ). Spans types at i (enc_ty t)) z (row_first types at n t vs r) in
+        true_not (sym ex ∙ compared.1 (span_part f ∙ ap enc_ty eq ∙ sym (span_part a))))))
 
-    pub next_same : s.end - s.start ≤ n - at → (x : Bool) → SameBytes types s.start at (s.end - s.start) x → x ≡ true
-        → VariablePost v types at n sp sp (Some (at + (s.end - s.start)))
-    next_same q x sb ex =
+    pub next_same : len ≤ n - at → same ≡ true → VariablePost v types at n sp sp (Some (at + len))
+    next_same q ex =
         let k = slice_get_within sp v s is in
-        standing sp (Some (at + (s.end - s.start))) (λ rest t vs ρ row env. (
+        standing sp (Some (at + len)) (λ rest t vs ρ r env. (
         let a = (bound_span ρ env).0 in
         let u = ty (symbol - 5) ρ in
-        let w = row_within types at n t vs row in
-        let g : Spans types at (at + (s.end - s.start)) (enc_ty u) =
-        span_by types at (at + (s.end - s.start)) (enc_ty u) (omega (arith, a.long)) (omega arith)
-        (λ j h₁. sym (sb.same ex j (omega (arith, a.long))) ∙ span_get a j h₁) in
-        let eq : t ≡ u = same_row types at n t vs row u (fit_at (symbol - 5) ρ env.fit) (at + (s.end - s.start)) g (omega arith) in
-        let y = ap (λ (x : Ty). length (enc_ty x)) eq in (
+        let l : at + len - at ≡ length (enc_ty u) = omega (arith, a.long) in
+        let w = row_within types at n t vs r in
+        let g : Spans types at (at + len) (enc_ty u) = record {
+          long = omega (arith, a.long);
+          within = omega arith;
+          bytes = ap (λ (i : ℕ). take i (drop at types)) (sym l) ∙ compared.0 ex ∙ span_part a;
+        } in
+        let eq : t ≡ u = same_row types at n t vs r u (fit_at (symbol - 5) ρ env.fit) (at + len) g (omega arith) in
+        let y : at + length (enc_ty t) ≡ at + len = omega (arith, a.long, ap (λ (u : Ty). length (enc_ty u)) eq) in (
           record {
             types_left = vs;
             bound = ρ;
             same = on_bound symbol rest t vs ρ (omega arith) (omega arith) (omega (arith, env.count)) eq;
-            row = subst (λ (x : ℕ). RowAt types x n vs) (omega (arith, a.long)) (row_rest types at n t vs row);
+            row = subst (λ (i : ℕ). RowAt types i n vs) y (row_rest types at n t vs r);
             env = env;
           },
-          omega (arith, a.long, ty_long u),
+          omega (arith, y, ty_long t),
         )))
 
 module _ (types : List ℕ) (at n : ℕ) (sp : List Span) where

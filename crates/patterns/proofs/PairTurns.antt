@@ -13,7 +13,7 @@ use Rattle.frame.specs.Encoding.{enc_ty}
 use Rattle.type_rules.specs.Patterns.{Matched, fits, differs, matches, is_fit, pairs_fit}
 use Rattle.heads.specs.TypeEnds.{TypeAt, EndOf}
 use Rattle.results.specs.ResultPosts.{EnvAt}
-use Rattle.results.specs.declared.bindings.Span.{Span}
+use Rattle.results.specs.declared.Span.{Span}
 use Rattle.patterns.specs.PatternPosts.{RowAt, MatchPre, Matching, MatchPost, PairsPre, Pairing, PairsPost}
 use Rattle.patterns.proofs.MatchTurns.{row_none, row_some, row_first, row_rest, row_type, by_first}
 

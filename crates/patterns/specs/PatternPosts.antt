@@ -20,7 +20,7 @@ use Rattle.type_rules.specs.Patterns.{
   judge,
 }
 use Rattle.results.specs.ResultPosts.{TysFit, EnvAt, Kept}
-use Rattle.results.specs.declared.bindings.Span.{Span}
+use Rattle.results.specs.declared.Span.{Span}
 
 -- the types us stand in a row from `at` up to n
 pub record RowAt (types : List ℕ) (at n : ℕ) (us : List Ty) : Type 0 where

@@ -1,9 +1,11 @@
 -- The ways out of rewrite_finite and finite_restricted_at of src/finite.rt: a law over the tags for each shape of a right side.
 use Rattle.std.proofs.Common.{Option, Some, None}
 use mathlib.Core.Path.{◌≡◌, refl, sym, ap, ◌∙◌}
-use mathlib.Core.Bool.{true}
+use mathlib.Core.Bool.{true, ◌||◌}
 use mathlib.Core.List.{List, [], ◌∷◌}
-use Prim.Native.Nat.{ℕ, ◌+◌, ◌<◌}
+use Prim.Native.Nat.{ℕ, ◌+◌, ◌≤◌, ◌<◌}
+use native.Mathlib.Omega.{arith}
+use lib.Dec.{eqb}
 use lib.ListN.{get_or}
 use borrow.Author.Tests.{ne_eqb}
 use Rattle.frame.specs.Trees.{head, Tree, node, tag_of}
@@ -12,8 +14,8 @@ use Rattle.frame.specs.Places.{Ctx, found, find}
 use Rattle.typing.specs.Typing.{type_of}
 use Rattle.nav.specs.PlaceTables.{Table, TagPost}
 use Rattle.nav.proofs.Hops.{place_sorted}
-use Rattle.rules.specs.Change.{to, same, on_tag}
-use Rattle.rules.specs.Finite.{finite, finite_lambda, rewrite_finite}
+use Rattle.rules.specs.Change.{same, on_tag}
+use Rattle.rules.specs.Finite.{finite_lambda, rewrite_finite}
 use Rattle.templates.proofs.Joins.{and_bytes}
 use Rattle.templates.proofs.RightSides.{side}
 use Rattle.decision.specs.Decides.{Here, HereTwo, Decides, DecidesTwo}
@@ -125,25 +127,8 @@ module _ (s st nx : List ℕ) (k tag : ℕ) (pt : TagPost s st k tag) where
 
 -- ---- finite(S ◁ r), where r is id, prj1 or prj2
 module _ (s st nx : List ℕ) (a b tag : ℕ) (pt : TagPost s st b tag) where
-  pub restricted_12 : (g : ℕ) → tag ≡ g → ((v w : Tree) → tag_of w ≡ g → finite_restricted v w ≡ to 12 (finite v))
-      → (r : Option Decision) → r ≡ Some (D.Fixed 12 12 a a a) → DecidesTwo finite_restricted s st nx a b r
+  pub restricted_12 : 410 ≤ tag → tag < 413 → (r : Option Decision) → r ≡ Some (D.Fixed 12 12 a a a) → DecidesTwo finite_restricted s st nx a b r
   unfolding side
-  restricted_12 g key ans = on_left finite_restricted s st nx a b 12 refl refl
-      (λ t n Γ v w tb fa fb. ans v w (sym (pt.tag t n Γ w tb.framed fb) ∙ key))
-
-  pub restricted_412 : tag ≡ 412 → (r : Option Decision) → r ≡ Some (D.Fixed 12 12 a a a) → DecidesTwo finite_restricted s st nx a b r
-  restricted_412 key = restricted_12 412 key (λ v w z. rw z)
-
-  pub restricted_410 : tag ≡ 410 → (r : Option Decision) → r ≡ Some (D.Fixed 12 12 a a a) → DecidesTwo finite_restricted s st nx a b r
-  restricted_410 key = restricted_12 410 key (λ v w z. rw z)
-
-  pub restricted_411 : tag ≡ 411 → (r : Option Decision) → r ≡ Some (D.Fixed 12 12 a a a) → DecidesTwo finite_restricted s st nx a b r
-  restricted_411 key = restricted_12 411 key (λ v w z. rw z)
-
-  pub restricted_none : (tag ≡ 412 → ⊥) → (tag ≡ 410 → ⊥) → (tag ≡ 411 → ⊥) → DecidesTwo finite_restricted s st nx a b None
-  restricted_none p q o =
-      record {
-        means = λ t n Γ v w tb fa fb x Ξ kept.
-            let y = pt.tag t n Γ w tb.framed fb in
-            rw (← y) (simp (ne_eqb tag 412 p, ne_eqb tag 410 q, ne_eqb tag 411 o));
-      }
+  restricted_12 l h =
+      let z : (eqb tag 412 || (eqb tag 410 || eqb tag 411)) ≡ true = grind (arith, l, h) in
+      on_left finite_restricted s st nx a b 12 refl refl (λ t n Γ v w tb fa fb. rw (← pt.tag t n Γ w tb.framed fb, z) refl)

@@ -19,9 +19,7 @@ fn finite_restricted_at(places: &Places<'_>, a: usize, b: usize) -> Option<Decis
 {
     let tag = places.tag_at(b);
     match tag {
-        KID_GEN => fixed(12, a, a, a),
-        KPRJ1_GEN => fixed(12, a, a, a),
-        KPRJ2_GEN => fixed(12, a, a, a),
+        KID_GEN | KPRJ1_GEN | KPRJ2_GEN => fixed(12, a, a, a),
         _ => None,
     }
 }
@@ -45,6 +43,7 @@ fn finite_set_at(places: &Places<'_>, k: usize) -> Option<Decision>
 }
 
 // finite of the set at place k.
+#[tactic(auto, using(crate::proofs::FiniteTurns::finite_none))]
 pub fn rewrite_finite(places: &Places<'_>, k: usize) -> Option<Decision>
     requires { HereAt places.now k }
     ensures { DecidesAt rewrite_finite places.now k result }
@@ -54,9 +53,7 @@ pub fn rewrite_finite(places: &Places<'_>, k: usize) -> Option<Decision>
     let b = places.second_of(k);
     match tag {
         EMPTYSET => fixed(1, k, k, k),
-        NATURAL => fixed(2, k, k, k),
-        NATURAL1 => fixed(2, k, k, k),
-        INTEGER => fixed(2, k, k, k),
+        NATURAL | NATURAL1 | INTEGER => fixed(2, k, k, k),
         BOOL => fixed(3, k, k, k),
         KID_GEN => fixed(4, k, k, k),
         SETEXT => fixed(5, k, k, k),
@@ -67,8 +64,7 @@ pub fn rewrite_finite(places: &Places<'_>, k: usize) -> Option<Decision>
         UPTO => fixed(10, k, k, k),
         CSET => finite_set_at(places, k),
         DOMRES => finite_restricted_at(places, a, b),
-        KPRJ1_GEN => fixed(13, k, k, k),
-        KPRJ2_GEN => fixed(13, k, k, k),
+        KPRJ1_GEN | KPRJ2_GEN => fixed(13, k, k, k),
         _ => None,
     }
 }

@@ -1,9 +1,8 @@
 -- A run's answer as text, on plain values: the ways out of `put_answer`.
 -- Main results: ended_room, ended_post (a run that ended); refused_room, refused_post.
-use Rattle.std.proofs.Common.{◌≡◌, ℕ, ◌+◌, ◌≤◌, ◌<◌, List, ◌++◌, length, take, drop, Result, Ok, Err, refl, sym, ap, ap₂, ◌∙◌, arith, length-append, length-take}
+use Rattle.std.proofs.Common.{◌≡◌, ℕ, ◌≤◌, ◌<◌, List, length, take, drop, Result, Ok, Err, refl, sym, ap, ap₂, ◌∙◌, subst, arith, length-append, length-take}
 use lib.Seq.{take_at}
 use Rattle.frame.specs.declared.refusals.Refusal.{Refusal}
-use Rattle.frame.specs.declared.refusals.Refusal.TheVariants.{BadLine, BadLength, EndsInside, BadTag, BadCount, BadType, BytesFollow, NoBinder, TwoTypes, BadlyTyped, NoPlace, NoRoom}
 use Rattle.frame.specs.Refusals.{number, refusal}
 use Rattle.frame.proofs.RefusalNumbers.{number_back}
 use Rattle.lines.proofs.LineWrites.{write_length}
@@ -12,7 +11,9 @@ use Rattle.run.specs.declared.Ending.{Ending}
 use Rattle.run.specs.declared.Ending.TheVariants.{Rest, Spent, Full}
 use Rattle.run.specs.declared.Run.{Run}
 use Rattle.program.specs.Text.{budget, lent, word_text, ended_text, refused_text, answer_text}
-use Rattle.printing.specs.AnswerPosts.{longest, ending_text, Answers, AnswerPre, AnswerPost}
+use Rattle.printing.specs.AnswerPosts.{longest, ending_text, Answers, AnswerPre}
+use Rattle.printing.specs.declared.Text.{Text}
+use Rattle.printing.specs.Written.{Adds, AnswerPost}
 use Rattle.printing.proofs.Texts.{ended_length, refused_length, digits_most}
 
 -- ---- an answer with a word
@@ -66,37 +67,23 @@ module _ (a : Result Run Refusal) (r : Run) (last : List ℕ) (e : a ≡ Ok r) (
         digits_most 5 r.steps (omega arith) (omega (arith, s.few)) (omega (arith, s.few)),
       )
 
-  module _ (word : List ℕ) (is : word ≡ ending_text r.ending) (o : List ℕ) where
-    pub ended_room : length o + longest ≤ 65536 → length o + length (ended_text word r.steps (take r.length last)) ≤ 65536
-    ended_room h = rw is (omega (arith, ended_short))
+  module _ (word : List ℕ) (is : word ≡ ending_text r.ending) where
+    pub ended_room : (n : ℕ) → longest ≤ n → length (ended_text word r.steps (take r.length last)) ≤ n
+    ended_room n h = rw is (omega (arith, ended_short))
 
-    pub ended_post : (p : List ℕ) → p ≡ o ++ ended_text word r.steps (take r.length last) → AnswerPost a last o p
+    pub ended_post : (o p : Text) → Adds o (ended_text word r.steps (take r.length last)) p → AnswerPost a last o p
     unfolding answer_text
-    ended_post p h = record {
+    ended_post o p h = record {
       puts = λ x ans.
           (let s = said a r last e x ans in
-          h ∙ ap (λ (t : List ℕ). o ++ ended_text t r.steps (take r.length last)) (is ∙ ap ending_text s.ending ∙ word_lem s.word)
-          ∙ sym (ap (λ (y : RunOutcome). o ++ answer_text y) s.is));
-      room = omega (arith, ended_short, ap (λ (l : List ℕ). length l) (h ∙ ap (λ (t : List ℕ). o ++ ended_text t r.steps (take r.length last)) is), length-append {A = ℕ});
+          subst (λ t. Adds o t p) (ap (λ w. ended_text w r.steps (take r.length last)) (is ∙ ap ending_text s.ending ∙ word_lem s.word)
+          ∙ sym (ap answer_text s.is)) h);
+      room = omega (arith, ended_room longest (omega arith), ap length h.writes, length-append {A = ℕ});
     }
 
 -- ---- an answer with a number
-small_number : (r : Refusal) → number r < 256
-small_number BadLine = omega arith
-small_number BadLength = omega arith
-small_number EndsInside = omega arith
-small_number BadTag = omega arith
-small_number BadCount = omega arith
-small_number BadType = omega arith
-small_number BytesFollow = omega arith
-small_number NoBinder = omega arith
-small_number TwoTypes = omega arith
-small_number BadlyTyped = omega arith
-small_number NoPlace = omega arith
-small_number NoRoom = omega arith
-
-pub refused_short : (r : Refusal) → length (refused_text (number r)) ≤ longest
-refused_short r = omega (arith, refused_length (number r), digits_most 3 (number r) (omega arith) (omega (arith, small_number r)) (omega (arith, small_number r)))
+pub refused_short : (n : ℕ) → n < 256 → length (refused_text n) ≤ longest
+refused_short n h = omega (arith, refused_length n, digits_most 3 n (omega arith) (omega arith) (omega arith))
 
 of_refused : (a : Result Run Refusal) (last : List ℕ) (r : Refusal) → a ≡ Err r → (x : RunOutcome) → Answers a last x → x ≡ turned_down (number r)
 of_refused a last r e (ended w m ys) h = let f : Err r ≡ Ok (word_answer w m (length ys)) = sym e ∙ h.answer in cc
@@ -105,10 +92,10 @@ of_refused a last r e (turned_down c) h =
     let g : r ≡ refusal c = cc in
     ap turned_down (sym (ap number g ∙ number_back c h.small))
 
-pub refused_post : (a : Result Run Refusal) (last : List ℕ) (r : Refusal) → a ≡ Err r → (o p : List ℕ)
-    → p ≡ o ++ refused_text (number r) → AnswerPost a last o p
+pub refused_post : (a : Result Run Refusal) (last : List ℕ) (r : Refusal) → a ≡ Err r → (n : ℕ) → n ≡ number r → n < 256 → (o p : Text)
+    → Adds o (refused_text n) p → AnswerPost a last o p
 unfolding answer_text
-refused_post a last r e o p h = record {
-  puts = λ x ans. h ∙ sym (ap (λ (y : RunOutcome). o ++ answer_text y) (of_refused a last r e x ans));
-  room = omega (arith, refused_short r, ap (λ (l : List ℕ). length l) h, length-append {A = ℕ});
+refused_post a last r e n is l o p h = record {
+  puts = λ x ans. subst (λ t. Adds o t p) (ap refused_text is ∙ sym (ap answer_text (of_refused a last r e x ans))) h;
+  room = omega (arith, refused_short n l, ap length h.writes, length-append {A = ℕ});
 }

@@ -1,5 +1,5 @@
 -- What printing a run's answer asks and answers, by the definitions of program/specs/Text.antt.
-use Rattle.std.specs.Prelude.{◌≡◌, List, ◌++◌, ℕ, ◌+◌, ◌≤◌, length, Result}
+use Rattle.std.specs.Prelude.{◌≡◌, List, ℕ, ◌≤◌, length, Result}
 use Rattle.frame.specs.Reading.{frame_limit}
 use Rattle.frame.specs.Refusals.{IsNumber}
 use Rattle.frame.specs.Texts.{codes}
@@ -8,7 +8,7 @@ use Rattle.run.specs.Run.{RunOutcome, ended, turned_down, run_answer, run_output
 use Rattle.run.specs.declared.Ending.{Ending}
 use Rattle.run.specs.declared.Ending.TheVariants.{Rest, Spent, Full}
 use Rattle.run.specs.declared.Run.{Run}
-use Rattle.program.specs.Text.{budget, lent, answer_text}
+use Rattle.program.specs.Text.{budget, lent}
 
 -- the bytes of the longest answer: SPENT, five digits and 4,096 bytes, two spaces and the line's end
 abbrev pub longest : ℕ
@@ -34,8 +34,3 @@ pub record Answers (a : Result Run Refusal) (last : List ℕ) (x : RunOutcome) :
 
 abbrev pub AnswerPre : Result Run Refusal → List ℕ → Type 0
 AnswerPre a last = (x : RunOutcome) × Answers a last x
-
--- the answer's text, which is no longer than the longest
-pub record AnswerPost (a : Result Run Refusal) (last o p : List ℕ) : Type 0 where
-  pub puts : (x : RunOutcome) → Answers a last x → p ≡ o ++ answer_text x
-  pub room : length p ≤ length o + longest

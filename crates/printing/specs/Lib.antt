@@ -1,1 +1,2 @@
 pub mod AnswerPosts
+pub mod Written

@@ -1,43 +1,31 @@
-// Lines of text that answer lines of frames, in a buffer of a fixed size.
+// Lines of text that answer lines of frames, written into a lent slice.
 #![tactic(auto)]
 
-ghost use Rattle.std.specs.Prelude.{◌≡◌, ◌+◌, ◌≤◌, ◌<◌, List, [], ◌∷◌, ◌++◌, ◌↔◌, length, IsTrue};
+ghost use Rattle.std.specs.Prelude.{◌≡◌, ◌≤◌, List, [], ◌∷◌, ◌++◌, ◌↔◌, length, drop, IsTrue};
 ghost use Rattle.frame.specs.Lines.{write_line};
 ghost use Rattle.program.specs.Text.{decimal, ended_text, refused_text};
-ghost use Rattle.frame.specs.Refusals.{number};
-ghost use Rattle.printing.specs.AnswerPosts.{longest, ending_text, AnswerPre, AnswerPost};
+ghost use Rattle.printing.specs.AnswerPosts.{longest, ending_text, AnswerPre};
 
 use frame::refusals::Refusal;
 use run::{Ending, Run};
-use std::marker::Model;
 
 const SPACE: u8 = b' ';
 
 const NEWLINE: u8 = b'\n';
 
-// How many bytes a text may have: a loop that moves much data would spend its time on calls of fewer.
-pub const TEXT_LIMIT: usize = 65536;
-
 // The bytes of the longest answer.
 const LONGEST: usize = 8205;
 
-// Text that was written: the first `length` bytes.
+// Text in lent bytes: the first `end` of them.
+// Kept: a slice with an end and no `io::Cursor`, whose writes may be short: what is put here can't fail.
 #[derive(Drop)]
-pub struct Text {
-    bytes: [u8; TEXT_LIMIT],
-    length: usize,
+pub struct Text<'a> {
+    bytes: &'a mut [u8],
+    end: usize,
+    ghost within: { end ≤ length bytes.now },
 }
 
-impl Model for Text {
-    ghost use Rattle.std.specs.Prelude.{ℕ, ◌≤◌, List, take};
-
-    ghost Value = { List ℕ };
-
-    ghost view = { λ t. take t.length t.bytes };
-
-    ghost invariant = { λ t. t.length ≤ 65536 };
-}
-
+// Kept: words and numbers as bytes and no `Display`: the contracts say which bytes, and a formatter may fail.
 fn word_of(ending: Ending) -> &'static [u8]
     ensures { result.now ≡ ending_text ending }
 {
@@ -48,75 +36,84 @@ fn word_of(ending: Ending) -> &'static [u8]
     }
 }
 
-impl Text {
-    pub fn new() -> Self
-        ensures { result ≡ [] }
+impl<'a> Text<'a> {
+    ghost use Rattle.printing.specs.Written.{written, behind, Adds, AnswerPost};
+
+    #[tactic(auto, unfolding(crate::specs::Written::written, crate::specs::Written::behind))]
+    pub fn new(bytes: &'a mut [u8]) -> Text<'a>
+        ensures written { written result ≡ [] }
+        ensures behind { behind result ≡ bytes.old }
+        ensures same_reference { result.bytes.ghost_name ≡ bytes.entry.ghost_name }
     {
-        Text {
-            bytes: [0; TEXT_LIMIT],
-            length: 0,
-        }
+        Text { bytes, end: 0 }
     }
 
-    // Begins again. What the buffer held is not cleared: it lies behind what is written.
+    // Begins again. What was written is not cleared: it lies behind what will be.
+    #[tactic(auto, unfolding(crate::specs::Written::written, crate::specs::Written::behind))]
     pub fn clear(&mut self)
-        ensures { self.new ≡ [] }
+        ensures written { written self.new ≡ [] }
+        ensures behind { behind self.new ≡ written self.old ++ behind self.old }
+        ensures same_reference { self.new.bytes.ghost_name ≡ self.old.bytes.ghost_name }
     {
-        self.length = 0;
+        self.end = 0;
     }
 
+    #[tactic(auto, unfolding(crate::specs::Written::written, crate::specs::Written::behind))]
     pub fn as_bytes(&self) -> &[u8]
-        ensures { result.now ≡ self.now }
+        ensures { result.now ≡ written self.now }
     {
-        &self.bytes[..self.length]
+        &self.bytes[..self.end]
     }
 
     // Whether there is room for one answer more, whichever it is.
+    #[tactic(auto, unfolding(crate::specs::Written::behind))]
     pub fn has_room(&self) -> bool
-        ensures { IsTrue result ↔ (length self.now + longest ≤ TEXT_LIMIT) }
+        ensures { IsTrue result ↔ (longest ≤ length (behind self.now)) }
     {
-        LONGEST <= TEXT_LIMIT - self.length
+        LONGEST <= self.bytes.len() - self.end
     }
 
+    #[tactic(auto, unfolding(crate::specs::Written::behind))]
     fn put_text(&mut self, text: &[u8])
-        requires { length self.old + length text.now ≤ TEXT_LIMIT }
-        ensures { self.new ≡ self.old ++ text.now }
+        requires { length text.now ≤ length (behind self.old) }
+        ensures { Adds self.old text.now self.new }
     {
-        let end = self.length + text.len();
-        self.bytes[self.length..end].copy_from_slice(text);
-        self.length = end;
+        let end = self.end + text.len();
+        self.bytes[self.end..end].copy_from_slice(text);
+        self.end = end;
     }
 
     fn put_byte(&mut self, b: u8)
-        requires { length self.old < TEXT_LIMIT }
-        ensures { self.new ≡ self.old ++ b ∷ [] }
+        requires { 1 ≤ length (behind self.old) }
+        ensures { Adds self.old (b ∷ []) self.new }
     {
         self.put_text(&[b]);
     }
 
     #[tactic(auto, using(crate::proofs::Texts::decimal_lem))]
     fn put_decimal(&mut self, n: u32)
-        requires { length self.old + length (decimal n) ≤ TEXT_LIMIT }
-        ensures { self.new ≡ self.old ++ decimal n }
+        requires { length (decimal n) ≤ length (behind self.old) }
+        ensures { Adds self.old (decimal n) self.new }
     {
         let mut digits = itoa::Buffer::new();
         self.put_text(digits.format(n).as_bytes());
     }
 
     // A frame in capital hexadecimal.
+    #[tactic(auto, unfolding(crate::specs::Written::behind))]
     fn put_frame(&mut self, frame: &[u8])
-        requires { length self.old + length (write_line frame.now) ≤ TEXT_LIMIT }
-        ensures { self.new ≡ self.old ++ write_line frame.now }
+        requires { length (write_line frame.now) ≤ length (behind self.old) }
+        ensures { Adds self.old (write_line frame.now) self.new }
     {
-        let written = lines::write_line(frame, &mut self.bytes[self.length..]);
-        self.length += written.unwrap();
+        let written = lines::write_line(frame, &mut self.bytes[self.end..]);
+        self.end += written.unwrap();
     }
 
     // The answer of a run that ended: its word, the count and the frame.
-    #[tactic(auto, using(crate::proofs::Texts::ended_length), unfolding(program::specs::Text::ended_text))]
+    #[tactic(auto, using(crate::proofs::Texts::ended_length))]
     fn put_ended(&mut self, word: &[u8], count: u32, frame: &[u8])
-        requires { length self.old + length (ended_text word.now count frame.now) ≤ TEXT_LIMIT }
-        ensures { self.new ≡ self.old ++ ended_text word.now count frame.now }
+        requires { length (ended_text word.now count frame.now) ≤ length (behind self.old) }
+        ensures { Adds self.old (ended_text word.now count frame.now) self.new }
     {
         self.put_text(word);
         self.put_byte(SPACE);
@@ -126,26 +123,28 @@ impl Text {
         self.put_byte(NEWLINE);
     }
 
+    // Kept: room is asked for in a clause, here and above and below, since each text is of another length.
     // REFUSED and the number.
-    #[tactic(auto, using(crate::proofs::Texts::refused_length), unfolding(program::specs::Text::refused_text))]
-    pub fn put_refused(&mut self, refusal: Refusal)
-        requires { length self.old + length (refused_text (number refusal)) ≤ TEXT_LIMIT }
-        ensures { self.new ≡ self.old ++ refused_text (number refusal) }
+    #[tactic(auto, using(crate::proofs::Texts::refused_length))]
+    pub fn put_refused(&mut self, number: u8)
+        requires { length (refused_text number) ≤ length (behind self.old) }
+        ensures { Adds self.old (refused_text number) self.new }
     {
         self.put_text(b"REFUSED");
         self.put_byte(SPACE);
-        self.put_decimal(u32::from(u8::from(refusal)));
+        self.put_decimal(u32::from(number));
         self.put_byte(NEWLINE);
     }
 
     // A run's answer; its last frame stands at the start of `last`.
+    #[tactic(auto, using(crate::proofs::AnswerTexts::refused_short))]
     pub fn put_answer(&mut self, answer: Result<Run, Refusal>, last: &[u8])
-        requires { AnswerPre answer last.now × (length self.old + longest ≤ TEXT_LIMIT) }
+        requires { AnswerPre answer last.now × (longest ≤ length (behind self.old)) }
         ensures { AnswerPost answer last.now self.old self.new }
     {
         match answer {
             Ok(run) => self.put_ended(word_of(run.ending), run.steps, &last[..run.length]),
-            Err(refusal) => self.put_refused(refusal),
+            Err(refusal) => self.put_refused(u8::from(refusal)),
         }
     }
 }

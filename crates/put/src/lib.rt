@@ -1,4 +1,4 @@
-// Bytes go behind what the scratch buffer holds; once they don't fit a frame, the writer holds nothing for good. So no caller has
+// Bytes go behind what was written before; once they don't fit a frame, the writer holds nothing for good. So no caller has
 // to look whether there is room before the whole frame is written.
 #![tactic(auto)]
 
@@ -12,6 +12,8 @@ use frame::limits::FRAME_LIMIT;
 use std::marker::Model;
 
 // What has been written, as contracts see it: the bytes, or None once they did not fit.
+// Kept: an array and an `Option` of a length and no `Option<ArrayVec>`: all 4,096 bytes would be cleared again once a frame did not fit,
+// and those that were written each time when the writer begins again.
 #[derive(Drop)]
 pub struct Writer {
     bytes: [u8; 4096],
@@ -67,6 +69,7 @@ impl Writer {
         requires { w < 65536 }
         ensures { Puts self.old self.new (enc_number 2 w) }
     {
+        // Kept: `as`: no `From` makes a shorter number, and by `try_from` the proof would be asked the same and the line be longer.
         self.put_copy(&(w as u16).to_be_bytes());
     }
 

@@ -19,6 +19,7 @@ fn given_expression(types: &[u8], at: usize, out: &mut Writer)
 }
 
 // The expression of the type at `at`; the answer is where that type ends.
+// Kept: a position in and a position out, since the second type of a product begins where the first one ends.
 pub fn to_expression(types: &[u8], at: usize, out: &mut Writer) -> usize
     requires { HasType types.now at }
     ensures { Expressed types.now at out.old out.new result }

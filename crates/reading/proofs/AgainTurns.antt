@@ -1,5 +1,5 @@
 -- The nodes from a position to the end of a frame, and the loop of `read_again`.
--- Main results: frame_rest, first_at (what stands there); Placing, the loop's invariant; placing_begins, placing_stands, placing_goes,
+-- Main results: frame_rest, first_at, rest_head (what stands there); Placing, the loop's invariant; placing_begins, placing_stands, placing_goes,
 -- placing_done.
 use mathlib.Core.Path.{◌≡◌, refl, sym, ap, ap₂, ◌∙◌, subst}
 use mathlib.Core.List.{List, [], ◌∷◌, ◌++◌, append-nil}
@@ -13,18 +13,19 @@ use Rattle.frame.specs.Tags.{predicate}
 use Rattle.tags.specs.declared.forms.Sort.{Sort}
 use Rattle.tags.specs.TagCodes.{first_sort, later_sort, kinds_for}
 use Rattle.frame.specs.Encoding.{enc_head, enc, encs, starts, starts_in}
-use Rattle.frame.specs.Reading.{ok_h, read_head, tree, parse}
+use Rattle.frame.specs.Reading.{ok_h, read_head, parse}
 use Rattle.frame.specs.Spans.{Bytes, Spans}
 use Rattle.frame.specs.At.{types_at, IsAt}
 use Rattle.heads.specs.HeadPost.{head_answer, HeadStands, HeadEnd}
 use Rattle.reading.specs.declared.FrameRead.{FrameRead}
+use Rattle.reading.specs.declared.frames.Frame.{Frame}
 use Rattle.reading.specs.Post.{frame_answer, table_size, filled, Room, Rest}
 use Rattle.frame.proofs.Spans.{span_left, span_right, span_join}
-use Rattle.frame.proofs.Frames.{parse_inv}
 use Rattle.frame.proofs.Extents.{nodes_enc, some_node}
 use Rattle.frame.proofs.Forests.{encs_append, wfs_append, starts_append}
 use Rattle.reading.proofs.NodeTurns.{filled_none, filled_append}
 use Rattle.reading.proofs.FrameTurns.{frame_filled}
+use Rattle.reading.proofs.FrameTree.{frame_tree, frame_fits, frame_stands}
 use Rattle.heads.proofs.View.{at_span, at_wf, stands_at, parse_at, kids_span, kids_wf, View, view}
 use Rattle.heads.proofs.KnownTurns.{head_at}
 
@@ -57,6 +58,9 @@ first_at s at (cons t ts) (e ∷ es) l a = record {
   stands = stands_at s e at t (at + length (enc t)) (span_left (enc t) (encs ts) a.span) a.wf.0;
   after = record { span = span_right (enc t) (encs ts) a.span; wf = a.wf.1 };
 }
+
+pub rest_head : (s : List ℕ) (at : ℕ) (ts : Forest) (es : List T.Sort) → at < length s → Rest s at ts es → HeadStands s at
+rest_head s at ts es l r = let a = first_at s at ts es l r in (a.e, a.t, a.q, a.stands)
 
 -- ---- the starts of all nodes from a position on
 -- nodes stand from `at` to the frame's end, and the table has room for them
@@ -160,39 +164,47 @@ pub record Placing (s : List ℕ) (b₀ : FrameRead) (p : ℕ) (b : FrameRead) :
   pub left : PlacesPre s p b
   pub back : (b₁ : FrameRead) → PlacesPost s p b b₁ → PlacesPost s 0 b₀ b₁
 
-module _ (s : List ℕ) (bs : Bytes s) (t : Tree) (e : parse s ≡ tree t) (b₀ : FrameRead) (fresh : (b₀.nodes ≡ 0) × (b₀.starts ≡ replicate table_size 0)) where
-  pub placing_begins : Placing s b₀ 0 b₀
-  placing_begins = record {
-    left = record {
-      room = record { within = omega arith; short = (parse_inv s t e).fits; room = omega (arith, fresh.0) };
-      ts = cons t nil;
-      es = predicate ∷ [];
-      rest = frame_rest s bs t (parse_at s bs t e);
-    };
-    back = λ b₁ p. p;
-  }
+module _ (f : Frame) where
+  abbrev bytes : List ℕ
+  bytes = f.bytes.now
 
-  module _ (p : ℕ) (b : FrameRead) (w : Placing s b₀ p b) where
-    pub placing_done : length s ≤ p → Ok b ≡ frame_answer (parse s)
+  module _ (b₀ : FrameRead) (fresh : (b₀.nodes ≡ 0) × (b₀.starts ≡ replicate table_size 0)) where
+    pub placing_begins : Placing bytes b₀ 0 b₀
+    placing_begins =
+        let (t, stands) = frame_stands f in
+        record {
+          left = record {
+            room = record { within = omega arith; short = frame_fits f; room = omega (arith, fresh.0) };
+            ts = cons t nil;
+            es = predicate ∷ [];
+            rest = frame_rest bytes f.in_range t stands;
+          };
+          back = λ b₁ p. p;
+        }
+
+    pub placing_done : (p : ℕ) (b : FrameRead) → Placing bytes b₀ p b → length bytes ≤ p → Ok b ≡ frame_answer (parse bytes)
     unfolding starts
-    placing_done l =
-        let at = parse_at s bs t e in
-        let sp = at_span s bs predicate 0 t (length s) at in
-        let fits : nodes t ≤ table_size = omega (arith, sp.long, nodes_enc t, (parse_inv s t e).fits) in
+    placing_done p b w l =
+        let (t, e) = frame_tree f in
+        let at = parse_at bytes f.in_range t e in
+        let sp = at_span bytes f.in_range predicate 0 t (length bytes) at in
+        let fits : nodes t ≤ table_size = omega (arith, sp.long, nodes_enc t, frame_fits f) in
         ap Ok
-        ((w.back b (places_end s p b l)).by (cons t nil) (predicate ∷ []) (frame_rest s bs t at)
+        ((w.back b (places_end bytes p b l)).by (cons t nil) (predicate ∷ []) (frame_rest bytes f.in_range t at)
         ∙ ap (filled b₀) (append-nil (starts t 0))
         ∙ frame_filled b₀ fresh t fits)
         ∙ ap frame_answer (sym e)
 
-module _ (s : List ℕ) (bs : Bytes s) (b₀ : FrameRead) (p : ℕ) (b : FrameRead) (w : Placing s b₀ p b) (l : p < length s) where
-  pub placing_stands : HeadStands s p
-  placing_stands = let f = first_at s p w.left.ts w.left.es l w.left.rest in (f.e, f.t, f.q, f.stands)
+  module _ (b₀ : FrameRead) (p : ℕ) (b : FrameRead) (w : Placing bytes b₀ p b) (l : p < length bytes) where
+    pub placing_stands : HeadStands bytes p
+    placing_stands = rest_head bytes p w.left.ts w.left.es l w.left.rest
 
-  pub placing_goes : (b₁ : FrameRead) → b₁ ≡ filled b (p ∷ []) → (q : ℕ) → HeadEnd s p q → (p + 2 ≤ q) × (q ≤ length s) × Placing s b₀ q b₁
-  placing_goes b₁ eb q he =
-      let x = places_next s bs p l q he b w.left in (
-        x.0,
-        x.1.room.within,
-        subst (Placing s b₀ q) (sym eb) (record { left = x.1; back = λ b₂ post. w.back b₂ (places_more s bs p l q he b b₂ post) }),
-      )
+    pub placing_goes : (b₁ : FrameRead) → b₁ ≡ filled b (p ∷ []) → (q : ℕ) → HeadEnd bytes p q
+        → (p + 2 ≤ q) × (q ≤ length bytes) × Placing bytes b₀ q b₁
+    placing_goes b₁ eb q he =
+        let x = places_next bytes f.in_range p l q he b w.left in (
+          x.0,
+          x.1.room.within,
+          subst (Placing bytes b₀ q) (sym eb)
+              (record { left = x.1; back = λ b₂ post. w.back b₂ (places_more bytes f.in_range p l q he b b₂ post) }),
+        )

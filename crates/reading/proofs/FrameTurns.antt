@@ -2,12 +2,13 @@
 -- Main results: read_empty, read_long, read_refused, read_more, read_whole; frame_filled.
 use mathlib.Core.Path.{◌≡◌, sym, ap, ap₂, ◌∙◌}
 use mathlib.Core.List.{List, ◌++◌}
-use Prim.Native.Nat.{ℕ, zero, suc, ◌+◌, ◌-◌, ◌≤◌, ◌<◌}
+use Prim.Native.Nat.{ℕ, suc, ◌+◌, ◌-◌, ◌≤◌, ◌<◌}
 use native.Mathlib.Omega.{arith}
 use lib.ListN.{length, drop, replicate, length-replicate}
 use lib.Seq.{sets, sets-eq}
 use borrow.Author.Tests.{lt-ltb, le-ltb, ne_eqb}
 use Rattle.std.proofs.Common.{Result, Ok, Err, IsErrAnd, eqb, true, false}
+use Rattle.std.proofs.lemmas.List.{drop-replicate}
 use Rattle.frame.specs.Trees.{Tree, nodes}
 use Rattle.frame.specs.Refusals.{refusal}
 use Rattle.frame.specs.declared.refusals.Refusal.{Refusal}
@@ -23,17 +24,12 @@ use Rattle.heads.proofs.HeadSays.{handed_on}
 use Rattle.reading.proofs.NodeTurns.{read_so, node_yes, node_no}
 
 -- ---- a table of zeros with a run of stores at its start
-drop_replicate : (k n : ℕ) → drop {A = ℕ} k (replicate n 0) ≡ replicate (n - k) 0
-drop_replicate zero n = let z : n ≡ n - 0 = omega arith in ap (λ (k : ℕ). replicate k 0) z
-drop_replicate (suc k) zero = let z : 0 ≡ 0 - suc k = omega arith in ap (λ (i : ℕ). replicate {A = ℕ} i 0) z
-drop_replicate (suc k) (suc n) = let z : n - k ≡ suc n - suc k = omega arith in drop_replicate k n ∙ ap (λ (i : ℕ). replicate {A = ℕ} i 0) z
-
 sets_zeros : (n : ℕ) (xs : List ℕ) → length xs ≤ n → sets {A = ℕ} (replicate n 0) 0 xs ≡ xs ++ replicate (n - length xs) 0
 sets_zeros n xs h =
     let z : 0 + length xs ≡ length xs = omega arith in
     sets-eq xs (replicate n 0) 0 (omega (arith, length-replicate {A = ℕ} n 0))
     ∙ ap (λ (k : ℕ). xs ++ drop k (replicate n 0)) z
-    ∙ ap (λ (l : List ℕ). xs ++ l) (drop_replicate (length xs) n)
+    ∙ ap (λ (l : List ℕ). xs ++ l) (drop-replicate (length xs) n 0)
 
 -- what was read is a frame's, once the starts of its nodes are added to none
 pub frame_filled : (b : FrameRead) → (b.nodes ≡ 0) × (b.starts ≡ replicate table_size 0) → (t : Tree) → nodes t ≤ table_size

@@ -1,5 +1,5 @@
+pub mod FrameTree
 mod NodeTurns
 mod TreesTurns
-pub mod FrameSays
 mod FrameTurns
 pub mod AgainTurns

@@ -2,18 +2,22 @@
 // Positions count bytes from the frame's start.
 #![tactic(auto)]
 
+mod frames; // frames.rt: the bytes of a frame that was read
+
 ghost use Rattle.std.specs.Prelude.{◌≡◌, ◌+◌, ◌<◌, [], ◌∷◌, replicate, Ok};
 ghost use Rattle.frame.specs.Trees.{Tree};
 ghost use Rattle.tags.specs.TagCodes.{kinds_for};
-ghost use Rattle.frame.specs.Reading.{parse, tree};
+ghost use Rattle.frame.specs.Reading.{parse};
 ghost use Rattle.reading.specs.Post.{Room, TreesPost, filled, frame_answer};
 
 use frame::limits::FRAME_LIMIT;
 use frame::refusals::Refusal;
+pub use frames::Frame;
 use heads::{head_end, read_head};
 use tags::Sort;
 
 // How many nodes a frame has, and the table of their starts: zeros past the last node.
+// Kept: an array and no `ArrayVec`, since document 01 asks for "a [0; 2048] array of u16 positions by value".
 #[derive(Drop)]
 pub struct FrameRead {
     pub nodes: usize,
@@ -36,6 +40,7 @@ impl FrameRead {
         requires { (self.old.nodes < 2048) × (at < 65536) }
         ensures { self.new ≡ filled self.old (at ∷ []) }
     {
+        // Kept: `as`: no `From` makes a shorter number, and by `try_from` the proof would be asked the same and the line be longer.
         self.starts[self.nodes] = at as u16;
         self.nodes += 1;
     }
@@ -48,6 +53,7 @@ fn read_trees(
     s: &[u8],
     mut at: usize,
     mut n: usize,
+    // Kept: two sorts and no struct of them, since the first is set alone at each turn.
     mut first: Sort,
     mut later: Sort,
     read: &mut FrameRead,
@@ -99,15 +105,17 @@ pub fn read(frame: &[u8]) -> Result<FrameRead, Refusal>
 }
 
 // What `read` answers, of a frame that was read before: a node's children are the next nodes, so heads are met one after the other.
-pub fn read_again(frame: &[u8]) -> FrameRead
-    requires { (t : Tree) × (parse frame.now ≡ tree t) }
-    ensures { Ok result ≡ frame_answer (parse frame.now) }
+pub fn read_again(frame: &Frame<'_>) -> FrameRead
+    ensures { Ok result ≡ frame_answer (parse frame.now.bytes.now) }
 {
+    let bytes = frame.bytes;
     let mut again = FrameRead::new();
     let mut at = 0;
-    while at < frame.len() {
+    // Kept: the next node starts where this one's head ends, so no `for` over a range says it; an iterator over heads would serve
+    // this loop alone, as `identifiers` finds where a head ends while it notes the head's types.
+    while at < bytes.len() {
         again.push(at);
-        at = head_end(frame, at);
+        at = head_end(bytes, at);
     }
     again
 }

@@ -9,7 +9,7 @@ mod shown; // shown.rt: what is printed
 mod trials; // trials.rt: lines
 
 use crate::shown::{fill, print_refused, print_run, print_step};
-use crate::trials::{Form, LENT_LIMIT, Line, Trial};
+use crate::trials::{LENT_LIMIT, Line, Trial};
 use frame::refusals::Refusal;
 use std::io;
 use std::io::Read;
@@ -37,15 +37,15 @@ fn print_checks(rt: &impl Print, frame: &[u8], out: &[u8]) -> io::Result<()> {
 // The output shows which of its bytes a call writes.
 fn print_trial(rt: &impl Print, trial: Trial, frame: &[u8]) -> io::Result<()> {
     let mut space = [0u8; LENT_LIMIT];
-    let out = &mut space[..trial.lent.min(LENT_LIMIT)];
+    let out = &mut space[..trial.lent().min(LENT_LIMIT)];
     fill(out);
-    match trial.form {
-        Form::Checks => print_checks(rt, frame, out),
-        Form::Step => {
-            let answer = stepping::step(frame, trial.number, out);
+    match trial {
+        Trial::Checks => print_checks(rt, frame, out),
+        Trial::Step { place, .. } => {
+            let answer = stepping::step(frame, place, out);
             print_step(rt, answer, out)
         }
-        Form::Run => match u32::try_from(trial.number) {
+        Trial::Run { budget, .. } => match u32::try_from(budget) {
             Ok(budget) => {
                 let answer = running::run(frame, budget, out);
                 print_run(rt, answer, out)

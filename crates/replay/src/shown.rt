@@ -6,6 +6,7 @@ use step::Step;
 
 // What the output holds before the call: bytes that go by their place, so that one that was written or moved is seen.
 fn pattern(i: usize) -> u8 {
+    // Kept: `as`: no `From` makes a shorter number, and `try_from` would ask what to do where it can't be.
     (i % 251 + 1) as u8
 }
 
@@ -24,6 +25,7 @@ fn kept(out: &[u8], from: usize) -> bool {
 }
 
 // A run's ending by its word.
+// Kept: beside `printing::word_of`, whose bytes a contract gives by the definitions of the program's text; here words are printed alone.
 #[derive(Clone, Copy, Debug, PartialEq, Eq)]
 struct Word(Ending);
 
@@ -38,6 +40,7 @@ impl fmt::Display for Word {
 }
 
 // The frame in the first n bytes of the output; behind that no byte may have been written.
+// Kept: the output and a length, since the bytes behind the frame are looked at too.
 fn print_output(rt: &impl Print, out: &[u8], n: usize) -> io::Result<()> {
     if let Some(frame) = out.get(..n) {
         let mut text = [0u8; 8192];

@@ -5,43 +5,56 @@ use lines::LineReader;
 // The most that a line may lend.
 pub const LENT_LIMIT: usize = 8192;
 
-// The forms of a line: `F FRAME`, `S PLACE LENT FRAME`, `R BUDGET LENT FRAME`.
+// What a line asks for its frame; `lent` is how many bytes the output has.
 #[derive(Clone, Copy, Debug, PartialEq, Eq)]
-pub enum Form {
+pub enum Trial {
     Checks,
-    Step,
-    Run,
+    Step { place: usize, lent: usize },
+    Run { budget: usize, lent: usize },
 }
 
-impl TryFrom<u8> for Form {
-    type Error = Refusal;
-
-    // The form that begins with the letter c.
-    fn try_from(c: u8) -> Result<Form, Refusal> {
-        match c {
-            b'F' => Ok(Form::Checks),
-            b'S' => Ok(Form::Step),
-            b'R' => Ok(Form::Run),
-            _ => Err(Refusal::BadLine),
+impl Trial {
+    // How many bytes are lent: the checks write nothing.
+    pub fn lent(self) -> usize {
+        match self {
+            Trial::Checks => 0,
+            Trial::Step { lent, .. } | Trial::Run { lent, .. } => lent,
         }
     }
 }
 
-// What a line asks for its frame: the number is a step's place or a run's budget, and `lent` the bytes of the output.
+// The forms of a line that has numbers: `S PLACE LENT FRAME` and `R BUDGET LENT FRAME`.
 #[derive(Clone, Copy, Debug, PartialEq, Eq)]
-pub struct Trial {
-    pub form: Form,
-    pub number: usize,
-    pub lent: usize,
+enum Call {
+    Step,
+    Run,
+}
+
+impl Call {
+    fn with(self, number: usize, lent: usize) -> Trial {
+        match self {
+            Call::Step => Trial::Step {
+                place: number,
+                lent,
+            },
+            Call::Run => Trial::Run {
+                budget: number,
+                lent,
+            },
+        }
+    }
 }
 
 // How far a line has come. A number is None before its first digit.
 #[derive(Clone, Copy, Debug, PartialEq, Eq)]
 enum Part {
     Begun,
-    Letter(Form),
-    Number(Form, Option<usize>),
-    Lent(Form, usize, Option<usize>),
+    // behind the letter of a line that has no numbers: `F FRAME`
+    Checks,
+    // behind the letter of one that has
+    Letter(Call),
+    Number(Call, Option<usize>),
+    Lent(Call, usize, Option<usize>),
     Frame(Trial),
 }
 
@@ -51,7 +64,7 @@ fn with_digit(number: Option<usize>, c: u8, most: usize) -> Option<usize> {
     number
         .unwrap_or(0)
         .checked_mul(10)?
-        .checked_add(digit as usize)
+        .checked_add(usize::try_from(digit).ok()?)
         .filter(|&n| n <= most)
 }
 
@@ -59,25 +72,21 @@ impl Part {
     // The part with one character more, if the line can go on so.
     fn next(self, c: u8) -> Option<Part> {
         match (self, c) {
-            (Part::Begun, _) => Form::try_from(c).ok().map(Part::Letter),
-            (Part::Letter(Form::Checks), b' ') => Some(Part::Frame(Trial {
-                form: Form::Checks,
-                number: 0,
-                lent: 0,
-            })),
-            (Part::Letter(form), b' ') => Some(Part::Number(form, None)),
-            (Part::Letter(_), _) => None,
-            (Part::Number(form, Some(number)), b' ') => Some(Part::Lent(form, number, None)),
-            (Part::Number(form, number), _) => {
-                Some(Part::Number(form, Some(with_digit(number, c, usize::MAX)?)))
+            (Part::Begun, b'F') => Some(Part::Checks),
+            (Part::Begun, b'S') => Some(Part::Letter(Call::Step)),
+            (Part::Begun, b'R') => Some(Part::Letter(Call::Run)),
+            (Part::Checks, b' ') => Some(Part::Frame(Trial::Checks)),
+            (Part::Letter(call), b' ') => Some(Part::Number(call, None)),
+            (Part::Begun | Part::Checks | Part::Letter(_), _) => None,
+            (Part::Number(call, Some(number)), b' ') => Some(Part::Lent(call, number, None)),
+            (Part::Number(call, number), _) => {
+                Some(Part::Number(call, Some(with_digit(number, c, usize::MAX)?)))
             }
-            (Part::Lent(form, number, Some(lent)), b' ') => Some(Part::Frame(Trial {
-                form,
-                number,
-                lent,
-            })),
-            (Part::Lent(form, number, lent), _) => {
-                Some(Part::Lent(form, number, Some(with_digit(lent, c, LENT_LIMIT)?)))
+            (Part::Lent(call, number, Some(lent)), b' ') => {
+                Some(Part::Frame(call.with(number, lent)))
+            }
+            (Part::Lent(call, number, lent), _) => {
+                Some(Part::Lent(call, number, Some(with_digit(lent, c, LENT_LIMIT)?)))
             }
             (Part::Frame(trial), _) => Some(Part::Frame(trial)),
         }

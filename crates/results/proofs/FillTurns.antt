@@ -1,10 +1,10 @@
 -- The ways out of `fill_pattern`.
 -- Main results: fill_end, fill_full, fill_fixed, fill_unbound, fill_long, fill_bound, with what the calls ask for; the laws of Going, the loop's
--- invariant; env_kept and fit_snoc (the types of the variables).
+-- invariant; env_kept (the types of the variables).
 use mathlib.Core.Path.{◌≡◌, refl, sym, ap, ◌∙◌, subst}
 use mathlib.Core.Bool.{Bool, true, false, ◌&&◌, and-false}
 use mathlib.Core.List.{List, [], ◌∷◌, ◌++◌, append-nil}
-use Prim.Native.Nat.{ℕ, zero, suc, ◌+◌, ◌-◌, ◌≤◌, ◌<◌}
+use Prim.Native.Nat.{ℕ, ◌+◌, ◌-◌, ◌≤◌, ◌<◌}
 use native.Mathlib.Omega.{arith}
 use lib.ListN.{length, get_or, set, length-append, length-set}
 use lib.Seq.{get_or-set_same, get_or-set_other}
@@ -19,10 +19,10 @@ use Rattle.typing.specs.Typing.{ty}
 use Rattle.type_rules.specs.Patterns.{symbol_bytes, filled, all_bound}
 use Rattle.type_rules.specs.CodeRules.{number, numbers}
 use Rattle.type_rules.specs.declared.Symbol.{Symbol}
-use Rattle.copies.specs.Copies.{Copied, Apart}
 use Rattle.results.specs.ResultPosts.{EnvAt, Kept, FillPre, Filling, FillPost}
-use Rattle.results.specs.declared.bindings.Span.{Span}
-use Rattle.copies.proofs.CopyLaws.{span_kept, copied_span, apart_up}
+use Rattle.results.specs.declared.Span.{Span}
+use Rattle.results.proofs.SpanLaws.{unbound, span_part, span_kept, pasted_span, pasted_kept}
+use Rattle.std.specs.List.{copy_within}
 use Rattle.std.proofs.Common.{Option, Some, None, slice_get, drop}
 use Rattle.std.proofs.lemmas.List.{drop_more, at_drop_all}
 use Rattle.std.proofs.lemmas.Option.{slice_get_within}
@@ -37,7 +37,7 @@ pub env_kept : (o p : List ℕ) (m : ℕ) (sp : List Span) (ρ : List Ty) → Ke
 env_kept o p m sp ρ kept env k h = record {
   count = env.count;
   fit = env.fit;
-  stands = λ i s e. (let a = env.stands i s e in (span_kept p m kept.long kept.low a.1 a.0, omega (arith, a.1)));
+  stands = λ i s e. (let a = env.stands i s e in (span_kept a.0 kept a.1, omega (arith, a.1)));
 }
 
 kept_then : (o p q : List ℕ) (m n : ℕ) → m ≤ n → Kept o p m → Kept p q n → Kept o q m
@@ -49,15 +49,9 @@ then_fill : (t : Bool) (o p q : List ℕ) (m n : ℕ) (xs ys : List ℕ) (r : Op
 then_fill true o p q m n xs ys r a kept f =
     let l = length-append xs ys in
     let z : n + length ys ≡ m + length (xs ++ ys) = omega (arith, a.long) in
-    let b = span_kept q n f.2.long f.2.low (omega arith) a in
+    let b = span_kept a f.2 (omega arith) in
     (f.0 ∙ ap Some z, subst (λ (i : ℕ). Spans q m i (xs ++ ys)) z (span_join b f.1), kept_then o p q m n (omega (arith, a.long)) kept f.2)
 then_fill false o p q m n xs ys r a kept f = f
-
--- no span for a variable: it is past those that are bound
-unbound : (sp : List Span) (v : ℕ) → slice_get sp v ≡ None → length sp ≤ v
-unbound [] v e = omega arith
-unbound (s ∷ sp) zero e = cc
-unbound (s ∷ sp) (suc v) e = let h = unbound sp v e in omega arith
 
 module _ (o : List ℕ) (m limit : ℕ) (sp : List Span) (room : (m ≤ limit) × (limit ≤ length o)) where
   pub fill_end : FillPost [] o m limit sp o (Some m)
@@ -156,20 +150,15 @@ module _ (o : List ℕ) (m limit : ℕ) (sp : List Span) (room : (m ≤ limit) �
         fill_long f = over (λ ρ env. too_long ρ (omega (arith, ap length (variable_bytes ρ), (env.stands v s at).0.long)))
 
         module _ (f : s.end - s.start ≤ limit - m) where
-          pub fill_copy : FillPre o m limit sp
-              → (s.start ≤ s.end) × (s.end ≤ length o) × (m + (s.end - s.start) ≤ length o) × Apart s.start s.end m
-          fill_copy h = let a = h.env.stands v s at in
-              (omega (arith, a.0.long), omega (arith, a.0.within), omega arith, apart_up s.start s.end m a.1)
-
-          module _ (o₁ : List ℕ) (cp : Copied o s.start (s.end - s.start) o o₁ m) where
+          module _ (o₁ : List ℕ) (long : length o₁ ≡ length o) (cp : o₁ ≡ copy_within o s.start s.end m) where
             kept_copy : Kept o o₁ m
-            kept_copy = record { long = cp.long; low = cp.low }
+            kept_copy = pasted_kept o o₁ (drop s.start o) m (s.end - s.start) cp (omega arith) long
 
             pub fill_bound_pre : FillPre o m limit sp → FillPre o₁ (m + (s.end - s.start)) limit sp
             fill_bound_pre q = record {
               ρ = q.ρ;
               env = env_kept o o₁ m sp q.ρ kept_copy q.env (m + (s.end - s.start)) (omega arith);
-              room = omega (arith, cp.long, q.room);
+              room = omega (arith, long, q.room);
             }
 
             pub fill_bound : (q : List ℕ) (r : Option ℕ) → FillPost rest o₁ (m + (s.end - s.start)) limit sp q r → Post q r
@@ -178,7 +167,7 @@ module _ (o : List ℕ) (m limit : ℕ) (sp : List Span) (room : (m ≤ limit) �
                 goes_on o₁ (m + (s.end - s.start))
                 (λ ρ env. (
                   subst (λ (xs : List ℕ). Spans o₁ m (m + (s.end - s.start)) xs) (sym (variable_bytes ρ))
-                      (copied_span (s.end - s.start) o o₁ m refl (env.stands v s at).0 cp (omega arith)),
+                      (let a = (env.stands v s at).0 in pasted_span o o₁ (drop s.start o) m (s.end - s.start) cp (omega arith) (span_part a) (omega (arith, a.long))),
                   rw (le-ltb b 5 (omega arith), lt-ltb (b - 5) (length ρ) (omega (arith, env.count))),
                 ))
                 kept_copy (omega arith) q r fp

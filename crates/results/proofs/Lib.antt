@@ -1,2 +1,3 @@
+pub mod SpanLaws
 pub mod FillTurns
 pub mod FitTypes

@@ -7,7 +7,7 @@ use Rattle.frame.specs.WellFormed.{TyWf}
 use Rattle.frame.specs.Spans.{Spans}
 use Rattle.typing.specs.Typing.{ty}
 use Rattle.type_rules.specs.Patterns.{all_bound, filled}
-use Rattle.results.specs.declared.bindings.Span.{Span}
+use Rattle.results.specs.declared.Span.{Span}
 
 -- given sets have two-byte numbers
 abbrev pub TysFit : List Ty → Type 0

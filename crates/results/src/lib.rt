@@ -1,18 +1,22 @@
 // The result of a typing rule: its pattern (type_rules/specs/Patterns.antt) filled with the types of the variables, 64 bytes at most.
 #![tactic(auto)]
 
-mod bindings; // bindings.rt: the variables that are bound
-
 ghost use Rattle.std.specs.Prelude.{◌+◌};
 ghost use Rattle.frame.specs.Reading.{type_limit};
 ghost use Rattle.type_rules.specs.CodeRules.{numbers};
 ghost use Rattle.results.specs.ResultPosts.{FillPre, FillPost};
 
-pub use bindings::{Bindings, Span};
-use copies::copy_within;
 use frame::limits::TYPE_LIMIT;
 use type_rules::Symbol;
 
+// Where a type stands in the buffer of types. Variables are bound in their order, so those that are bound are a row of spans.
+#[derive(Clone, Copy, Debug, Default, PartialEq, Eq)]
+pub struct Span {
+    pub start: usize,
+    pub end: usize,
+}
+
+// Kept: the buffer and places in it as parameters: the types of the variables stand below `start`, so a slice from there on would lack them.
 // The pattern with the types of its variables, written from `start` on and no further than to `limit`: where it ends, if it is no longer
 // and its variables are bound.
 fn fill_pattern(
@@ -20,7 +24,7 @@ fn fill_pattern(
     types: &mut [u8],
     start: usize,
     limit: usize,
-    bindings: &Bindings,
+    bindings: &[Span],
 ) -> Option<usize>
     requires { FillPre types.old start limit bindings.now }
     ensures { FillPost (numbers pattern.now) types.old start limit bindings.now types.new result }
@@ -31,16 +35,16 @@ fn fill_pattern(
             if limit <= m {
                 return None;
             }
-            types[m] = symbol.byte();
+            types[m] = u8::from(symbol);
             m += 1;
             continue;
         };
-        let span = bindings.get(variable)?;
+        let span = bindings.get(variable).copied()?;
         let len = span.end - span.start;
         if limit - m < len {
             return None;
         }
-        copy_within(types, span.start, span.end, m);
+        types.copy_within(span.start..span.end, m);
         m += len;
     }
     Some(m)
@@ -52,7 +56,7 @@ pub fn fill_result(
     pattern: &[Symbol],
     types: &mut [u8],
     n: usize,
-    bindings: &Bindings,
+    bindings: &[Span],
 ) -> Option<usize>
     requires { FillPre types.old n (n + type_limit) bindings.now }
     ensures { FillPost (numbers pattern.now) types.old n (n + type_limit) bindings.now types.new result }

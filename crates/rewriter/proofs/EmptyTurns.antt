@@ -15,7 +15,7 @@ use Rattle.rules.specs.EqualsEmptySet.{inter_empty, rewrite_equals_empty_set}
 use Rattle.rules.proofs.EmptyInstance.{joined_many}
 use Rattle.templates.proofs.Joins.{and_bytes}
 use Rattle.templates.proofs.RightSides.{side}
-use Rattle.decision.specs.Decides.{Here, Decides, Unlike}
+use Rattle.decision.specs.Decides.{Here, Decides, ByTag, Unlike}
 use Rattle.rewriter.specs.Inter.{InterPre, InterPost}
 use Rattle.decision.specs.RulesAt.{looked_up}
 use Rattle.decision.specs.declared.Decision.{Decision}
@@ -85,54 +85,55 @@ module _ (s st nx : List ℕ) (k tag : ℕ) (pt : TagPost s st k tag) where
         rw (o.is, or_same (inter_empty o.ks)) (post.means t n Γ o.n o.us o.ks tb (f ∙ ap (found Γ) o.is) w Ξ kept);
   }
 
-  -- no place of the source
-  pub empty_none : Unlike tag looked_up → Unlike tag (411 ∷ 410 ∷ 412 ∷ 403 ∷ 402 ∷ 305 ∷ 763 ∷ 757 ∷ 756 ∷ 754 ∷ 753 ∷ 752 ∷ 301 ∷ 5 ∷ [])
-      → Decides rewrite_equals_empty_set s st nx k None
-  unfolding on_tag rewrite_equals_empty_set
-  empty_none u v = by_rest rewrite_equals_empty_set s st nx k tag pt (λ Γ e. rest Γ e) None refl
-    where
-      rest : (Γ : Ctx) (e : Tree) → tag_of e ≡ tag → rewrite_equals_empty_set Γ e ≡ same
-      rest Γ (node (head o n us) ks) z = rw z (simp (
-        ne_eqb tag 5 v.0.0.0.0.0.0.0.0.0.0.0.0.0.1,
-        ne_eqb tag 302
-            u.0.0.0.0.0.0.0.0.0.0.0.0.0.0.0.1,
-        ne_eqb tag 301 v.0.0.0.0.0.0.0.0.0.0.0.0.1,
-        ne_eqb tag 213
-            u.0.0.0.0.0.0.0.0.0.0.0.0.0.0.1,
-        ne_eqb tag 214 u.0.0.0.0.0.0.0.0.0.0.0.0.0.1,
-        ne_eqb tag 221
-            u.0.0.0.0.0.0.0.0.0.0.0.0.1,
-        ne_eqb tag 204 u.0.0.0.0.0.0.0.0.0.0.0.1,
-        ne_eqb tag 205
-            u.0.0.0.0.0.0.0.0.0.0.1,
-        ne_eqb tag 217 u.0.0.0.0.0.0.0.0.0.1,
-        ne_eqb tag 218
-            u.0.0.0.0.0.0.0.0.1,
-        ne_eqb tag 219 u.0.0.0.0.0.0.0.1,
-        ne_eqb tag 220
-            u.0.0.0.0.0.0.1,
-        ne_eqb tag 227 u.0.0.0.0.0.1,
-        ne_eqb tag 215 u.0.0.0.0.1,
-        ne_eqb tag 216
-            u.0.0.0.1,
-        ne_eqb tag 752 v.0.0.0.0.0.0.0.0.0.0.0.1,
-        ne_eqb tag 753
-            v.0.0.0.0.0.0.0.0.0.0.1,
-        ne_eqb tag 754 v.0.0.0.0.0.0.0.0.0.1,
-        ne_eqb tag 756
-            v.0.0.0.0.0.0.0.0.1,
-        ne_eqb tag 757 v.0.0.0.0.0.0.0.1,
-        ne_eqb tag 763
-            v.0.0.0.0.0.0.1,
-        ne_eqb tag 304 u.0.0.1,
-        ne_eqb tag 303 u.0.1,
-        ne_eqb tag 305
-            v.0.0.0.0.0.1,
-        ne_eqb tag 801 u.1,
-        ne_eqb tag 402 v.0.0.0.0.1,
-        ne_eqb tag 403
-            v.0.0.0.1,
-        ne_eqb tag 412 v.0.0.1,
-        ne_eqb tag 410 v.0.1,
-        ne_eqb tag 411 v.1,
-      ))
+-- no place of the source
+pub empty_none : (k tag : ℕ) → Unlike tag looked_up → Unlike tag (411 ∷ 410 ∷ 412 ∷ 403 ∷ 402 ∷ 305 ∷ 763 ∷ 757 ∷ 756 ∷ 754 ∷ 753 ∷ 752 ∷ 301 ∷ 5 ∷ [])
+    → ByTag rewrite_equals_empty_set tag k None
+unfolding on_tag rewrite_equals_empty_set
+empty_none k tag u v =
+    record { decides = λ s st nx pt. by_rest rewrite_equals_empty_set s st nx k tag pt (λ Γ e. rest Γ e) None refl }
+  where
+    rest : (Γ : Ctx) (e : Tree) → tag_of e ≡ tag → rewrite_equals_empty_set Γ e ≡ same
+    rest Γ (node (head o n us) ks) z = rw z (simp (
+      ne_eqb tag 5 v.0.0.0.0.0.0.0.0.0.0.0.0.0.1,
+      ne_eqb tag 302
+          u.0.0.0.0.0.0.0.0.0.0.0.0.0.0.0.1,
+      ne_eqb tag 301 v.0.0.0.0.0.0.0.0.0.0.0.0.1,
+      ne_eqb tag 213
+          u.0.0.0.0.0.0.0.0.0.0.0.0.0.0.1,
+      ne_eqb tag 214 u.0.0.0.0.0.0.0.0.0.0.0.0.0.1,
+      ne_eqb tag 221
+          u.0.0.0.0.0.0.0.0.0.0.0.0.1,
+      ne_eqb tag 204 u.0.0.0.0.0.0.0.0.0.0.0.1,
+      ne_eqb tag 205
+          u.0.0.0.0.0.0.0.0.0.0.1,
+      ne_eqb tag 217 u.0.0.0.0.0.0.0.0.0.1,
+      ne_eqb tag 218
+          u.0.0.0.0.0.0.0.0.1,
+      ne_eqb tag 219 u.0.0.0.0.0.0.0.1,
+      ne_eqb tag 220
+          u.0.0.0.0.0.0.1,
+      ne_eqb tag 227 u.0.0.0.0.0.1,
+      ne_eqb tag 215 u.0.0.0.0.1,
+      ne_eqb tag 216
+          u.0.0.0.1,
+      ne_eqb tag 752 v.0.0.0.0.0.0.0.0.0.0.0.1,
+      ne_eqb tag 753
+          v.0.0.0.0.0.0.0.0.0.0.1,
+      ne_eqb tag 754 v.0.0.0.0.0.0.0.0.0.1,
+      ne_eqb tag 756
+          v.0.0.0.0.0.0.0.0.1,
+      ne_eqb tag 757 v.0.0.0.0.0.0.0.1,
+      ne_eqb tag 763
+          v.0.0.0.0.0.0.1,
+      ne_eqb tag 304 u.0.0.1,
+      ne_eqb tag 303 u.0.1,
+      ne_eqb tag 305
+          v.0.0.0.0.0.1,
+      ne_eqb tag 801 u.1,
+      ne_eqb tag 402 v.0.0.0.0.1,
+      ne_eqb tag 403
+          v.0.0.0.1,
+      ne_eqb tag 412 v.0.0.1,
+      ne_eqb tag 410 v.0.1,
+      ne_eqb tag 411 v.1,
+    ))

@@ -1,16 +1,16 @@
 -- The ways out of the functions of src/inter.rt.
--- Main results: minus_tag; inter_tree, inter_placed, inter_child, inter_few; any_done (any_minus); apart_none, apart_some, apart_other (apart_at);
+-- Main results: minus_tag; inter_tree, inter_placed, inter_child; any_done (any_minus); apart_none, apart_some, apart_other (apart_at);
 -- inter_apart, inter_within, inter_rests (decide_inter).
 use mathlib.Core.Path.{◌≡◌, refl, sym, ap, ◌∙◌}
 use mathlib.Core.Bool.{Bool, true, false, not, ◌||◌}
 use mathlib.Core.List.{List, []}
-use Prim.Native.Nat.{ℕ, suc, ◌+◌, ◌≤◌, ◌<◌}
+use Prim.Native.Nat.{ℕ, suc, ◌+◌, ◌<◌}
 use native.Mathlib.Omega.{arith}
 use lib.Dec.{eqb, eqb-suc-suc}
 use lib.ListN.{length, get_or}
 use borrow.Author.Tests.{ne_eqb, eqb-true}
 use Rattle.frame.specs.Types.{Ty}
-use Rattle.frame.specs.Trees.{head, Tree, node, Forest, nil, cons, count, tag_of, nodes, nodes_in, two, many, sole, append}
+use Rattle.frame.specs.Trees.{head, Tree, node, Forest, nil, cons, count, tag_of, two, many, sole, append}
 use Rattle.frame.specs.Tags.{pick, Sort, lookup, class_of, form_at}
 use Rattle.frame.specs.Operators.{#SetExt, #BInter, #BUnion, #SubsetEq}
 use Rattle.frame.specs.WellFormed.{Wf}
@@ -19,9 +19,10 @@ use Rattle.frame.proofs.Splices.{find_lt}
 use Rattle.std.specs.Prelude.{Some, None}
 use Rattle.std.specs.Bool.{MatchBool}
 use Rattle.std.specs.List.{HoldsAt, AllWithin}
-use Rattle.nav.specs.PlaceTables.{Table, Placed, InTree, TagPost, ArityPost, ChildrenOf, places_from, child_places}
+use Rattle.nav.specs.PlaceTables.{Table, Placed, InTree, TagPost, ArityPost, ChildrenOf}
 use Rattle.nav.proofs.ChildPlaces.{any_child, child_placed}
-use Rattle.nav.proofs.Hops.{Sorted, framed_few, place_sorted, place_end}
+use Rattle.decision.proofs.Shapes.{tree_placed}
+use Rattle.nav.proofs.Hops.{Sorted, place_sorted}
 use Rattle.rules.specs.Change.{to, same, when, joined}
 use Rattle.rules.specs.EqualsEmptySet.{
   Single,
@@ -69,14 +70,6 @@ minus_tag s st k tag post = record {
 }
 
 -- ---- the children of an ∩
-few_places : (ks : Forest) (c : ℕ) → length (places_from ks c) ≤ nodes_in ks
-unfolding nodes
-few_places nil c = omega arith
-few_places (cons w ks) c = let r = few_places ks (c + nodes w) in omega (arith, some_nodes w)
-  where
-    some_nodes : (w : Tree) → 0 < nodes w
-    some_nodes (node h ks) = omega arith
-
 module _ (s st nx : List ℕ) (k : ℕ) where
   pub inter_tree : InterPre s st nx k → InTree s st nx k
   inter_tree pre = record {
@@ -87,22 +80,12 @@ module _ (s st nx : List ℕ) (k : ℕ) where
   }
 
   pub inter_placed : InterPre s st nx k → Placed s st k
-  inter_placed pre = let p = inter_tree pre in record { t = p.t; n = p.n; framed = p.table.framed; below = p.below }
+  inter_placed pre = tree_placed (inter_tree pre)
 
   -- a child that a test comes to
   pub inter_child : InterPre s st nx k → (places : List ℕ) → ChildrenOf s st nx k places → (c i : ℕ) → i < length places → c ≡ get_or places i c
       → Placed s st c
-  inter_child pre places post c i h e =
-      let p = child_placed s st nx k (inter_tree pre) places post c i h e in
-      record { t = p.t; n = p.n; framed = p.table.framed; below = p.below }
-
-  pub inter_few : InterPre s st nx k → (places : List ℕ) → ChildrenOf s st nx k places → length places ≤ 2048
-  unfolding nodes
-  inter_few pre places post =
-      let v : Tree = node (head 302 pre.x pre.us) pre.ks in
-      let z : length places ≡ length (child_places v k) = ap length (post.are pre.t pre.n pre.Γ v pre.table pre.there) in
-      let e = place_end pre.t [] k pre.Γ v pre.there in
-      omega (arith, few_places pre.ks (k + 1), framed_few s pre.t st pre.n pre.table.framed)
+  inter_child pre places post c i h e = tree_placed (child_placed s st nx k (inter_tree pre) places post c i h e)
 
   pub any_done : (places : List ℕ) → ChildrenOf s st nx k places → (r : Bool)
       → MatchBool r ((i : ℕ) × (i < length places) × HoldsAt (λ c. MinusPost s st c true) places i)

@@ -101,8 +101,9 @@ module _ (s st nx : List ℕ) (k tag : ℕ) (pt : TagPost s st k tag) where
   unfolding simplify_predicate_node on_tag
   to_exists key = by_tag s st nx k tag pt 852 key (λ Γ. simplify_predicate_node) exists_of (λ Γ n us ks. refl)
 
-  pub to_none : Unlike tag logical → DecidesOne simplify_predicate_node s st nx k None
-  to_none u = by_rest (λ Γ. simplify_predicate_node) s st nx k tag pt (λ Γ. at_none tag u) None refl
+  pub to_none : Unlike tag logical → (lent : List KeptChild) → NodePost s st nx k lent None
+  to_none u lent =
+      into _ s st nx k lent None (by_rest (λ Γ. simplify_predicate_node) s st nx k tag pt (λ Γ. at_none tag u) None refl)
 
   -- at its child
   pub to_not : tag ≡ 701 → (r : Option Decision) → DecidesOne simplify_not s st nx (k + 1) r → DecidesOne simplify_predicate_node s st nx k r

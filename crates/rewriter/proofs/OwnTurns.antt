@@ -1,7 +1,8 @@
 -- The ways out of src/equals/own_type.rt.
--- Main results: name_read, name_done (is_given_at); name_here and out_bool to out_both (own_type_at).
+-- Main results: name_read, name_done (is_given_at); name_here and out_atom to out_both (own_type_at).
 use mathlib.Core.Path.{◌≡◌, refl, sym, ap, ◌∙◌}
 use mathlib.Core.Bool.{Bool, true, false, ◌&&◌}
+use mathlib.Core.Logic.{◌⊎◌, inl, inr, ⊎_elim}
 use mathlib.Core.List.{List, [], ◌∷◌, ◌++◌}
 use Prim.Native.Nat.{ℕ, ◌+◌, ◌≤◌, ◌<◌}
 use native.Mathlib.Omega.{arith}
@@ -132,13 +133,9 @@ module _ (s st nx : List ℕ) (k tag : ℕ) (pt : TagPost s st k tag) where
         rw (o.is, plain g pl o.n o.us nil (formed_as g key tb f _ o.is)) (sym (own Γ));
   }
 
-  pub out_bool : tag ≡ 404 → OwnTypePost s st nx k true
+  pub out_atom : (tag ≡ 401) ⊎ (tag ≡ 404) → OwnTypePost s st nx k true
   unfolding lookup class_of form_at
-  out_bool = out_named 404 (λ x. refl) (λ x. (refl, refl)) own_bool
-
-  pub out_int : tag ≡ 401 → OwnTypePost s st nx k true
-  unfolding lookup class_of form_at
-  out_int = out_named 401 (λ x. refl) (λ x. (refl, refl)) own_int
+  out_atom = ⊎_elim (out_named 401 (λ x. refl) (λ x. (refl, refl)) own_int) (out_named 404 (λ x. refl) (λ x. (refl, refl)) own_bool)
 
   pub name_here : tag ≡ 1 → Here s st nx k → NamePre s st k
   name_here key h = record {
@@ -164,11 +161,11 @@ module _ (s st nx : List ℕ) (k tag : ℕ) (pt : TagPost s st k tag) where
         (p.says t n Γ o.a tb c ∙ sym (own_pow o.a Γ));
   }
 
-  pub out_other : (tag ≡ 404 → ⊥) → (tag ≡ 401 → ⊥) → (tag ≡ 1 → ⊥) → (tag ≡ 752 → ⊥) → (tag ≡ 214 → ⊥) → OwnTypePost s st nx k false
-  out_other b i c p q = record {
+  pub out_other : ((tag ≡ 401) ⊎ (tag ≡ 404) → ⊥) → (tag ≡ 1 → ⊥) → (tag ≡ 752 → ⊥) → (tag ≡ 214 → ⊥) → OwnTypePost s st nx k false
+  out_other a c p q = record {
     says = λ t n Γ v tb f.
         let z : tag ≡ tag_of v = pt.tag t n Γ v tb.framed f in
-        sym (own_other v Γ (λ e. b (z ∙ e)) (λ e. i (z ∙ e)) (λ e. c (z ∙ e)) (λ e. p (z ∙ e)) (λ e. q (z ∙ e)));
+        sym (own_other v Γ (λ e. a (inr (z ∙ e))) (λ e. a (inl (z ∙ e))) (λ e. c (z ∙ e)) (λ e. p (z ∙ e)) (λ e. q (z ∙ e)));
   }
 
   -- a product by what its operands are

@@ -1,6 +1,5 @@
 -- The ways out of src/equals/equality.rt.
 use mathlib.Core.Path.{◌≡◌, sym, ◌∙◌}
-use mathlib.Core.Bool.{Bool, true, false}
 use mathlib.Core.List.{List}
 use Prim.Native.Nat.{ℕ}
 use borrow.Author.Tests.{eq-eqb, ne_eqb}
@@ -10,10 +9,8 @@ use Rattle.frame.specs.Places.{Ctx}
 use Rattle.nav.specs.PlaceTables.{TagPost}
 use Rattle.rules.specs.Change.{Change, ◌or_else◌}
 use Rattle.rules.specs.EqualsEmptySet.{rewrite_equals_empty_set}
-use Rattle.rules.specs.EqualsType.{rewrite_equals_type}
 use Rattle.rules.specs.Dispatch.{empty_rules, equal_rules, subset_rules}
 use Rattle.decision.specs.Decides.{Decides, DecidesPair}
-use Rattle.rewriter.specs.OwnType.{OwnTypePost}
 use Rattle.decision.specs.RulesAt.{type_right}
 use Rattle.decision.specs.declared.Decision.{Decision}
 use Rattle.decision.proofs.Bridges.{or_assoc}
@@ -28,9 +25,6 @@ module _ (s st nx : List ℕ) (a b right : ℕ) (pr : TagPost s st b right) wher
   }
 
   -- ---- ⊆
-  pub within_none : (right ≡ 407 → ⊥) → DecidesPair subset_rules s st nx a b None
-  within_none h = record { means = λ t n Γ v w tb fa fb x Ξ kept. rw (ne_eqb (tag_of w) 407 (λ z. h (pr.tag t n Γ w tb.framed fb ∙ z))) }
-
   pub within_empty : right ≡ 407 → (r : Option Decision) → Decides rewrite_equals_empty_set s st nx a r → DecidesPair subset_rules s st nx a b r
   within_empty = on_empty subset_rules (λ Γ v w z. rw (eq-eqb (tag_of w) 407 z))
 
@@ -56,28 +50,17 @@ module _ (s st nx : List ℕ) (a b right : ℕ) (pr : TagPost s st b right) wher
           );
     }
 
--- ---- =, the type rules
-module _ (s st nx : List ℕ) (a b : ℕ) where
-  module _ (own : Bool) (po : OwnTypePost s st nx b own) where
-    pub type_right_lem : own ≡ true → (r : Option Decision) → Decides rewrite_equals_type s st nx a r → DecidesPair type_right s st nx a b r
-    type_right_lem z r p = record {
-      means = λ t n Γ v w tb fa fb x Ξ kept. rw (sym (po.says t n Γ w tb fb) ∙ z) (p.means t n Γ v tb fa x Ξ kept);
-    }
-
-    pub type_none : own ≡ false → DecidesPair type_right s st nx a b None
-    type_none z = record { means = λ t n Γ v w tb fa fb x Ξ kept. rw (sym (po.says t n Γ w tb fb) ∙ z) }
-
-  -- ---- =, all of them
-  module _ (d : Option Decision) (pd : DecidesPair empty_rules s st nx a b d) (e : Option Decision)
-      (pe : MatchOption d (DecidesPair type_right s st nx a b e) (λ y. e ≡ Some y)) where
-    pub equal_series : (r : Option Decision) → MatchOption e (DecidesPair type_right s st nx b a r) (λ y. r ≡ Some y) → DecidesPair equal_rules s st nx a b r
-    equal_series r pr =
-        let two = series s st nx a b empty_rules type_right d pd e pe in
-        let all = series s st nx a b (λ Γ v w. empty_rules Γ v w or_else type_right Γ v w) (λ Γ v w. type_right Γ w v) e two r (left e r pr) in
-        same_rule s st nx a b (λ Γ v w. (empty_rules Γ v w or_else type_right Γ v w) or_else type_right Γ w v) equal_rules
-        (λ Γ v w. sym (or_assoc (empty_rules Γ v w) (type_right Γ v w) (type_right Γ w v))) r all
-      where
-        left : (e r : Option Decision) → MatchOption e (DecidesPair type_right s st nx b a r) (λ y. r ≡ Some y)
-            → MatchOption e (DecidesPair (λ Γ v w. type_right Γ w v) s st nx a b r) (λ y. r ≡ Some y)
-        left None r p = turned s st nx a b type_right r p
-        left (Some y) r p = p
+-- ---- =, all of them
+module _ (s st nx : List ℕ) (a b : ℕ) (d : Option Decision) (pd : DecidesPair empty_rules s st nx a b d) (e : Option Decision)
+    (pe : MatchOption d (DecidesPair type_right s st nx a b e) (λ y. e ≡ Some y)) where
+  pub equal_series : (r : Option Decision) → MatchOption e (DecidesPair type_right s st nx b a r) (λ y. r ≡ Some y) → DecidesPair equal_rules s st nx a b r
+  equal_series r pr =
+      let two = series s st nx a b empty_rules type_right d pd e pe in
+      let all = series s st nx a b (λ Γ v w. empty_rules Γ v w or_else type_right Γ v w) (λ Γ v w. type_right Γ w v) e two r (left e r pr) in
+      same_rule s st nx a b (λ Γ v w. (empty_rules Γ v w or_else type_right Γ v w) or_else type_right Γ w v) equal_rules
+      (λ Γ v w. sym (or_assoc (empty_rules Γ v w) (type_right Γ v w) (type_right Γ w v))) r all
+    where
+      left : (e r : Option Decision) → MatchOption e (DecidesPair type_right s st nx b a r) (λ y. r ≡ Some y)
+          → MatchOption e (DecidesPair (λ Γ v w. type_right Γ w v) s st nx a b r) (λ y. r ≡ Some y)
+      left None r p = turned s st nx a b type_right r p
+      left (Some y) r p = p

@@ -1,9 +1,9 @@
 -- The ways out of the functions of src/inter/singles.rt.
--- Main results: single_no, single_arity; one_more, count_first, count_child, count_next, count_end (count_singles); first_done (first_single).
+-- Main results: single_no, single_arity; count_done (count_singles); first_done (first_single).
 use mathlib.Core.Path.{◌≡◌, refl, sym, ap, ◌∙◌}
 use mathlib.Core.Bool.{Bool, true, false}
 use mathlib.Core.List.{List, [], ◌∷◌}
-use Prim.Native.Nat.{ℕ, suc, ◌+◌, ◌≤◌, ◌<◌}
+use Prim.Native.Nat.{ℕ, suc, ◌+◌, ◌<◌}
 use native.Mathlib.Omega.{arith}
 use lib.Dec.{eqb}
 use lib.ListN.{length}
@@ -16,12 +16,14 @@ use Rattle.std.specs.Prelude.{Option, Some, None, MatchOption}
 use Rattle.std.specs.Int.{from_bool}
 use Rattle.std.specs.List.{HoldsAt, AllWithin}
 use Rattle.frame.specs.Places.{Ctx, under, found, find}
-use Rattle.nav.specs.PlaceTables.{arity, Table, Placed, TagPost, ArityPost, ChildrenOf}
+use Rattle.nav.specs.declared.Places.{Places}
+use Rattle.nav.specs.PlaceTables.{arity, Table, TagPost, ArityPost, ChildrenOf}
+use Rattle.nav.specs.AtPlaces.{CountedAt}
 use Rattle.nav.proofs.Hops.{Sorted, place_sorted}
 use Rattle.rules.specs.EqualsEmptySet.{none, is_single, single_of, sole_of, any_single}
 use Rattle.nav.proofs.ChildPlaces.{FirstChild, first_child}
-use Rattle.decision.proofs.ChildWalks.{Lefts, walk_first, walk_placed, walk_next, walk_end}
-use Rattle.rewriter.specs.Inter.{InterPre, SinglePost, count_singles, CountPost, SingleAt, FirstPost}
+use Rattle.nav.proofs.CountTurns.{counted_children}
+use Rattle.rewriter.specs.Inter.{SinglePost, count_singles, CountPost, SingleAt, FirstPost}
 
 -- ---- a set of one member
 not_single : (v : Tree) → (tag_of v ≡ 5 → ⊥) → false ≡ is_single (single_of v)
@@ -64,42 +66,22 @@ single_shape (node (head g n us) ks) o q = go (eqb g 5) refl q
         (r.0, ap (λ (i : ℕ). node (head i n us) ks) z ∙ r.1)
     go false h p = let z : ◌≡◌ {A = ℕ} 0 1 = cc in absurd (omega arith)
 
--- a test as a number, and one place fewer to go
-pub one_more : (b : Bool) (r : ℕ) → r ≡ from_bool b → (places : List ℕ) (c : ℕ) (more : List ℕ) → places ≡ c ∷ more
-    → (r ≤ 1) × (length places ≡ suc (length more))
-one_more true r e places c more z = (omega arith, ap length z)
-one_more false r e places c more z = (omega arith, ap length z)
+-- ---- how many there are
+as_number : (b : Bool) → from_bool b ≡ pick b 1 0
+as_number true = refl
+as_number false = refl
 
-as_number : (b : Bool) (r : ℕ) → r ≡ from_bool b → r ≡ pick b 1 0
-as_number true r e = e
-as_number false r e = e
-
--- ---- what the loop over the children of the node at place k keeps: m are behind
-abbrev pub Counts : ℕ → Forest → ℕ → Forest → Type 0
-Counts m ks c rest = count_singles ks ≡ m + count_singles rest
+pub count_done : (p : Places) (k : ℕ) (gives : ℕ → Bool → Type 0) → ((c : ℕ) (b : Bool) → gives c b → SinglePost p.bytes.now p.starts.now c b) → (m : ℕ)
+    → CountedAt gives p k m → CountPost p.bytes.now p.starts.now p.nexts.now k m
+unfolding count_singles
+count_done p k gives known m h = record {
+  counted = λ t n Γ g x us ks tb f.
+      counted_children gives t count_singles refl
+      (λ c Θ w fw b a ls. ap (λ (i : ℕ). i + count_singles ls) (sym (as_number b ∙ ap (λ (o : Bool). pick o 1 0) ((known c b a).single t n Θ w tb.framed fw))))
+      p n tb k Γ g x us ks f m h;
+}
 
 module _ (s st nx : List ℕ) (k : ℕ) where
-  -- ---- how many there are
-  pub count_first : (places : List ℕ) → ChildrenOf s st nx k places → Lefts s st nx k (Counts 0) places
-  count_first = walk_first s st nx k (Counts 0) (λ ks. omega arith)
-
-  module _ (m : ℕ) (places : List ℕ) (ls : Lefts s st nx k (Counts m) places) where
-    pub count_next : (c : ℕ) (more : List ℕ) → places ≡ c ∷ more → (o : Bool) → SinglePost s st c o → (a : ℕ) → a ≡ from_bool o
-        → Lefts s st nx k (Counts (m + a)) more
-    unfolding count_singles
-    count_next c more e o post a ea =
-        walk_next s st nx k (Counts m) places ls c more e (λ w. o ≡ is_single (single_of w)) (λ t n Γ v tb f. post.single t n Γ v tb.framed f)
-        (Counts (m + a))
-        (λ ks w others e p. let z : a ≡ pick (is_single (single_of w)) 1 0 = as_number o a ea ∙ ap (λ (b : Bool). pick b 1 0) e in omega arith)
-
-    pub count_child : (c : ℕ) (more : List ℕ) → places ≡ c ∷ more → InterPre s st nx k → Placed s st c
-    count_child c more e pre =
-        (walk_placed s st nx k (Counts m) places ls c more e pre.t pre.n pre.Γ 302 pre.x pre.us pre.ks pre.table pre.there).0
-
-    pub count_end : places ≡ [] → CountPost s st nx k m
-    unfolding count_singles
-    count_end h = record { counted = walk_end s st nx k (Counts m) places ls h (λ ks. m ≡ count_singles ks) (λ ks c p. omega arith) }
-
   -- ---- where the first is
   pub first_done : (places : List ℕ) → ChildrenOf s st nx k places → (r : Option ℕ)
       → MatchOption r (AllWithin (λ c. SinglePost s st c false) places 0 (length places))

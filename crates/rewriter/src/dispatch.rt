@@ -7,9 +7,10 @@ use frame::operators::{EQUAL, FINITE, NOT, PARTITION, SUBSETEQ};
 use nav::Places;
 
 // What the rules decide at place k. The places of the children that an ∧ or an ∨ keeps go into the lent list.
+// Kept: no `or_else`: tried in `equal_at` (equals/equality.rt), where the proof knows nothing of a closure's answer.
 pub fn decide(places: &Places<'_>, k: usize, kept: &mut Kept) -> Option<Decision>
     requires { HereAt places.now k }
-    ensures { DispatchAt places.now k kept.new result }
+    ensures { DispatchAt places.now k kept.new.items result }
 {
     if let Some(logic) = crate::node::simplify_predicate_node(places, k, kept) {
         return Some(logic);

@@ -1,5 +1,5 @@
 // A set equated to the type expression of its elements (24 to 35), or to ∅ (36 to 61): the set's tag says the place.
-// Where the tag alone says the operands (the node, its children, or none), nothing else of the set is read.
+// `empty_by_tag` has the tags that say the operands too (the node, its children, or none), and reads nothing of the set.
 pub mod own_type; // own_type.rt: an expression that is a type
 pub mod equality; // equality.rt: which of the rules = and ⊆ go to
 
@@ -20,6 +20,7 @@ use frame::operators::{
 use nav::Places;
 
 // The set at place k equals the type expression of its elements.
+#[tactic(auto, using(crate::proofs::TypeTurns::type_none))]
 pub fn rewrite_equals_type(places: &Places<'_>, k: usize) -> Option<Decision>
     requires { HereAt places.now k }
     ensures { DecidesAt rewrite_equals_type places.now k result }
@@ -36,8 +37,7 @@ pub fn rewrite_equals_type(places: &Places<'_>, k: usize) -> Option<Decision>
         DOMSUB => fixed(29, a, b, k),
         RANRES => fixed(30, a, b, k),
         RANSUB => fixed(31, a, b, k),
-        DPROD => fixed(32, a, b, k),
-        PPROD => fixed(32, a, b, k),
+        DPROD | PPROD => fixed(32, a, b, k),
         KINTER => fixed(33, a, a, k),
         CONVERSE => fixed(34, a, a, k),
         QINTER => fixed(35, a, b, k),
@@ -46,6 +46,7 @@ pub fn rewrite_equals_type(places: &Places<'_>, k: usize) -> Option<Decision>
 }
 
 // The set equals ∅, of a tag that says the place and the operands by itself: they are the node, its children, or none.
+#[tactic(auto, using(crate::proofs::EmptyTurns::empty_none))]
 fn empty_by_tag(tag: usize, k: usize) -> Option<Decision>
     requires { (k < 2048) × Unlike tag looked_up }
     ensures { ByTag rewrite_equals_empty_set tag k result }
@@ -57,15 +58,10 @@ fn empty_by_tag(tag: usize, k: usize) -> Option<Decision>
         POW => fixed(52, a, a, k),
         POW1 => fixed(53, a, a, k),
         KUNION => fixed(54, a, a, k),
-        KDOM => fixed(55, a, a, k),
-        KRAN => fixed(55, a, a, k),
-        CONVERSE => fixed(55, a, a, k),
+        KDOM | KRAN | CONVERSE => fixed(55, a, a, k),
         OVR => decision::operands::each(58, k),
-        NATURAL => fixed(60, k, k, k),
-        NATURAL1 => fixed(60, k, k, k),
-        KID_GEN => fixed(61, k, k, k),
-        KPRJ1_GEN => fixed(61, k, k, k),
-        KPRJ2_GEN => fixed(61, k, k, k),
+        NATURAL | NATURAL1 => fixed(60, k, k, k),
+        KID_GEN | KPRJ1_GEN | KPRJ2_GEN => fixed(61, k, k, k),
         _ => None,
     }
 }

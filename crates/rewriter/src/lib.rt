@@ -1,4 +1,5 @@
 // The rules in code: which place of the source answers at a node, and on which operands.
+// Kept: that trees stand at the places is a clause of each function; nav/src/lib.rt says why it is no field of a `Places`.
 #![tactic(auto)]
 
 mod equals; // equals.rt: a set equated to ∅ or to its type

@@ -13,6 +13,7 @@ pub enum Ending {
 }
 
 // How a run ended. `specs/Run.antt` gives document 01's word and values (`run_answer`).
+// Kept: the length of the last frame and no slice of it: the output is the caller's, as in the C interface.
 #[derive(Clone, Copy, Debug, PartialEq, Eq)]
 pub struct Run {
     pub ending: Ending,

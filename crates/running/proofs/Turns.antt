@@ -1,16 +1,14 @@
 -- The ways out of rounds and run of src/lib.rt, on plain values.
 -- Main results: Going, going_starts, going_first, going_ends, going_less, going_on; run_refused, run_starts, run_done.
 use mathlib.Core.Path.{◌≡◌, refl, sym, ap, ap₂, ◌∙◌, subst}
-use mathlib.Core.Bool.{Bool, true, false}
+use mathlib.Core.Bool.{Bool}
 use mathlib.Core.List.{List, ◌++◌}
 use Prim.Native.Nat.{ℕ, ◌≤◌, ◌<◌}
 use native.Mathlib.Omega.{arith}
 use lib.ListN.{length, take, drop}
 use lib.Seq.{length-take-le}
 use borrow.Author.Tests.{le-ltb}
-use Rattle.std.proofs.Common.{Option, Some, None, Result, Ok, Err, Bor}
-use Rattle.std.specs.Prelude.{option_copied}
-use Rattle.std.specs.Bool.{then_some}
+use Rattle.std.proofs.Common.{Option, Some, None, Result, Ok, Err}
 use Rattle.frame.specs.declared.refusals.Refusal.{Refusal}
 use Rattle.frame.proofs.RefusalNumbers.{numbered}
 use Rattle.frame.specs.Trees.{Tree}
@@ -34,11 +32,6 @@ use Rattle.running.specs.Posts.{AtTree, RoundsPre, RunEnded, RoundsPost}
 at_checks : (x : At) (t : Tree) → AtTree x t → check x.frame ≡ accepted t
 at_checks x t a = ap check a.bytes ∙ check_back a.σ t a.accepted (omega (arith, ap length a.bytes, a.fits))
 
--- what a shared reference shows
-pub shown : {A : Type 0} (b : Bool) (r : Bor A) (x : Option (Bor A)) → x ≡ then_some b r → option_copied x ≡ then_some b r.now
-shown true r x e = ap option_copied e
-shown false r x e = ap option_copied e
-
 module _ (o : At) where
   -- the run goes on from x
   pub record Going (x : At) : Type 0 where
@@ -51,10 +44,9 @@ module _ (o : At) where
     pub going_first : FirstPre x.frame
     going_first = let u = g.goes p.0 p.1 in (u.0, at_checks x u.0 u.1.0)
 
-    module _ (q : Option (List ℕ)) (b : Bool) (pf : FirstPost x.frame q b) (y : Option (Option (List ℕ)))
-        (e : y ≡ then_some b q) (z : At) (r : Option Ending) (pt : TurnPost y x z r) where
+    module _ (q : Option (Option (List ℕ))) (pf : FirstPost x.frame q) (z : At) (r : Option Ending) (pt : TurnPost q x z r) where
       follows : (u : Tree) → AtTree x u → Follows u x z r
-      follows u a = pt.follows u (rw e (pf.gives u (at_checks x u a)))
+      follows u a = pt.follows u (pf.gives u (at_checks x u a))
 
       pub going_ends : (i : Ending) → r ≡ Some i → RoundsPost o z i
       going_ends i h = record {

@@ -8,6 +8,7 @@ ghost use Rattle.run.specs.Run.{run as ran, run_answer, run_output};
 ghost use Rattle.running.specs.Posts.{RoundsPre, RoundsPost};
 
 use crate::searching::first_step;
+use decision::kept::Kept;
 use frame::refusals::Refusal;
 use output::admit;
 use put::Writer;
@@ -19,12 +20,20 @@ fn rounds(progress: &mut Progress) -> Ending
     requires { RoundsPre progress.old }
     ensures { RoundsPost progress.old progress.new result }
 {
-    let mut writer = Writer::new();
     let mut leaves = [0u16; 2048];
     let mut table = [0u16; 2048];
+    let mut kept = Kept::new();
+    let mut writer = Writer::new();
+    // Kept: a loop, since a turn tells that the run has ended: a `for` over the turns that the budget allows would end in a case that can't be.
     loop {
-        let found = first_step(progress.frame(), &mut leaves, &mut table, &mut writer);
-        if let Some(ending) = progress.turn(found.then_some(&writer)) {
+        let next = first_step(
+            progress.frame(),
+            &mut leaves,
+            &mut table,
+            &mut kept,
+            &mut writer,
+        );
+        if let Some(ending) = progress.turn(next) {
             return ending;
         }
     }

@@ -1,5 +1,5 @@
 // The first place in prefix order where a rule applies, and the frame after a step there.
-ghost use Rattle.std.specs.Prelude.{◌≡◌, length};
+ghost use Rattle.std.specs.Prelude.{option_copied};
 ghost use Rattle.decision.specs.AtPlaces.{HereAt};
 ghost use Rattle.running.specs.SearchPosts.{AtPost, SearchPre, SearchPost, FirstPre, FirstPost};
 
@@ -9,12 +9,13 @@ use decision::Decision;
 use decision::kept::Kept;
 use nav::{Places, nexts};
 use put::Writer;
+use reading::Frame;
 use rewriter::dispatch::decide;
 
 // What the rules decide at place k; at an expression, nothing.
 fn decide_at(places: &Places<'_>, k: usize, kept: &mut Kept) -> Option<Decision>
     requires { HereAt places.now k }
-    ensures { AtPost places.now k kept.new result }
+    ensures { AtPost places.now k kept.new.items result }
 {
     if places.is_expression_at(k) {
         return None;
@@ -22,36 +23,39 @@ fn decide_at(places: &Places<'_>, k: usize, kept: &mut Kept) -> Option<Decision>
     decide(places, k, kept)
 }
 
-// Whether a rule applies anywhere. The frame after a step at the first such place in prefix order goes to the writer.
-fn search(places: &Places<'_>, out: &mut Writer) -> bool
+// The first place in prefix order where a rule applies, and what is decided there. What is kept there is then in the lent list.
+fn search(places: &Places<'_>, kept: &mut Kept) -> Option<(usize, Decision)>
     requires { SearchPre places.now }
-    ensures { SearchPost places.now out.new result }
+    ensures { SearchPost places.now kept.new.items result }
 {
-    let mut kept = Kept::new();
     for k in 0..places.count {
-        if let Some(decision) = decide_at(places, k, &mut kept) {
-            splice(places, k, &kept, decision, out);
-            return true;
+        if let Some(decision) = decide_at(places, k, kept) {
+            return Some((k, decision));
         }
     }
-    false
+    None
 }
 
-// The first step of an accepted frame, in the same way. What was accepted once stays accepted from step to step: so the frame is read
-// again, but neither its names nor its types are checked again. The tables are lent, whatever they hold, so that a run clears them once.
-pub fn first_step(
+// The frame after the first step of an accepted frame, in the same way as a step gives it; `None` where no rule applies. What was
+// accepted once stays accepted from step to step: so the frame is read again, but neither its names nor its types are checked again.
+// The tables, the list and the writer are lent, whatever they hold, so that a run clears them once.
+// Kept: four lent buffers and no struct of them, which `rounds` alone would make, once.
+pub fn first_step<'a>(
     frame: &[u8],
     leaves: &mut [u16; 2048],
     table: &mut [u16; 2048],
-    out: &mut Writer,
-) -> bool
-    requires { FirstPre frame.now × (length leaves.old ≡ 2048) × (length table.old ≡ 2048) }
-    ensures { FirstPost frame.now out.new result × (length leaves.new ≡ 2048) × (length table.new ≡ 2048) }
+    kept: &mut Kept,
+    writer: &'a mut Writer,
+) -> Option<&'a Writer>
+    requires { FirstPre frame.now }
+    ensures { FirstPost frame.now (option_copied result) }
 {
-    let read = reading::read_again(frame);
+    let known = Frame::new(frame);
+    let read = reading::read_again(&known);
     // an accepted frame is closed: only the table is wanted
-    binding_ok(frame, leaves);
+    binding_ok(&known, leaves);
     nexts(frame, read.nodes, &read.starts, table);
+    // Kept: a literal, here and in `stepping`: a function that makes it would take the same five.
     let places = Places {
         bytes: frame,
         count: read.nodes,
@@ -59,5 +63,7 @@ pub fn first_step(
         nexts: table,
         leaves: leaves,
     };
-    search(&places, out)
+    let (k, decision) = search(&places, kept)?;
+    splice(&places, k, kept, decision, writer);
+    Some(writer)
 }

@@ -21,6 +21,7 @@ fn same_heads(s: &[u8], a: usize, b: usize) -> Option<(usize, usize, usize)>
     if s[a + 1] != s[b + 1] {
         return None;
     }
+    // Kept: a length and `!=`: `starts_with` goes from element to element, and was slower where it was tried (patterns/src/lib.rt).
     let h = known_head(s, a);
     let n = h.children - a;
     if s.len() - b < n {

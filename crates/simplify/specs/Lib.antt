@@ -1,1 +1,1 @@
-pub mod Prints
+pub mod Feeding

@@ -2,9 +2,9 @@
 // prints the answer word, the count of steps and the last frame, or REFUSED and the number.
 #![tactic(auto)]
 
-mod session; // session.rt: from the input to the output
+mod stream; // stream.rt: from the input to the output
 
-use crate::session::answer_input;
+use crate::stream::answer_input;
 
 fn main(rt: HostRuntime) {
     let mut input = rt.stdin();

@@ -15,8 +15,8 @@ use Rattle.tags.proofs.FormTables.{expression_not, predicate_is}
 use Rattle.frame.specs.Encoding.{enc}
 use Rattle.frame.specs.Reading.{parse}
 use Rattle.frame.specs.Spans.{Bytes}
-use Rattle.frame.specs.Places.{Ctx, found, find, replace}
-use Rattle.frame.proofs.Splices.{find_some, find_none}
+use Rattle.frame.specs.Places.{find, replace}
+use Rattle.frame.proofs.Splices.{Stands, find_some, find_none}
 use Rattle.typing.specs.Check.{accepted, check, check_answer}
 use Rattle.typing.proofs.Checked.{check_accepts}
 use Rattle.typing.proofs.Answers.{accepted_is, refused_is}
@@ -68,45 +68,45 @@ module _ (p : Places) (h : HeldPre p) (k : ℕ) (o : List ℕ) where
     held_placed = record { t = h.t; n = p.count; framed = h.table.framed; below = below }
 
     -- what stands there
-    here : (Γ : Ctx) × ((v : Tree) × (find h.t [] k ≡ found Γ v))
-    here = let v = find_some h.t [] k below in (v.0, (v.1, v.2))
+    here : Stands (find h.t [] k)
+    here = find_some h.t [] k below
 
     pub held_decide : HereAt p k
-    held_decide = record { t = h.t; n = p.count; table = h.table; Γ = here.0; v = here.1.0; there = here.1.1 }
+    held_decide = record { t = h.t; n = p.count; table = h.table; Γ = here.0; v = here.1; there = here.2 }
 
     module _ (b : Bool) (pb : SortAt p k b) where
-      sort_here : b ≡ is_expression (sort_of here.1.0)
-      sort_here = pb.sort h.t p.count here.0 here.1.0 h.table.framed here.1.1
+      sort_here : b ≡ is_expression (sort_of here.1)
+      sort_here = pb.sort h.t p.count here.0 here.1 h.table.framed here.2
 
       pub held_expression : b ≡ true → StepPost p.bytes.now k o o (Err NoPlace)
       held_expression e =
-          no_place_lem (step_expression h.t k here.0 here.1.0 here.1.1 (expression_not (sort_of here.1.0) (sym sort_here ∙ e)))
+          no_place_lem (step_expression h.t k here.0 here.1 here.2 (expression_not (sort_of here.1) (sym sort_here ∙ e)))
 
       module _ (e : b ≡ false) where
-        is_pred : is_predicate here.1.0 ≡ true
-        is_pred = predicate_is (sort_of here.1.0) (sym sort_here ∙ e)
+        is_pred : is_predicate here.1 ≡ true
+        is_pred = predicate_is (sort_of here.1) (sym sort_here ∙ e)
 
         module _ (kp : List KeptChild) (r : Option Decision) (pr : DispatchAt p k kp r) where
-          means : Means h.t here.1.0 here.0 (places_of kp) r (dispatch here.0 here.1.0)
-          means = pr.means h.t p.count here.0 here.1.0 h.table here.1.1
+          means : Means h.t here.1 here.0 (places_of kp) r (dispatch here.0 here.1)
+          means = pr.means h.t p.count here.0 here.1 h.table here.2
 
           pub held_rests : r ≡ None → StepPost p.bytes.now k o o (Ok Unchanged)
           held_rests z =
-              let c : dispatch here.0 here.1.0 ≡ same = subst (λ (x : Option Decision). Means h.t here.1.0 here.0 (places_of kp) x (dispatch here.0 here.1.0)) z means in
-              ends kept (stepped ∙ ap (outcome_of (length o)) (step_predicate h.t k here.0 here.1.0 here.1.1 is_pred same c)) o refl
+              let c : dispatch here.0 here.1 ≡ same = rw z at means in
+              ends kept (stepped ∙ ap (outcome_of (length o)) (step_predicate h.t k here.0 here.1 here.2 is_pred same c)) o refl
 
           module _ (d : Decision) (z : r ≡ Some d) where
-            stands : StandsFor h.t here.1.0 here.0 (places_of kp) d (dispatch here.0 here.1.0)
-            stands = subst (λ (x : Option Decision). Means h.t here.1.0 here.0 (places_of kp) x (dispatch here.0 here.1.0)) z means
+            stands : StandsFor h.t here.1 here.0 (places_of kp) d (dispatch here.0 here.1)
+            stands = rw z at means
 
             decided : Decided h.t k kp d
-            decided = record { Γ = here.0; v = here.1.0; there = here.1.1; is_predicate_lem = is_pred; means = stands }
+            decided = record { Γ = here.0; v = here.1; there = here.2; is_predicate_lem = is_pred; means = stands }
 
             pub held_splice : SplicePre p k kp d
             held_splice = record { t = h.t; table = h.table; held = h.held; decided = decided }
 
-            change : (place : ℕ) × ((new : Tree) × (dispatch here.0 here.1.0 ≡ to place new))
-            change = changes h.t here.1.0 here.0 (places_of kp) d (dispatch here.0 here.1.0) stands
+            change : (place : ℕ) × ((new : Tree) × (dispatch here.0 here.1 ≡ to place new))
+            change = changes h.t here.1 here.0 (places_of kp) d (dispatch here.0 here.1) stands
 
             module _ (w : Option (List ℕ)) (ps : SplicePost p k kp d w) where
               new_bytes : Wrote w (enc (replace h.t k change.1.0))
@@ -121,7 +121,7 @@ module _ (p : Places) (h : HeldPre p) (k : ℕ) (o : List ℕ) where
                   let u = enc (replace h.t k change.1.0) in
                   let y = po.done u new_bytes in
                   let z = ends (fit (length o) u) (stepped ∙ ap (outcome_of (length o))
-                  (step_predicate h.t k here.0 here.1.0 here.1.1 is_pred (to change.0 change.1.0) change.1.1)) q y.1 in
+                  (step_predicate h.t k here.0 here.1 here.2 is_pred (to change.0 change.1.0) change.1.1)) q y.1 in
                   record { answer = y.0 ∙ z.answer; output = z.output }
 
 -- ---- `step`

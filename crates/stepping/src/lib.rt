@@ -11,6 +11,7 @@ use frame::refusals::Refusal;
 use nav::Places;
 use output::write_out;
 use put::Writer;
+use reading::Frame;
 use rewriter::dispatch::decide;
 use step::Step;
 
@@ -37,7 +38,7 @@ pub fn step(frame: &[u8], place: usize, out: &mut [u8]) -> Result<Step, Refusal>
 {
     let read = reading::read(frame)?;
     let mut leaves = [0u16; 2048];
-    let nodes = checking::check_tree(frame, read.nodes, &mut leaves)?;
+    let nodes = checking::check_tree(&Frame::new(frame), read.nodes, &mut leaves)?;
     let mut table = [0u16; 2048];
     nav::nexts(frame, nodes, &read.starts, &mut table);
     let places = Places {

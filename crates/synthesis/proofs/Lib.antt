@@ -4,5 +4,6 @@ pub mod OpenTurns
 pub mod Machine
 pub mod StackBelow
 pub mod StackTurns
+pub mod LeavesLeft
 pub mod StepTurns
 pub mod TreeTurns

@@ -5,7 +5,7 @@ use mathlib.Core.Bool.{Bool, true, false}
 use mathlib.Core.List.{List, [], ◌∷◌, append-nil}
 use Prim.Native.Nat.{ℕ, ◌+◌, ◌-◌, ◌≤◌}
 use native.Mathlib.Omega.{arith}
-use lib.ListN.{length}
+use lib.ListN.{length, take, drop, length-take, length-drop}
 use lib.Dec.{eqb}
 use borrow.Author.Tests.{eq-eqb, ne_eqb}
 use Rattle.frame.specs.Types.{Ty, bool, int, given, pow, prod}
@@ -19,12 +19,16 @@ use Rattle.type_rules.specs.Patterns.{own_types, Judged, typed, wrong, judge, ru
 use Rattle.type_rules.specs.CodeRules.{own_at, own_by, own_type}
 use Rattle.type_rules.specs.declared.Own.{Own}
 use Rattle.heads.specs.TypeEnds.{EndOf}
-use Rattle.copies.specs.Copies.{Copied}
 use Rattle.patterns.specs.PatternPosts.{RowAt, Judging, JudgePost}
 use Rattle.synthesis.specs.TypingPosts.{PutPre, Putting, PutPost, place_by, OwnPre, Owning, OwnPost, state_of, closed_to, Closing, ClosePost}
 use Rattle.synthesis.specs.Turns.{State, Turned, climbs, finishes}
 use Rattle.std.proofs.Common.{Option, Some, None}
-use Rattle.copies.proofs.CopyLaws.{copied_span}
+use Rattle.results.proofs.SpanLaws.{span_part, pasted_span, pasted_kept}
+use Rattle.std.proofs.lemmas.Slice.{put_mid-paste}
+use Rattle.std.proofs.lemmas.List.{places, take-take}
+use borrow.Rule.Slice.PartMut.{put_mid}
+use lib.Seq.{paste}
+use Rattle.std.proofs.Common.{rules}
 use Rattle.type_rules.proofs.OwnTags.{own_types_by}
 
 -- ---- a type that stands in bytes is well formed
@@ -45,15 +49,23 @@ type_wf s bs (prod t u) at e a =
 
 -- ---- put_type
 module _ (s : List ℕ) (p : ℕ) (types : List ℕ) (end q : ℕ) (en : EndOf s p q) where
-  pub put_is : PutPre s p types end → q - p ≤ 64 → (o : List ℕ) → Copied s p (q - p) types o end → PutPost s p types end o (Some (end + (q - p)))
-  put_is a h o c =
+  pub put_is : PutPre s p types end → q - p ≤ 64 → (k : ℕ) → k ≡ q - p → (ys : List ℕ) → ys ≡ take (q - p) (drop p s)
+      → PutPost s p types end (put_mid end k types ys) (Some (end + (q - p)))
+  put_is a h k ek ys ey =
+      let zs = take (q - p) (drop p s) in
+      let to : q ≡ a.to = en.is a.type a.to a.span in
+      let l : q - p ≡ length zs = omega (arith, length-take (q - p) (drop p s), length-drop p s, a.span.within) in
+      let o = put_mid end k types ys in
+      let w : o ≡ paste types end zs (q - p) = put_mid-paste end k types ys zs (q - p) ey (sym ek) l in
+      let below : end ≤ length types = omega (arith, a.room) in
+      let long : length o ≡ length types = search (rules, places) in
       record {
         answer = λ u e b. (let z = en.is u e b in (
           omega (arith, b.long),
           omega (arith, b.long),
-          copied_span (q - p) types o end (omega (arith, z)) b c
-              (omega (arith, a.room)),
-          record { long = c.long; low = c.low },
+          pasted_span types o zs end (q - p) w below
+              (take-take (q - p) (q - p) (drop p s) (omega arith) ∙ ap (λ (i : ℕ). take (i - p) (drop p s)) z ∙ span_part b) (omega (arith, b.long)),
+          pasted_kept types o zs end (q - p) w below long,
         ));
       }
 

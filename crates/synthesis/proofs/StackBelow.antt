@@ -22,11 +22,11 @@ use Rattle.patterns.specs.PatternPosts.{RowAt}
 use Rattle.synthesis.specs.Machine.{Open, given}
 use Rattle.type_rules.specs.Patterns.{Operands}
 use Rattle.synthesis.specs.TypingPosts.{Held, Stack}
-use Rattle.copies.proofs.CopyLaws.{span_kept}
+use Rattle.results.proofs.SpanLaws.{span_kept}
 
 -- ---- rows and what is written above them
 pub row_kept : (o p : List ℕ) (at n : ℕ) (us : List Ty) → Kept o p n → RowAt o at n us → RowAt p at n us
-row_kept o p at n us k r = record { span = span_kept p n k.long k.low (omega arith) r.span; fit = r.fit }
+row_kept o p at n us k r = record { span = span_kept r.span k (omega arith); fit = r.fit }
 
 pub row_low : (o : List ℕ) (at n : ℕ) (us : List Ty) → RowAt o at n us → at ≤ n
 row_low o at n us r = omega (arith, r.span.long)

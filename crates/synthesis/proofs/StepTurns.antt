@@ -1,17 +1,18 @@
 -- A turn with the node at hand by value, and all turns.
--- Main results: step_close, step_bad, step_open (the ways out of a turn); Going, with going_start; the ways out of `all_turns`, close_fails,
+-- Main results: step_close, step_bad, step_open (the ways out of a turn); Going, with going_start; start_room; the ways out of `all_turns`, close_fails,
 -- close_ends and close_goes, open_fails and open_goes; leaf_judge, leaf_turns (a root without operands).
 use mathlib.Core.Path.{◌≡◌, refl, sym, ap, ◌∙◌, subst, subst₂}
 use mathlib.Core.Bool.{Bool, true, false}
 use mathlib.Core.List.{List, [], ◌∷◌, ◌++◌}
-use Prim.Native.Nat.{ℕ, ◌+◌, ◌-◌, ◌<◌}
+use Prim.Native.Nat.{ℕ, ◌+◌, ◌-◌, ◌≤◌, ◌<◌}
 use native.Mathlib.Omega.{arith}
-use lib.ListN.{length, get_or, set, length-set, length-append, get_or-append}
+use lib.ListN.{length, get_or, set, length-set, get_or-append}
 use lib.Seq.{get_or-set_same, get_or-set_other, get_or-append_seam}
 use lib.Dec.{eqb}
 use borrow.Author.Tests.{eq-eqb, eqb-true, eqb-false}
 use Rattle.frame.specs.Tags.{class_of}
 use Rattle.frame.specs.Spans.{Bytes}
+use Rattle.frame.proofs.Inversion.{true_not}
 use Rattle.type_rules.specs.Patterns.{rule_at, Judged, typed, wrong, judge}
 use Rattle.patterns.specs.PatternPosts.{JudgePre, Judging, JudgePost}
 use Rattle.synthesis.specs.Machine.{Open, close_up}
@@ -38,12 +39,14 @@ use Rattle.synthesis.specs.TypingPosts.{
   TurnsPre,
   TurnsPost,
 }
-use Rattle.synthesis.specs.declared.stack.OpenNode.{OpenNode}
+use Rattle.synthesis.specs.declared.OpenNode.{OpenNode}
 use Rattle.synthesis.specs.Turns.{State, state, Turned, descends, climbs, finishes}
+use Rattle.std.specs.Option.{option_to_list, IsSome}
+use Rattle.std.proofs.lemmas.List.{length_push}
 use Rattle.std.proofs.Common.{Option, Some, None}
 use Rattle.synthesis.specs.declared.Opened.{Opened}
 use Rattle.synthesis.proofs.OwnTurns.{close_bad, close_last, close_on}
-use Rattle.synthesis.proofs.StackBelow.{shown}
+use Rattle.synthesis.proofs.StackBelow.{shown, place_stop}
 use Rattle.synthesis.proofs.StackTurns.{
   top_held,
   turn_room,
@@ -147,9 +150,6 @@ module _ (nd : OpenNode) (s leaves types : List ℕ) (st : State) where
 pub record Below (stack : List OpenNode) (t l f : List ℕ) : Type 0 where
   pub each : (d : ℕ) → d < length stack → Top (get_or stack d no_node) d t l f
 
-long_snoc : (stack : List OpenNode) (u : OpenNode) → length (stack ++ (u ∷ [])) ≡ length stack + 1
-long_snoc stack u = length-append stack (u ∷ [])
-
 -- a record is put on the stack, and the node above it is at hand
 module _ (stack : List OpenNode) (room : length stack + 1 < 2048) (t l f : List ℕ) (ll : length l ≡ 2048) (nd u c : OpenNode)
     (et : u.tag ≡ nd.tag) (ef : u.from ≡ nd.from) (w : Top nd (length stack) t l f) (bl : Below stack t l f) where
@@ -186,7 +186,7 @@ module _ (stack : List OpenNode) (room : length stack + 1 < 2048) (t l f : List 
       })
 
   below_on : Below (stack ++ (u ∷ [])) (set t (i + 1) c.tag) (set l₀ (i + 1) c.left) (set f (i + 1) c.from)
-  below_on = record { each = λ d h. below_at d (omega (arith, long_snoc stack u)) (eqb d i) refl }
+  below_on = record { each = λ d h. below_at d (omega (arith, length_push stack u)) (eqb d i) refl }
 
   top_on : length t ≡ 2048 → length f ≡ 2048 → On c (i + 1)
   top_on lt lf = record {
@@ -199,11 +199,19 @@ module _ (stack : List OpenNode) (room : length stack + 1 < 2048) (t l f : List 
 module _ (rest : List OpenNode) (x : OpenNode) (t l f : List ℕ) (bl : Below (rest ++ (x ∷ [])) t l f) where
   below_rest : Below rest t l f
   below_rest = record {
-    each = λ d h. subst (λ (y : OpenNode). Top y d t l f) (get_or-append rest (x ∷ []) no_node d h) (bl.each d (omega (arith, long_snoc rest x)));
+    each = λ d h. subst (λ (y : OpenNode). Top y d t l f) (get_or-append rest (x ∷ []) no_node d h) (bl.each d (omega (arith, length_push rest x)));
   }
 
   top_rest : Top x (length rest) t l f
-  top_rest = subst (λ (y : OpenNode). Top y (length rest) t l f) (get_or-append_seam rest x [] no_node) (bl.each (length rest) (omega (arith, long_snoc rest x)))
+  top_rest = subst (λ (y : OpenNode). Top y (length rest) t l f) (get_or-append_seam rest x [] no_node) (bl.each (length rest) (omega (arith, length_push rest x)))
+
+-- what `pop` gives
+pub pop_none : (stack : List OpenNode) {r : Option OpenNode} → (0 < length stack → IsSome r) → r ≡ None → stack ≡ []
+pop_none [] f z = refl
+pop_none (x ∷ stack) f z = true_not (subst IsSome z (f (omega arith)))
+
+pub pop_some : (stack rest : List OpenNode) {r : Option OpenNode} {x : OpenNode} → stack ≡ rest ++ option_to_list r → r ≡ Some x → stack ≡ rest ++ (x ∷ [])
+pop_some stack rest e z = e ∙ ap (λ (o : Option OpenNode). rest ++ option_to_list o) z
 
 -- whatever the tables and the open nodes were at the root, there are some now that come to the same answer
 pub record Going (nd₀ : OpenNode) (s leaves types₀ : List ℕ) (st₀ : State) (stack : List OpenNode) (types : List ℕ) (nd : OpenNode)
@@ -219,6 +227,14 @@ module _ (nd₀ : OpenNode) (s leaves types₀ : List ℕ) (st₀ : State) where
     follows = λ t l f base stop o ps w run.
         (t, l, f, record { each = λ d h. absurd (omega (arith, ap length e)) }, w, o, ps, run, refl);
   }
+
+  -- the next node has a place in the table, or the table's end
+  pub start_room : TurnsPre nd₀ s leaves types₀ st₀ → st₀.place ≤ 2048
+  start_room pre =
+      let x = pre.step in
+      let y = x.turn in
+      let p = place_stop x.tags x.lefts x.froms s leaves types₀ y.base y.stop 0 y.o y.ps st₀.end st₀.at st₀.place y.running.stack in
+      omega (arith, y.running.places)
 
   module _ (pre : TurnsPre nd₀ s leaves types₀ st₀) (stack : List OpenNode) (types : List ℕ) (nd : OpenNode) (st : State)
       (going : Going nd₀ s leaves types₀ st₀ stack types nd st) where
@@ -331,7 +347,7 @@ module _ (nd₀ : OpenNode) (s leaves types₀ : List ℕ) (st₀ : State) (pre 
       pub close_goes : (rest : List OpenNode) (x : OpenNode) → stack ≡ rest ++ (x ∷ [])
           → Going nd₀ s leaves types₀ st₀ rest types₁ x (state at place m (length rest))
       close_goes rest x es =
-          let l : length stack ≡ length rest + 1 = ap length es ∙ long_snoc rest x in
+          let l : length stack ≡ length rest + 1 = ap length es ∙ length_push rest x in
           let k : length stack - 1 ≡ length rest = omega arith in
           subst (λ (j : ℕ). Going nd₀ s leaves types₀ st₀ rest types₁ x (state at place m j)) k
           (going_up nd₀ s leaves types₀ st₀ pre stack types nd st going types₁ (climbs (state_of st m))
@@ -362,7 +378,7 @@ module _ (nd₀ : OpenNode) (s leaves types₀ : List ℕ) (st₀ : State) (pre 
               (state r.at (place + 1) r.end (length (stack ++ (under_it ∷ []))))
           open_goes =
               subst (λ (j : ℕ). Going nd₀ s leaves types₀ st₀ (stack ++ (under_it ∷ [])) types₁ r.node (state r.at (place + 1) r.end j))
-              (sym (long_snoc stack under_it))
+              (sym (length_push stack under_it))
               (going_down nd₀ s leaves types₀ st₀ pre stack types nd st going types₁ _ opened_step under_it r.node
               (state r.at (place + 1) r.end (length stack + 1)) refl refl)
 
@@ -372,7 +388,7 @@ module _ (nd₀ : OpenNode) (s leaves types₀ : List ℕ) (st₀ : State) (pre 
               let x = step in
               let y = x.turn in
               let t = (opened_step.turned x.tags x.lefts x.froms x.at_top).answer y.base y.stop y.o y.ps y.running in
-              let k : length long ≡ length stack + 1 = ap length el ∙ long_snoc stack under_it in
+              let k : length long ≡ length stack + 1 = ap length el ∙ length_push stack under_it in
               omega (arith, t.4)
 
 -- ---- a root without operands

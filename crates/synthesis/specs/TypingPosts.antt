@@ -21,7 +21,7 @@ use Rattle.results.specs.ResultPosts.{Kept}
 use Rattle.patterns.specs.PatternPosts.{RowAt}
 use Rattle.synthesis.specs.Machine.{Answer, is, bad, Open, inner, close_up}
 use Rattle.type_rules.specs.Patterns.{Operands}
-use Rattle.synthesis.specs.declared.stack.OpenNode.{OpenNode}
+use Rattle.synthesis.specs.declared.OpenNode.{OpenNode}
 use Rattle.synthesis.specs.declared.Opened.{Opened}
 use Rattle.synthesis.specs.Turns.{State, Turned, descends, climbs, finishes}
 use Rattle.frame.specs.At.{IsAt, KidsAt}

@@ -3,18 +3,29 @@
 // its record says. (The source's `synthesize_*` go from the children up instead.)
 #![tactic(auto)]
 
-mod stack; // stack.rt: the open nodes, a stack of records
-
 ghost use Rattle.frame.specs.Tags.{class_of};
 ghost use Rattle.synthesis.specs.Turns.{started};
 ghost use Rattle.synthesis.specs.TypingPosts.{PutPre, PutPost, own_place, OwnPre, OwnPost, OpenPre, NodePost, TurnsPre, TurnsPost, TypePre, TypePost};
 
-use crate::stack::{OpenNode, Stack};
-use copies::copy_in;
+use arrayvec::ArrayVec;
 use frame::limits::TYPE_LIMIT;
 use heads::{known_head, type_end};
 use patterns::judge_types;
 use type_rules::{Own, own_of};
+
+// As many as a frame has nodes at most.
+const ROOM: usize = 2048;
+
+// An open node: its tag, how many operands are to come, where the types of those that have come start. The stack of them is cleared for
+// each tree that is typed, so a record is no wider than these numbers need.
+// Kept: the numbers are cast by `as`, since no `From` makes a `u16` or `u32` of a `usize`, nor a `usize` of a `u32`; that they fit is
+// proved of each: a head's tag and count are below 65,536, and `from` is at most 131,072, 64 bytes for each of 2,048 nodes.
+#[derive(Clone, Copy, Debug, Default, PartialEq, Eq)]
+struct OpenNode {
+    tag: u16,
+    left: u16,
+    from: u32,
+}
 
 // A node has been opened: where its first operand stands, where the types end, and its record.
 #[derive(Clone, Copy, Debug, PartialEq, Eq)]
@@ -24,6 +35,8 @@ struct Opened {
     node: OpenNode,
 }
 
+// Kept: `types` and `end` as two parameters here and below: the types of operands stand below `end`, at places that the open nodes know, and
+// more types are put behind them, so a slice of either part would lack the other.
 // The type that stands at p of the frame, into the buffer at `end`: where it ends there. A longer one than the limit is no type of a node.
 fn put_type(s: &[u8], p: usize, types: &mut [u8], end: usize) -> Option<usize>
     requires { PutPre s.now p types.old end }
@@ -33,7 +46,7 @@ fn put_type(s: &[u8], p: usize, types: &mut [u8], end: usize) -> Option<usize>
     if TYPE_LIMIT < e - p {
         return None;
     }
-    copy_in(s, p, e, types, end);
+    types[end..end + (e - p)].copy_from_slice(&s[p..e]);
     Some(end + (e - p))
 }
 
@@ -75,8 +88,8 @@ fn open_node(s: &[u8], at: usize, leaf: usize, types: &mut [u8], end: usize) -> 
     })
 }
 
-// All turns, from the root that was opened; the next node has this place. It has a frame of its own, since a root without operands needs
-// no stack.
+// All turns, from the root that was opened; the next node has the place `first`. This function has a frame of its own, since a root
+// without operands needs no stack.
 #[inline(never)]
 fn all_turns(
     s: &[u8],
@@ -88,11 +101,14 @@ fn all_turns(
     requires { TurnsPre root.node s.now leaves.now types.old (started root first) }
     ensures { TurnsPost root.node s.now leaves.now types.old (started root first) types.new result }
 {
-    let mut stack = Stack::new();
+    // The open nodes below the one at hand, the lowest first.
+    let mut stack = ArrayVec::<OpenNode, ROOM>::new();
     let mut node = root.node;
     let mut at = root.at;
     let mut end = root.end;
-    let mut place = first;
+    let mut leaves_left = leaves[first..].iter();
+    // Kept: a `loop`, since it ends in the midst of a turn, where a node was closed that has none below it; the test of a `while`
+    // would be that `pop`, of which the other turns have no use.
     loop {
         if node.left == 0 {
             // All its operands have come: its type takes their place.
@@ -102,7 +118,9 @@ fn all_turns(
             };
             node = below;
         } else {
-            let child = open_node(s, at, usize::from(leaves[place]), types, end)?;
+            // The table has an entry for each node, so one is left.
+            let leaf = leaves_left.next().unwrap();
+            let child = open_node(s, at, usize::from(*leaf), types, end)?;
             stack.push(OpenNode {
                 tag: node.tag,
                 left: node.left - 1,
@@ -111,7 +129,6 @@ fn all_turns(
             node = child.node;
             at = child.at;
             end = child.end;
-            place += 1;
         }
     }
 }

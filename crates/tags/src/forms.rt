@@ -14,6 +14,7 @@ pub enum Sort {
 #[derive(Clone, Copy, Debug, PartialEq, Eq)]
 pub enum Form {
     // A tag that is not listed.
+    // Kept: a case and no `Option<Form>`, as in the definitions' table of tags, which answers each question of such a tag too.
     Unlisted,
     // ⊤ ⊥
     LiteralPredicate,
@@ -54,10 +55,7 @@ impl Form {
     pub fn is_listed(self) -> bool
         ensures { result ≡ (meant self).listed }
     {
-        match self {
-            Form::Unlisted => false,
-            _ => true,
-        }
+        !matches!(self, Form::Unlisted)
     }
 
     // The sort of the trees that a tag of this form begins.

@@ -5,6 +5,7 @@
 ghost use Rattle.std.specs.Prelude.{◌≡◌, ◌≤◌, length, option_copied};
 ghost use Rattle.turn.specs.TurnPosts.{TurnPost};
 
+use arrayvec::ArrayVec;
 use put::Writer;
 use run::{Ending, Run};
 use std::marker::Model;
@@ -12,23 +13,22 @@ use std::marker::Model;
 // How far a run has come.
 #[derive(Drop)]
 pub struct Progress {
-    // the frame that it is at stands in the first `length` bytes
-    held: [u8; 4096],
-    length: usize,
+    // the frame that it is at
+    held: ArrayVec<u8, 4096>,
     // the budget left, and the count of the steps made
     left: u32,
     steps: u32,
 }
 
 impl Model for Progress {
-    ghost use Rattle.std.specs.Prelude.{◌≤◌, ◌<◌, ◌+◌, ◌^◌, take};
+    ghost use Rattle.std.specs.Prelude.{◌<◌, ◌+◌, ◌^◌};
     ghost use Rattle.turn.specs.Progress.{At};
 
     ghost Value = { At };
 
-    ghost view = { λ p. record { frame = take p.length p.held; left = p.left; steps = p.steps } };
+    ghost view = { λ p. record { frame = p.held.items; left = p.left; steps = p.steps } };
 
-    ghost invariant = { λ p. (p.length ≤ 4096) × (p.steps + p.left < 2 ^ 32) };
+    ghost invariant = { λ p. p.steps + p.left < 2 ^ 32 };
 }
 
 impl Progress {
@@ -37,11 +37,8 @@ impl Progress {
         requires { length frame.now ≤ 4096 }
         ensures { result ≡ record { frame = frame.now; left = budget; steps = 0 } }
     {
-        let mut held = [0; 4096];
-        held[..frame.len()].copy_from_slice(frame);
         Progress {
-            held,
-            length: frame.len(),
+            held: ArrayVec::try_from(frame).unwrap(),
             left: budget,
             steps: 0,
         }
@@ -51,7 +48,7 @@ impl Progress {
     pub fn frame(&self) -> &[u8]
         ensures { result.now ≡ self.now.frame }
     {
-        &self.held[..self.length]
+        self.held.as_slice()
     }
 
     // The run goes on with the frame after its first step, or it ends here. `None` is a frame where no rule applies.
@@ -67,8 +64,8 @@ impl Progress {
         let Some(frame) = writer.frame() else {
             return Some(Ending::Full);
         };
-        self.held[..frame.len()].copy_from_slice(frame);
-        self.length = frame.len();
+        self.held.clear();
+        self.held.try_extend_from_slice(frame).unwrap();
         self.left -= 1;
         self.steps += 1;
         None
@@ -81,7 +78,7 @@ impl Progress {
         Run {
             ending,
             steps: self.steps,
-            length: self.length,
+            length: self.held.len(),
         }
     }
 }

@@ -22,13 +22,6 @@ pub enum Symbol {
 }
 
 impl Symbol {
-    // The byte that a type begins with where the symbol is no variable; the numbers of variables begin no type.
-    pub fn byte(self) -> u8
-        ensures { result ≡ number self }
-    {
-        self as u8
-    }
-
     // Which variable it is: they are bound in this order.
     pub fn variable(self) -> Option<usize>
         ensures { result ≡ variable_at self }
@@ -40,6 +33,16 @@ impl Symbol {
             Delta => Some(3),
             _ => None,
         }
+    }
+}
+
+impl From<Symbol> for u8 {
+    ghost from_gives = { λ symbol b. b ≡ number symbol };
+
+    // The byte that a type begins with where the symbol is no variable; the numbers of variables begin no type.
+    fn from(symbol: Symbol) -> u8 {
+        // Kept: `as` is the language's own way from a case to its number.
+        symbol as u8
     }
 }
 

@@ -16,17 +16,17 @@ fn type_byte(s: &[u8], at: usize, lim: usize) -> Result<u8, Refusal>
     if lim <= at {
         return Err(Refusal::BadType);
     }
-    if s.len() <= at {
-        return Err(Refusal::EndsInside);
-    }
-    Ok(s[at])
+    s.get(at).copied().ok_or(Refusal::EndsInside)
 }
 
 // The type at `at`, which has to end by lim.
+// Kept: bytes and a position as parameters and no cursor: each answer is the next position, and `?` hands on what turns a type down.
 fn read_type(s: &[u8], at: usize, lim: usize) -> Result<usize, Refusal>
     requires { (at ≤ length s.now) × (at ≤ lim) × (lim ≤ length s.now + 64) }
     ensures { (f : ℕ) → lim < at + f → result ≡ type_answer (read_ty f lim s.now at) }
 {
+    // Kept: bytes of types as numbers: where types that were read are gone over again, an enum that is made from each byte would have a case
+    // more, which can't occur there; here it would be made to be looked at once.
     match type_byte(s, at, lim)? {
         0 | 1 => Ok(at + 1),
         2 => given_number(s, at, lim),

@@ -10,6 +10,7 @@ use run::{Ending, Run};
 use step::Step;
 
 // The words of an answer.
+// Kept: numbers, since the C interface hands on one number for each answer.
 const CHANGED: u64 = 0x10000;
 
 const STEP_REFUSED: u64 = 0x20000;
@@ -37,11 +38,14 @@ pub fn step_word(answer: Result<Step, Refusal>) -> u64
 {
     match answer {
         Ok(Step::Unchanged) => 0,
+        // Kept: `as`, here and below: no `From` of the language makes a `u64` of a `usize`, and `try_from` would ask what to do where it
+        // can't be.
         Ok(Step::Changed(length)) => CHANGED + length as u64,
         Err(refusal) => STEP_REFUSED + u64::from(u8::from(refusal)),
     }
 }
 
+// Kept: no `From`, since both types are of other crates.
 fn ending_word(ending: Ending) -> u64
     ensures { result ≡ number_of_ending ending }
 {

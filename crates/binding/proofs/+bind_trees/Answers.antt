@@ -25,27 +25,27 @@ open_binders-inside-requires t c =
     let y = c.loop-left.invariant.ready in
     let u = (turn c.loop-left.invariant c.loop-left-test.true (λ i. (c.type_inv.s i).fits) c.known_head-h.ensures) in
     let r = turn_room u in
-    (y.fits, omega (arith, y.opened), y.binders_room, types_here u c.in-QuantifiedPredicate.is)
+    (y.fits, omega (arith, y.opened), y.binders_room, types_here u c.in-QuantifiedPredicate.is _ c.types.ensures)
 
 pub bind_trees-requires : goal.bind_trees-requires
 bind_trees-requires t c =
     let f = c.loop-left.invariant.from in
     let u = (turn c.loop-left.invariant c.loop-left-test.true (λ i. (c.type_inv.s i).fits) c.known_head-h.ensures) in
     let r = turn_room u in
-    (omega arith, call_here u c.in-QuantifiedPredicate.is _ _ c.open_binders-inside.ensures)
+    (omega arith, call_here u c.in-QuantifiedPredicate.is _ c.types.ensures _ _ c.open_binders-inside.ensures)
 
 pub returns-in_err-p-in-QuantifiedPredicate : goal.returns-in_err-p-in-QuantifiedPredicate
 returns-in_err-p-in-QuantifiedPredicate t c = rw c.from_residual.ensures
-    (turn_stop (turn c.loop-left.invariant c.loop-left-test.true (λ i. (c.type_inv.s i).fits) c.known_head-h.ensures) c.in-QuantifiedPredicate.is _ _ c.open_binders-inside.ensures _ _ _ c.bind_trees.ensures c.in_err-p-in-QuantifiedPredicate.was)
+    (turn_stop (turn c.loop-left.invariant c.loop-left-test.true (λ i. (c.type_inv.s i).fits) c.known_head-h.ensures) c.in-QuantifiedPredicate.is _ c.types.ensures _ _ c.open_binders-inside.ensures _ _ _ c.bind_trees.ensures c.in_err-p-in-QuantifiedPredicate.was)
 
 pub loop-left-smaller-in-QuantifiedPredicate : goal.loop-left-smaller-in-QuantifiedPredicate
 loop-left-smaller-in-QuantifiedPredicate t c =
-    let f = turn_over (turn c.loop-left.invariant c.loop-left-test.true (λ i. (c.type_inv.s i).fits) c.known_head-h.ensures) c.in-QuantifiedPredicate.is _ _ c.open_binders-inside.ensures _ _ _ c.bind_trees.ensures _ _ c.in_ok-p-in-QuantifiedPredicate.was in
+    let f = turn_over (turn c.loop-left.invariant c.loop-left-test.true (λ i. (c.type_inv.s i).fits) c.known_head-h.ensures) c.in-QuantifiedPredicate.is _ c.types.ensures _ _ c.open_binders-inside.ensures _ _ _ c.bind_trees.ensures _ _ c.in_ok-p-in-QuantifiedPredicate.was in
     omega arith
 
 pub loop-left-preserved-in-QuantifiedPredicate : goal.loop-left-preserved-in-QuantifiedPredicate
 loop-left-preserved-in-QuantifiedPredicate t c =
-    (turn_over (turn c.loop-left.invariant c.loop-left-test.true (λ i. (c.type_inv.s i).fits) c.known_head-h.ensures) c.in-QuantifiedPredicate.is _ _ c.open_binders-inside.ensures _ _ _ c.bind_trees.ensures _ _ c.in_ok-p-in-QuantifiedPredicate.was).2
+    (turn_over (turn c.loop-left.invariant c.loop-left-test.true (λ i. (c.type_inv.s i).fits) c.known_head-h.ensures) c.in-QuantifiedPredicate.is _ c.types.ensures _ _ c.open_binders-inside.ensures _ _ _ c.bind_trees.ensures _ _ c.in_ok-p-in-QuantifiedPredicate.was).2
 
 pub overflow_add-left : goal.overflow_add-left
 overflow_add-left t c = omega (arith, left_fits (turn c.loop-left.invariant c.loop-left-test.true (λ i. (c.type_inv.s i).fits) c.known_head-h.ensures))

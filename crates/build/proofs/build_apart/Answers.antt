@@ -1,3 +1,5 @@
+use Rattle.std.proofs.Common.{rules}
+use Rattle.build.proofs.RowTurns.{besides, besides_share}
 use native.Mathlib.Omega.{arith}
 use Rattle.build.proofs.InterSubtrees.{apart_placed, apart_few, apart_member, apart_many, apart_row, apart_built}
 use Rattle.build.proofs.build_apart.Goals as goal
@@ -17,9 +19,12 @@ overflow_sub-m c = let z = (apart_many _ _ c.args.places.now _ c.arity_at-m.ensu
 pub put_joined-requires : goal.put_joined-requires
 put_joined-requires c = (omega arith, let z = (apart_many _ _ c.args.places.now _ c.arity_at-m.ensures c.requires).1 in omega arith)
 
-pub put_row-requires : goal.put_row-requires
-put_row-requires c = apart_row _ _ _ c.requires
+pub put_row-requires-clause-shares : goal.put_row-requires-clause-shares
+put_row-requires-clause-shares c = (besides c.args.single, λ i o g. besides_share _ _ _ _ (search rules))
+
+pub put_row-requires-clause-node : goal.put_row-requires-clause-node
+put_row-requires-clause-node c = apart_row _ _ _ c.requires
 
 pub returns : goal.returns
 returns c = apart_built _ _ _ _ c.arity_at-m.ensures _ _ c.put_word.ensures _ c.put_word-2.ensures _ c.copy_at.ensures _
-    c.put_joined.ensures _ c.put_row.ensures
+    c.put_joined.ensures _ _ (λ i o g. besides_share _ _ _ _ (search rules)) c.put_row.ensures

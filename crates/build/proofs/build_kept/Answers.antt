@@ -1,5 +1,3 @@
-use mathlib.Core.Path.{ap}
-use lib.ListN.{length}
 use Rattle.build.proofs.SubtreeTurns.{kept_placed, kept_tag, kept_list, kept_built}
 use Rattle.build.proofs.build_kept.Goals as goal
 
@@ -10,7 +8,7 @@ pub put_kept-requires : goal.put_kept-requires
 put_kept-requires c = kept_list _ _ _ c.requires
 
 pub put_many-requires : goal.put_many-requires
-put_many-requires c = kept_tag _ _ c.args.places.now c.requires _ c.tag_at-tag.ensures _ (ap length c.as_slice.ensures)
+put_many-requires c = kept_tag _ _ c.args.places.now c.requires _ c.tag_at-tag.ensures _ c.len.ensures.value
 
 pub returns : goal.returns
-returns c = kept_built _ _ c.args.places.now _ c.tag_at-tag.ensures _ (ap length c.as_slice.ensures) _ _ c.put_many.ensures _ c.put_kept.ensures
+returns c = kept_built _ _ c.args.places.now _ c.tag_at-tag.ensures _ c.len.ensures.value _ _ c.put_many.ensures _ c.put_kept.ensures

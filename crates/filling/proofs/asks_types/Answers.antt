@@ -1,11 +1,15 @@
-use mathlib.Core.Path.{sym, ◌∙◌}
-use Rattle.programs.specs.declared.Part.TheVariants as P
-use Rattle.filling.proofs.Fills.{asks_one, asks_none}
+use mathlib.Core.Path.{◌≡◌, ap, ◌∙◌}
+use Rattle.std.proofs.Common.{rules}
+use Rattle.std.proofs.lemmas.Iterator.{YieldsList-from_slice}
+use Rattle.std.proofs.lemmas.Iterator.Search.{any_from_yields_List}
+use Rattle.std.specs.List.{list_any}
+use Rattle.programs.specs.Parts.{asks_type}
+use Rattle.filling.specs.Operands.{asks_types}
+use Rattle.filling.proofs.Fills.{asks_any}
 use Rattle.filling.proofs.asks_types.Goals as goal
 
-pub returns-then-asks_type : goal.returns-then-asks_type
-returns-then-asks_type c = asks_one _ _ c.loop-part.part-index (P.Tag 0) c.program_of-program.ensures c.loop-part-test.true
-    (sym c.if-asks_type.true ∙ c.asks_type.ensures)
-
 pub returns : goal.returns
-returns c = asks_none _ _ c.loop-part.part-index (P.Tag 0) c.program_of-program.ensures c.loop-part-test.false c.loop-part.invariant
+returns c =
+    let e : c.any.result ≡ list_any asks_type c.program_of.result.now =
+    any_from_yields_List asks_type _ _ c.any.result c.any.ensures.ran (YieldsList-from_slice c.program_of.result.now cc) (λ x b k q. search rules) in
+    e ∙ asks_any c.program_of.result.now ∙ ap asks_types c.program_of.ensures

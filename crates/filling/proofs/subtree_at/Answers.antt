@@ -6,7 +6,7 @@ pub start_at-requires : goal.start_at-requires
 start_at-requires c = (place_few c.args.places.now c.args.k c.requires).0
 
 pub slice_bounds-result-count : goal.slice_bounds-result-count
-slice_bounds-result-count c = (subtree_room c.args.places.now c.args.k c.requires _ _ c.start_at.ensures.0 c.end_at.ensures).0
+slice_bounds-result-count c = let z = subtree_room c.args.places.now c.args.k c.requires _ _ c.start_at.ensures.0 c.end_at.ensures in omega arith
 
 pub slice_bounds-result-start : goal.slice_bounds-result-start
 slice_bounds-result-start c = let z = subtree_room c.args.places.now c.args.k c.requires _ _ c.start_at.ensures.0 c.end_at.ensures in omega arith

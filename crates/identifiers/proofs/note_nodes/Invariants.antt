@@ -4,7 +4,7 @@ use Rattle.identifiers.proofs.NotingNodes.{Over}
 use Rattle.identifiers.proofs.note_nodes.Given as goal
 
 abbrev pub invariant-loop-at : goal.invariant-loop-at
-invariant-loop-at l = Over l.s l.initial.table l.at l.table
+invariant-loop-at l = Over l.bytes l.initial.table l.at l.table
 
 abbrev pub decreases-loop-at : goal.decreases-loop-at
-decreases-loop-at l = length l.s - l.at
+decreases-loop-at l = length l.bytes - l.at

@@ -1,10 +1,7 @@
 use lib.ListN.{drop}
-use Rattle.junction.specs.Junction.{Keyed}
 use Rattle.junction.proofs.JunctionTurns.{Scanned}
 use Rattle.junction.proofs.is_new.Given as goal
 
 abbrev pub invariant-loop-one : goal.invariant-loop-one
-invariant-loop-one l = record {
-  scanned : Scanned l.places.bytes.now l.places.starts.now l.places.nexts.now l.kept l.child l.new (drop l.one-index l.one-items);
-  keyed : Keyed l.places.bytes.now l.places.starts.now l.places.nexts.now (drop l.one-index l.one-items);
-}
+invariant-loop-one l =
+    Scanned l.places.bytes.now l.places.starts.now l.places.nexts.now l.kept.items l.child l.new (drop l.one-index l.one-items)

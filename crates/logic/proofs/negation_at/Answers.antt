@@ -1,3 +1,4 @@
+use Rattle.std.proofs.Common.{rules}
 use native.Mathlib.Omega.{arith}
 use Rattle.decision.proofs.Shapes.{here_few, here_placed}
 use Rattle.logic.proofs.LogicTurns.{out_82, out_83, out_84, not_none}
@@ -19,4 +20,4 @@ pub returns-in-701 : goal.returns-in-701
 returns-in-701 c = out_84 _ _ _ _ _ c.tag_at-tag.ensures c.in-701.is _ c.fixed-in-701.ensures
 
 pub returns-in_default : goal.returns-in_default
-returns-in_default c = not_none _ _ _ _ _ c.tag_at-tag.ensures c.in_default.in_default-own.rest.0.0.1 c.in_default.in_default-own.rest.0.1 c.in_default.in_default-own.rest.1
+returns-in_default c = search (rules, not_none)

@@ -12,11 +12,11 @@ pub returns-then-n-end : goal.returns-then-n-end
 returns-then-n-end c = c.loop-at.invariant.back _ (pairs_last _ c.args.types.now c.loop-at.at c.args.n c.loop-at-test.true _ c.type_end-end.ensures c.if-n-end.true)
 
 pub match_pattern-requires : goal.match_pattern-requires
-match_pattern-requires c = pairs_match [] c.args.types.now c.loop-at.at c.args.n c.loop-at-test.true c.loop-at.invariant.pre _ c.clear.ensures
+match_pattern-requires c = pairs_match [] c.args.types.now c.loop-at.at c.args.n c.loop-at-test.true c.loop-at.invariant.pre _ c.new-bindings.ensures
 
 pub returns-in_err-match_pattern : goal.returns-in_err-match_pattern
 returns-in_err-match_pattern c =
-    rw c.from_residual.ensures (c.loop-at.invariant.back _ (pairs_differ _ c.args.types.now c.loop-at.at c.args.n c.loop-at-test.true _ c.type_end-end.ensures (omega (arith, c.if-n-end.false)) _ _ c.clear.ensures _ c.match_pattern.ensures c.in_err-match_pattern.was))
+    rw c.from_residual.ensures (c.loop-at.invariant.back _ (pairs_differ _ c.args.types.now c.loop-at.at c.args.n c.loop-at-test.true _ c.type_end-end.ensures (omega (arith, c.if-n-end.false)) _ _ c.new-bindings.ensures _ c.match_pattern.ensures c.in_err-match_pattern.was))
 
 pub loop-at-smaller : goal.loop-at-smaller
 loop-at-smaller c = omega (arith, pairs_past [] c.args.types.now c.loop-at.at c.args.n c.loop-at-test.true _ c.type_end-end.ensures c.loop-at.invariant.pre)
@@ -24,7 +24,7 @@ loop-at-smaller c = omega (arith, pairs_past [] c.args.types.now c.loop-at.at c.
 pub loop-at-preserved : goal.loop-at-preserved
 loop-at-preserved c = record {
   pre = pairs_further [] c.args.types.now c.loop-at.at c.args.n c.loop-at-test.true _ c.type_end-end.ensures c.loop-at.invariant.pre;
-  back = λ r x. c.loop-at.invariant.back r (pairs_more _ c.args.types.now c.loop-at.at c.args.n c.loop-at-test.true _ c.type_end-end.ensures (omega (arith, c.if-n-end.false)) _ _ c.clear.ensures _ c.match_pattern.ensures c.in_ok-match_pattern.was r x);
+  back = λ r x. c.loop-at.invariant.back r (pairs_more _ c.args.types.now c.loop-at.at c.args.n c.loop-at-test.true _ c.type_end-end.ensures (omega (arith, c.if-n-end.false)) _ _ c.new-bindings.ensures _ c.match_pattern.ensures c.in_ok-match_pattern.was r x);
 }
 
 pub returns : goal.returns

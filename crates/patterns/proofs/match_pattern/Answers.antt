@@ -8,18 +8,18 @@ pub loop-symbol-init : goal.loop-symbol-init
 loop-symbol-init c = going_begins _ _ _ _ _ c.requires
 
 pub returns-then-n-at : goal.returns-then-n-at
-returns-then-n-at c = going_ends _ _ _ _ _ _ _ _ c.loop-symbol.invariant S.Bool c.loop-symbol-test.true _ _ (fit_none c.args.types.now c.loop-symbol.at c.args.n c.loop-symbol.bindings _ _ c.if-n-at.true)
+returns-then-n-at c = going_ends _ _ _ _ _ _ _ _ c.loop-symbol.invariant S.Bool c.loop-symbol-test.true _ _ (fit_none c.args.types.now c.loop-symbol.at c.args.n c.loop-symbol.bindings.items _ _ c.if-n-at.true)
 
 pub returns-then-types-at : goal.returns-then-types-at
 returns-then-types-at c =
     let l = fixed_small _ (sym c.variable.ensures ∙ c.in_default.is) in
-    going_ends _ _ _ _ _ _ _ _ c.loop-symbol.invariant _ c.loop-symbol-test.true _ _ (fit_other c.args.types.now c.loop-symbol.at c.args.n c.loop-symbol.bindings _ _ (omega arith) l (λ e. c.if-types-at.true (e ∙ sym c.byte.ensures)))
+    going_ends _ _ _ _ _ _ _ _ c.loop-symbol.invariant _ c.loop-symbol-test.true _ _ (fit_other c.args.types.now c.loop-symbol.at c.args.n c.loop-symbol.bindings.items _ _ (omega arith) l (λ e. c.if-types-at.true (e ∙ sym c.from.ensures)))
 
 pub loop-symbol-preserved-in_default : goal.loop-symbol-preserved-in_default
 loop-symbol-preserved-in_default c =
     let l = fixed_small _ (sym c.variable.ensures ∙ c.in_default.is) in
     going_next _ _ _ _ _ _ _ _ c.loop-symbol.invariant _ c.loop-symbol-test.true (omega arith) _ _
-    (next_fixed c.args.types.now c.loop-symbol.at c.args.n c.loop-symbol.bindings _ _ (omega arith) l (fixed_real _) (c.if-types-at.false ∙ c.byte.ensures))
+    (next_fixed c.args.types.now c.loop-symbol.at c.args.n c.loop-symbol.bindings.items _ _ (omega arith) l (fixed_real _) (c.if-types-at.false ∙ c.from.ensures))
 
 pub match_variable-requires : goal.match_variable-requires
 match_variable-requires c =

@@ -4,7 +4,7 @@ use Rattle.reading.proofs.AgainTurns.{Placing}
 use Rattle.reading.proofs.read_again.Given as goal
 
 abbrev pub invariant-loop-at : goal.invariant-loop-at
-invariant-loop-at l = Placing l.frame l.initial.again l.at l.again
+invariant-loop-at l = Placing l.bytes l.initial.again l.at l.again
 
 abbrev pub decreases-loop-at : goal.decreases-loop-at
-decreases-loop-at l = length l.frame - l.at
+decreases-loop-at l = length l.bytes - l.at

@@ -46,6 +46,7 @@ fn type_rule_at(places: &Places<'_>, a: usize, b: usize) -> Option<Decision>
 }
 
 // = of the expressions at places a and b.
+// Kept: no `or_else`: tried, and the proof knows nothing of a closure's answer unless it repeats the called function's clauses.
 pub fn equal_at(places: &Places<'_>, a: usize, b: usize) -> Option<Decision>
     requires { HereBoth places.now a b }
     ensures { DecidesPairAt equal_rules places.now a b result }

@@ -22,8 +22,7 @@ pub fn own_type_at(places: &Places<'_>, k: usize) -> bool
     ensures { OwnTypeAt places.now k result }
 {
     match places.tag_at(k) {
-        BOOL => true,
-        INTEGER => true,
+        BOOL | INTEGER => true,
         FREE_IDENT => is_given_at(places, k),
         POW => own_type_at(places, k + 1),
         CPROD => own_type_at(places, k + 1) && own_type_at(places, places.next_at(k + 1)),

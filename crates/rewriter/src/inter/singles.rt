@@ -18,12 +18,7 @@ pub fn count_singles(places: &Places<'_>, k: usize) -> usize
     requires { InterAt places.now k }
     ensures { CountAt places.now k result }
 {
-    // Kept: tried as filter and count; its lemmas ask what the test says at every number, also where no node is.
-    let mut m = 0;
-    for c in places.children(k) {
-        m += usize::from(is_single(places, c));
-    }
-    m
+    places.count_children(k, |c| is_single(places, c))
 }
 
 // Where the first of them is.

@@ -2,7 +2,7 @@ use Rattle.build.proofs.RowTurns.{kept_all, kept_step, kept_child, kept_next, ke
 use Rattle.build.proofs.rows.put_kept.Goals as goal
 
 pub loop-child-init : goal.loop-child-init
-loop-child-init c = kept_all c.args.places.now _ _ _ c.as_slice-child-items.ensures
+loop-child-init c = kept_all c.args.places.now _ _ _ c.as_slice-child-items.ensures.value
 
 pub copy_at-requires : goal.copy_at-requires
 copy_at-requires c = rw c.from.ensures

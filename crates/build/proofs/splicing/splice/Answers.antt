@@ -1,4 +1,5 @@
 use mathlib.Core.Path.{sym}
+use native.Mathlib.Omega.{arith}
 use lib.Seq.{length-take-le}
 use Rattle.put.proofs.Puts.{puts_as, between_back}
 use Rattle.build.proofs.SpliceTurns.{splice_few, splice_in_lem, splice_range, splice_build, splice_done}
@@ -17,10 +18,10 @@ pub slice_bounds-put_copy-end : goal.slice_bounds-put_copy-end
 slice_bounds-put_copy-end c = sym (length-take-le _ _ (splice_range c.args.places.now _ _ _ c.requires _ c.start_at-from.ensures.0 _ c.end_at-to.ensures).0)
 
 pub slice_bounds-put_copy-count : goal.slice_bounds-put_copy-count
-slice_bounds-put_copy-count c = (splice_range c.args.places.now _ _ _ c.requires _ c.start_at-from.ensures.0 _ c.end_at-to.ensures).1
+slice_bounds-put_copy-count c = let z = splice_range c.args.places.now _ _ _ c.requires _ c.start_at-from.ensures.0 _ c.end_at-to.ensures in omega arith
 
 pub slice_bounds-put_copy-start : goal.slice_bounds-put_copy-start
-slice_bounds-put_copy-start c = (splice_range c.args.places.now _ _ _ c.requires _ c.start_at-from.ensures.0 _ c.end_at-to.ensures).1
+slice_bounds-put_copy-start c = let z = splice_range c.args.places.now _ _ _ c.requires _ c.start_at-from.ensures.0 _ c.end_at-to.ensures in omega arith
 
 pub returns : goal.returns
 returns c = splice_done c.args.places.now _ _ _ c.requires _ c.start_at-from.ensures.0 _ c.end_at-to.ensures _ (rw c.clear.ensures at c.put_copy.ensures) _ c.build.ensures _

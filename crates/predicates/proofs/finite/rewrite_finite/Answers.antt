@@ -1,7 +1,7 @@
 use mathlib.Core.Path.{refl}
 use native.Mathlib.Omega.{arith}
 use Rattle.decision.proofs.Shapes.{here_few, here_placed}
-use Rattle.predicates.proofs.FiniteTurns.{finite_node, finite_6, finite_child, finite_8, set_here, finite_set, restricted_here, finite_restricted_lem, finite_none}
+use Rattle.predicates.proofs.FiniteTurns.{finite_node, finite_6, finite_child, finite_8, set_here, finite_set, restricted_here, finite_restricted_lem}
 use Rattle.predicates.proofs.finite.rewrite_finite.Goals as goal
 
 pub tag_at-tag-requires : goal.tag_at-tag-requires
@@ -21,15 +21,6 @@ finite_restricted_at-requires c = restricted_here _ _ _ _ _ c.tag_at-tag.ensures
 
 pub returns-in-407 : goal.returns-in-407
 returns-in-407 c = finite_node _ _ _ _ _ c.tag_at-tag.ensures 407 1 refl c.in-407.is _ c.fixed.ensures
-
-pub returns-in-402 : goal.returns-in-402
-returns-in-402 c = finite_node _ _ _ _ _ c.tag_at-tag.ensures 402 2 refl c.in-402.is _ c.fixed-in-402.ensures
-
-pub returns-in-403 : goal.returns-in-403
-returns-in-403 c = finite_node _ _ _ _ _ c.tag_at-tag.ensures 403 2 refl c.in-403.is _ c.fixed-in-403.ensures
-
-pub returns-in-401 : goal.returns-in-401
-returns-in-401 c = finite_node _ _ _ _ _ c.tag_at-tag.ensures 401 2 refl c.in-401.is _ c.fixed-in-401.ensures
 
 pub returns-in-404 : goal.returns-in-404
 returns-in-404 c = finite_node _ _ _ _ _ c.tag_at-tag.ensures 404 3 refl c.in-404.is _ c.fixed-in-404.ensures
@@ -62,17 +53,8 @@ pub returns-in-217 : goal.returns-in-217
 returns-in-217 c = finite_restricted_lem _ _ _ _ _ c.tag_at-tag.ensures c.in-217.is _ c.second_of-b.ensures _
     c.finite_restricted_at.ensures
 
+pub returns-in-402 : goal.returns-in-402
+returns-in-402 c = finite_node _ _ _ _ _ c.tag_at-tag.ensures c.tag_at-tag.result 2 (grind arith) refl _ c.fixed-in-402.ensures
+
 pub returns-in-410 : goal.returns-in-410
-returns-in-410 c = finite_node _ _ _ _ _ c.tag_at-tag.ensures 410 13 refl c.in-410.is _ c.fixed-in-410.ensures
-
-pub returns-in-411 : goal.returns-in-411
-returns-in-411 c = finite_node _ _ _ _ _ c.tag_at-tag.ensures 411 13 refl c.in-411.is _ c.fixed-in-411.ensures
-
-pub returns-in_default : goal.returns-in_default
-returns-in_default c = finite_none _ _ _ _ _ c.tag_at-tag.ensures c.in_default.in_default-own.rest.0.0.0.0.0.0.0.0.0.0.0.0.0.0.0.1
-    c.in_default.in_default-own.rest.0.0.0.0.0.0.0.0.0.0.0.0.0.0.1 c.in_default.in_default-own.rest.0.0.0.0.0.0.0.0.0.0.0.0.0.1
-    c.in_default.in_default-own.rest.0.0.0.0.0.0.0.0.0.0.0.0.1 c.in_default.in_default-own.rest.0.0.0.0.0.0.0.0.0.0.0.1
-    c.in_default.in_default-own.rest.0.0.0.0.0.0.0.0.0.0.1 c.in_default.in_default-own.rest.0.0.0.0.0.0.0.0.0.1
-    c.in_default.in_default-own.rest.0.0.0.0.0.0.0.0.1 c.in_default.in_default-own.rest.0.0.0.0.0.0.0.1 c.in_default.in_default-own.rest.0.0.0.0.0.0.1
-    c.in_default.in_default-own.rest.0.0.0.0.0.1 c.in_default.in_default-own.rest.0.0.0.0.1 c.in_default.in_default-own.rest.0.0.0.1 c.in_default.in_default-own.rest.0.0.1
-    c.in_default.in_default-own.rest.0.1 c.in_default.in_default-own.rest.1
+returns-in-410 c = finite_node _ _ _ _ _ c.tag_at-tag.ensures c.tag_at-tag.result 13 (grind arith) refl _ c.fixed-in-410.ensures

@@ -1,3 +1,4 @@
+use Rattle.std.proofs.Common.{rules}
 use mathlib.Core.Path.{refl}
 use native.Mathlib.Omega.{arith}
 use Rattle.decision.proofs.Shapes.{here_few, here_placed}
@@ -52,4 +53,4 @@ returns-in-101 c = of_inner _ _ _ _ _ c.tag_at.ensures c.if-tag_at-ne-NOT.false 
     c.unequal_at.ensures)
 
 pub returns-in_default : goal.returns-in_default
-returns-in_default c = of_inner _ _ _ _ _ c.tag_at.ensures c.if-tag_at-ne-NOT.false _ (not_none _ _ _ _ _ c.tag_at-tag.ensures c.in_default.in_default-own.rest)
+returns-in_default c = of_inner _ _ _ _ _ c.tag_at.ensures c.if-tag_at-ne-NOT.false _ (not_none _ _ _ _ _ c.tag_at-tag.ensures (search rules))

@@ -1,15 +1,12 @@
-use Rattle.std.proofs.Common.{arith}
-use Rattle.printing.proofs.AnswerTexts.{ended_room, ended_post, refused_short, refused_post}
+-- `printing::Text::put_answer` meets its contract.
+use Rattle.printing.proofs.AnswerTexts.{ended_room, ended_post, refused_post}
 use Rattle.printing.proofs.Text.put_answer.Goals as goal
 
 pub put_ended-requires : goal.put_ended-requires
 put_ended-requires c = ended_room _ _ _ c.in-Ok.is c.requires.0 _ c.word_of.ensures _ c.requires.1
 
-pub put_refused-requires : goal.put_refused-requires
-put_refused-requires c = omega (arith, refused_short c.in-Err.refusal, c.requires.1)
-
 pub returns-in-Ok : goal.returns-in-Ok
 returns-in-Ok c = ended_post _ _ _ c.in-Ok.is c.requires.0 _ c.word_of.ensures _ _ c.put_ended.ensures
 
 pub returns-in-Err : goal.returns-in-Err
-returns-in-Err c = refused_post _ _ _ c.in-Err.is _ _ c.put_refused.ensures
+returns-in-Err c = refused_post _ _ _ c.in-Err.is _ c.from.ensures c.from.type_inv _ _ c.put_refused.ensures

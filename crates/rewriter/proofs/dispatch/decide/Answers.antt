@@ -1,3 +1,4 @@
+use Rattle.std.proofs.Common.{rules}
 use mathlib.Core.Path.{refl}
 use native.Mathlib.Omega.{arith}
 use Rattle.frame.specs.Tags.{expression, lookup, class_of, form_at}
@@ -56,4 +57,4 @@ returns-in-111 c = past_logic _ _ _ _ _ c.in_default.ensures _
 
 pub returns-in_default-tag : goal.returns-in_default-tag
 returns-in_default-tag c = past_logic _ _ _ _ _ c.in_default.ensures _
-    (to_none _ _ _ _ _ c.tag_at-tag.ensures c.in_default-tag.in_default-tag-own.rest)
+    (to_none _ _ _ _ _ c.tag_at-tag.ensures (search rules))

@@ -1,3 +1,4 @@
+use Rattle.std.proofs.Common.{rules}
 use mathlib.Core.Path.{refl}
 use native.Mathlib.Omega.{arith}
 use Rattle.decision.proofs.Shapes.{here_few, here_placed}
@@ -20,7 +21,7 @@ pub decide_inter-requires : goal.decide_inter-requires
 decide_inter-requires c = inter_here _ _ _ _ _ c.tag_at-tag.ensures c.in-302.is c.requires
 
 pub empty_by_tag-requires : goal.empty_by_tag-requires
-empty_by_tag-requires c = (here_few c.requires, c.in_default.in_default-own.rest)
+empty_by_tag-requires c = (here_few c.requires, (search rules))
 
 pub returns-in-302 : goal.returns-in-302
 returns-in-302 c = empty_inter _ _ _ _ _ c.tag_at-tag.ensures c.in-302.is _ c.decide_inter.ensures

@@ -1,5 +1,5 @@
 use mathlib.Core.Path.{refl}
-use Rattle.rewriter.proofs.TypeTurns.{type_24, type_two, type_33, type_34, type_35, type_none}
+use Rattle.rewriter.proofs.TypeTurns.{type_24, type_two, type_33, type_34, type_35}
 use Rattle.decision.proofs.Shapes.{here_few, here_placed}
 use native.Mathlib.Omega.{arith}
 use Rattle.rewriter.proofs.equals.rewrite_equals_type.Goals as goal
@@ -44,14 +44,6 @@ pub returns-in-220 : goal.returns-in-220
 returns-in-220 c = type_two _ _ _ _ _ c.tag_at-tag.ensures 220 31 refl c.in-220.is _
     c.second_of-b.ensures _ c.fixed-in-220.ensures
 
-pub returns-in-215 : goal.returns-in-215
-returns-in-215 c = type_two _ _ _ _ _ c.tag_at-tag.ensures 215 32 refl c.in-215.is _
-    c.second_of-b.ensures _ c.fixed-in-215.ensures
-
-pub returns-in-216 : goal.returns-in-216
-returns-in-216 c = type_two _ _ _ _ _ c.tag_at-tag.ensures 216 32 refl c.in-216.is _
-    c.second_of-b.ensures _ c.fixed-in-216.ensures
-
 pub returns-in-755 : goal.returns-in-755
 returns-in-755 c = type_33 _ _ _ _ _ c.tag_at-tag.ensures c.in-755.is _ c.fixed-in-755.ensures
 
@@ -61,9 +53,6 @@ returns-in-763 c = type_34 _ _ _ _ _ c.tag_at-tag.ensures c.in-763.is _ c.fixed-
 pub returns-in-802 : goal.returns-in-802
 returns-in-802 c = type_35 _ _ _ _ _ c.tag_at-tag.ensures c.in-802.is _ c.second_of-b.ensures _ c.fixed-in-802.ensures
 
-pub returns-in_default : goal.returns-in_default
-returns-in_default c = type_none _ _ _ _ _ c.tag_at-tag.ensures c.in_default.in_default-own.rest.0.0.0.0.0.0.0.0.0.0.0.0.1
-    c.in_default.in_default-own.rest.0.0.0.0.0.0.0.0.0.0.0.1 c.in_default.in_default-own.rest.0.0.0.0.0.0.0.0.0.0.1
-    c.in_default.in_default-own.rest.0.0.0.0.0.0.0.0.0.1 c.in_default.in_default-own.rest.0.0.0.0.0.0.0.0.1 c.in_default.in_default-own.rest.0.0.0.0.0.0.0.1
-    c.in_default.in_default-own.rest.0.0.0.0.0.0.1 c.in_default.in_default-own.rest.0.0.0.0.0.1 c.in_default.in_default-own.rest.0.0.0.0.1 c.in_default.in_default-own.rest.0.0.0.1
-    c.in_default.in_default-own.rest.0.0.1 c.in_default.in_default-own.rest.0.1 c.in_default.in_default-own.rest.1
+pub returns-in-215 : goal.returns-in-215
+returns-in-215 c = type_two _ _ _ _ _ c.tag_at-tag.ensures c.tag_at-tag.result 32 (grind arith) refl _
+    c.second_of-b.ensures _ c.fixed-in-215.ensures

@@ -1,10 +1,9 @@
 use mathlib.Core.Path.{refl}
-use mathlib.Core.Logic.{inl, inr}
 use native.Mathlib.Omega.{arith}
 use Rattle.frame.specs.Tags.{predicate, lookup, class_of, form_at}
 use Rattle.decision.proofs.Shapes.{here_few, here_placed, two_here}
 use Rattle.decision.proofs.Descents.{here_child}
-use Rattle.rewriter.proofs.NodeTurns.{into, junction_here, junction_done, to_imp, to_eqv, to_not, to_forall, to_exists, to_none}
+use Rattle.rewriter.proofs.NodeTurns.{into, junction_here, junction_done, to_imp, to_eqv, to_not, to_forall, to_exists}
 use Rattle.rewriter.proofs.node.simplify_predicate_node.Goals as goal
 
 pub tag_at-tag-requires : goal.tag_at-tag-requires
@@ -15,12 +14,6 @@ overflow_add-a c = let z = here_few c.requires in omega arith
 
 pub second_of-b-requires : goal.second_of-b-requires
 second_of-b-requires c = here_few c.requires
-
-pub simplify_assoc_pred-requires : goal.simplify_assoc_pred-requires
-simplify_assoc_pred-requires c = junction_here _ _ _ _ _ c.tag_at-tag.ensures (inl c.in-351.is) c.requires
-
-pub simplify_assoc_pred-requires-in-352 : goal.simplify_assoc_pred-requires-in-352
-simplify_assoc_pred-requires-in-352 c = junction_here _ _ _ _ _ c.tag_at-tag.ensures (inr c.in-352.is) c.requires
 
 pub implication_at-requires : goal.implication_at-requires
 unfolding lookup class_of form_at
@@ -35,12 +28,6 @@ equivalence_at-requires c = two_here _ _ _ _ _ c.tag_at-tag.ensures 252 c.in-252
 pub negation_at-requires : goal.negation_at-requires
 unfolding lookup class_of form_at
 negation_at-requires c = here_child _ _ _ _ _ c.tag_at-tag.ensures 701 c.in-701.is predicate (λ x. refl) c.requires
-
-pub returns-in-351 : goal.returns-in-351
-returns-in-351 c = junction_done _ _ _ _ _ c.tag_at-tag.ensures (inl c.in-351.is) _ _ c.simplify_assoc_pred.ensures
-
-pub returns-in-352 : goal.returns-in-352
-returns-in-352 c = junction_done _ _ _ _ _ c.tag_at-tag.ensures (inr c.in-352.is) _ _ c.simplify_assoc_pred-in-352.ensures
 
 pub returns-in-251 : goal.returns-in-251
 returns-in-251 c = into _ _ _ _ _ _ _ (to_imp _ _ _ _ _ c.tag_at-tag.ensures _ c.second_of-b.ensures
@@ -59,5 +46,8 @@ returns-in-851 c = into _ _ _ _ _ _ _ (to_forall _ _ _ _ _ c.tag_at-tag.ensures 
 pub returns-in-852 : goal.returns-in-852
 returns-in-852 c = into _ _ _ _ _ _ _ (to_exists _ _ _ _ _ c.tag_at-tag.ensures c.in-852.is _ c.exists_at.ensures)
 
-pub returns-in_default : goal.returns-in_default
-returns-in_default c = into _ _ _ _ _ _ _ (to_none _ _ _ _ _ c.tag_at-tag.ensures c.in_default.in_default-own.rest)
+pub simplify_assoc_pred-requires : goal.simplify_assoc_pred-requires
+simplify_assoc_pred-requires c = junction_here _ _ _ _ _ c.tag_at-tag.ensures (grind arith) c.requires
+
+pub returns-in-351 : goal.returns-in-351
+returns-in-351 c = junction_done _ _ _ _ _ c.tag_at-tag.ensures (grind arith) _ _ c.simplify_assoc_pred.ensures

@@ -1,5 +1,4 @@
-use Rattle.std.proofs.Common.{ℕ, sym, ap, ◌∙◌, option_copied, List, length, ◌+◌, ◌-◌}
-use lib.Seq.{take_at}
+use Rattle.std.proofs.Common.{rules, ◌≡◌, sym, ap, ◌∙◌, option_copied, ◌+◌, ◌-◌}
 use Rattle.turn.specs.Progress.{At}
 use Rattle.turn.proofs.Ways.{turn_rests, turn_spent, turn_full, turn_on}
 use Rattle.turn.proofs.Progress.turn.Goals as goal
@@ -18,6 +17,6 @@ returns-in_default-frame c =
 
 pub returns : goal.returns
 returns c =
+    let f : c.try_extend_from_slice.new.self.items ≡ c.in-Some-frame.frame.now = search rules in
     turn_on _ c.args.self.now _ (ap option_copied c.in-Some.is) (λ e. c.if-self-eq0.false (ap (λ (a : At). a.left) c.self.view_is ∙ e))
-    _ (sym c.in-Some-frame.ensures.bytes) _ (take_at _ _ _ (ap (λ (l : List ℕ). length l) c.copy_from_slice.ensures.after) ∙ c.copy_from_slice.ensures.after)
-    (ap (λ (a : At). a.left - 1) c.self.view_is) (ap (λ (a : At). a.steps + 1) c.self.view_is)
+    _ (sym c.in-Some-frame.ensures.bytes) _ f (ap (λ (a : At). a.left - 1) c.self.view_is) (ap (λ (a : At). a.steps + 1) c.self.view_is)

@@ -1,4 +1,5 @@
-use Rattle.rewriter.proofs.OwnTurns.{out_bool, out_int, name_here, out_ident, out_pow, out_other, out_first, out_both}
+use Rattle.std.proofs.Common.{rules}
+use Rattle.rewriter.proofs.OwnTurns.{out_atom, name_here, out_ident, out_pow, out_other, out_first, out_both}
 use Rattle.decision.proofs.Descents.{here_child, here_first, here_second, after_first_lem}
 use Rattle.decision.proofs.Shapes.{here_few, here_placed, two_here}
 use Rattle.frame.specs.Tags.{expression, lookup, class_of, form_at}
@@ -8,12 +9,6 @@ use Rattle.rewriter.proofs.equals.own_type.+own_type_at.Goals as goal
 
 pub tag_at-requires : goal.tag_at-requires
 tag_at-requires t c = here_placed c.requires
-
-pub returns-in-404 : goal.returns-in-404
-returns-in-404 t c = out_bool _ _ _ _ _ c.tag_at.ensures c.in-404.is
-
-pub returns-in-401 : goal.returns-in-401
-returns-in-401 t c = out_int _ _ _ _ _ c.tag_at.ensures c.in-401.is
 
 pub is_given_at-requires : goal.is_given_at-requires
 is_given_at-requires t c = name_here _ _ _ _ _ c.tag_at.ensures c.in-1.is c.requires
@@ -71,6 +66,8 @@ pub returns-else-own_type_at : goal.returns-else-own_type_at
 returns-else-own_type_at t c =
     rw c.if-own_type_at.false (out_first _ _ _ _ _ c.tag_at.ensures c.in-214.is _ c.own_type_at-in-214.ensures c.if-own_type_at.false)
 
+pub returns-in-404 : goal.returns-in-404
+returns-in-404 t c = out_atom _ _ _ _ _ c.tag_at.ensures c.in-404.is
+
 pub returns-in_default : goal.returns-in_default
-returns-in_default t c =
-    let r = c.in_default.in_default-own.rest in out_other _ _ _ _ _ c.tag_at.ensures r.0.0.0.0.1 r.0.0.0.1 r.0.0.1 r.0.1 r.1
+returns-in_default t c = search (rules, out_other)

@@ -1,2 +1,0 @@
-pub mod CopyLaws
-pub mod Fronts

@@ -1,0 +1,14 @@
+-- `simplify::stream::put_run` meets its contract.
+use Rattle.std.proofs.Common.{replicate, refl}
+use Rattle.run.specs.Run.{run}
+use Rattle.program.specs.Text.{budget, lent}
+use Rattle.simplify.proofs.LineTexts.{run_answers}
+use Rattle.simplify.proofs.stream.put_run.Goals as goal
+
+pub put_answer-requires : goal.put_answer-requires
+put_answer-requires c =
+    ((_, run_answers c.args.frame.now (λ i. (c.type_inv.frame i).fits) (replicate 4096 0) refl _ _ c.run-answer.ensures), c.requires)
+
+pub returns : goal.returns
+returns c = c.put_answer.ensures.puts (run c.args.frame.now budget lent)
+    (run_answers c.args.frame.now (λ i. (c.type_inv.frame i).fits) (replicate 4096 0) refl _ _ c.run-answer.ensures)
