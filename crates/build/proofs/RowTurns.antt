@@ -29,7 +29,7 @@ use Rattle.put.specs.Out.{Puts, behind}
 use Rattle.put.proofs.Puts.{puts_nil, puts_then, puts_as}
 use Rattle.decision.specs.Decision.{At, places_of}
 use Rattle.decision.specs.declared.kept.KeptChild.{KeptChild}
-use Rattle.decision.proofs.Shapes.{Double, double, place_few}
+use Rattle.decision.proofs.Shapes.{Double, double}
 use Rattle.decision.proofs.ChildWalks.{Lefts, walk_first, walk_next, walk_end, walk_tree}
 use Rattle.filling.specs.Operands.{SubtreePost}
 use Rattle.build.specs.Rows.{CopyPost, row_of, minuend_bytes, subtrahend_bytes, BytesAt, ShareAt, Shares, Sharing, RowPre, RowPost, MinusRowPost, KeptPre, KeptPost}
@@ -99,14 +99,14 @@ module _ (pl : Places) (c tag : ℕ) (pt : TagAt pl c tag) where
     bytes = λ t Γ w tb f. (Γ, w, f, ap enc (not_minus w (λ z. h (pt.tag t pl.count Γ w tb.framed f ∙ z))).0);
   }
 
-  pub subtrahend_right : tag ≡ 213 → (b : ℕ) → (c + 1 < 2048 → b ≡ get_or pl.nexts.now (c + 1) 0) → ShareAt subtrahend_bytes pl c (Some b)
+  pub subtrahend_right : tag ≡ 213 → (b : ℕ) → b ≡ get_or pl.nexts.now (c + 1) 0 → ShareAt subtrahend_bytes pl c (Some b)
   unfolding enc
   subtrahend_right key b eb = record {
     bytes = λ t Γ w tb f.
         (let d = parts key t Γ w tb f in (
           _,
           d.0.b,
-          ap (find t []) (eb (place_few tb d.1.0)) ∙ d.1.1,
+          ap (find t []) eb ∙ d.1.1,
           ap (λ (u : Tree). encs (with_subtrahend (minus_of u) nil)) d.0.is ∙ append-nil (enc d.0.b),
         ));
   }

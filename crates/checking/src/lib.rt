@@ -27,7 +27,8 @@ fn typing_ok(frame: &Frame<'_>, leaves: &[u16; 2048]) -> bool
     ensures { TypedPost frame.now.bytes.now leaves.now result }
 {
     match frame.bytes.len() {
-        0..=254 => typed_in::<8192>(frame, leaves),
+        0..=62 => typed_in::<2048>(frame, leaves),
+        63..=254 => typed_in::<8192>(frame, leaves),
         255..=1022 => typed_in::<32768>(frame, leaves),
         _ => typed_in::<131136>(frame, leaves),
     }

@@ -167,13 +167,13 @@ module _ (rule : Ctx → Tree → Change) (s st nx : List ℕ) (k tag g place : 
   OfChild = tag ≡ g → Decided (Some (D.Fixed place place (k + 1) (k + 1) k))
 
   abbrev pub OfTwo : Type 0
-  OfTwo = tag ≡ g → (j : ℕ) → (k + 1 < 2048 → j ≡ get_or nx (k + 1) 0) → Decided (Some (D.Fixed place place (k + 1) j k))
+  OfTwo = tag ≡ g → (j : ℕ) → j ≡ get_or nx (k + 1) 0 → Decided (Some (D.Fixed place place (k + 1) j k))
 
   abbrev pub OfEach : Type 0
   OfEach = tag ≡ g → Decided (Some (D.Each place k k))
 
   abbrev pub OfPair : Type 0
-  OfPair = tag ≡ g → (j : ℕ) → (k + 1 < 2048 → j ≡ get_or nx (k + 1) 0) → (m : ℕ) → ArityPost s st k m
+  OfPair = tag ≡ g → (j : ℕ) → j ≡ get_or nx (k + 1) 0 → (m : ℕ) → ArityPost s st k m
       → Decided (pick (eqb m 2) (Some (D.Fixed place place (k + 1) j k)) None)
 
 -- what a function decides by the tag at place k alone
@@ -241,7 +241,7 @@ module _ (rule : Ctx → Tree → Change) (s st nx : List ℕ) (k tag : ℕ) (pt
               let fx : find t [] k ≡ found Γ x = f ∙ ap (found Γ) o.is in
               let fs = two_children t nx tb.follows k Γ g o.n o.us o.a o.b fx in
               let Δ : Ctx = under g o.us Γ in
-              rw (er, o.is, ej (place_few tb fs.0))
+              rw (er, o.is, ej)
               (fixed_at t place place (rule Γ x) (side place Δ o.a o.b o.us) (ans Γ o.n o.us o.a o.b) (k + 1)
               (get_or nx (k + 1) 0) k Δ Γ o.a o.b x fs.0 fs.1 fx bd (sym (right_side place has Δ o.a o.b o.us)));
         }
@@ -343,7 +343,7 @@ module _ (rule : Ctx → Tree → Change) (s st nx : List ℕ) (k tag : ℕ) (pt
           let fs = two_children t nx tb.follows k Γ g i us a b fx in
           let x : Tree = node (head g i us) (cons a (cons b nil)) in
           let Δ : Ctx = under g us Γ in
-          rw (ej (place_few tb fs.0))
+          rw ej
           (fixed_at t place place (rule Γ x) (side place Δ a b us) (ans Γ i us (cons a (cons b nil))) (k + 1)
           (get_or nx (k + 1) 0) k Δ Γ a b x fs.0 fs.1 fx bd (sym (right_side place has Δ a b us)))
       go t n Γ i us (cons a (cons b (cons d ks))) tb fx w Ξ kept =
@@ -361,7 +361,7 @@ two_or_none ks k = or_same (with2 ks k)
 
 -- a rule that goes on to a node's two children
 module _ (s st nx : List ℕ) (k tag : ℕ) (pt : TagPost s st k tag) (g : ℕ) (key : tag ≡ g) (e d : Sort) (tk : Takes g (e ∷ d ∷ [])) (j : ℕ)
-    (ej : k + 1 < 2048 → j ≡ get_or nx (k + 1) 0) where
+    (ej : j ≡ get_or nx (k + 1) 0) where
   pub two_here : Here s st nx k → HereTwo s st nx (k + 1) j
   two_here h =
       let o = double g e d tk h.v (place_sorted s h.t st h.n h.table.framed k h.Γ h.v h.there)
@@ -375,7 +375,7 @@ module _ (s st nx : List ℕ) (k tag : ℕ) (pt : TagPost s st k tag) (g : ℕ) 
         v = o.a;
         w = o.b;
         first = fs.0;
-        second = rw (ej (place_few h.table fs.0)) fs.1;
+        second = rw ej fs.1;
       }
 
   pub by_both : (rule : Ctx → Tree → Change) (on : Ctx → Tree → Tree → Change)
@@ -387,7 +387,7 @@ module _ (s st nx : List ℕ) (k tag : ℕ) (pt : TagPost s st k tag) (g : ℕ) 
             let o = double g e d tk v (place_sorted s t st n tb.framed k Γ v f) (sym (pt.tag t n Γ v tb.framed f) ∙ key) in
             let fs = two_children t nx tb.follows k Γ g o.n o.us o.a o.b (f ∙ ap (found Γ) o.is) in
             rw (o.is, ans Γ o.n o.us o.a o.b)
-            (de.means t n (under g o.us Γ) o.a o.b tb fs.0 (rw (ej (place_few tb fs.0)) fs.1) w Ξ kept);
+            (de.means t n (under g o.us Γ) o.a o.b tb fs.0 (rw ej fs.1) w Ξ kept);
       }
 
   -- where the rule does not ask for the context

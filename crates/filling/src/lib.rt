@@ -44,6 +44,9 @@ fn type_of_place(places: &Places<'_>, k: usize) -> TypeBytes
     if places.arity_at(k) == 0 {
         return type_with(places, k, &mut [0; 128]);
     }
+    if places.bytes.len() <= 62 {
+        return type_with(places, k, &mut [0; 2048]);
+    }
     if places.bytes.len() <= 254 {
         return type_with(places, k, &mut [0; 8192]);
     }

@@ -3,7 +3,7 @@
 use Rattle.std.proofs.Common.{Option, Some, None}
 use mathlib.Core.Path.{◌≡◌, refl, sym, ap, ◌∙◌}
 use mathlib.Core.List.{List, [], ◌∷◌}
-use Prim.Native.Nat.{ℕ, ◌+◌, ◌<◌}
+use Prim.Native.Nat.{ℕ, ◌+◌}
 use lib.ListN.{get_or}
 use borrow.Author.Tests.{ne_eqb}
 use Rattle.frame.specs.Types.{Ty}
@@ -26,7 +26,7 @@ use Rattle.decision.specs.Decides.{Here, Decides}
 use Rattle.decision.specs.RulesAt.{forall_of, exists_of}
 use Rattle.decision.specs.declared.Decision.{Decision}
 use Rattle.decision.specs.declared.Decision.TheVariants as D
-use Rattle.decision.proofs.Shapes.{Takes, single, double, any, place_few, fixed_at, Counts, few_of, Joins, each_means, by_other}
+use Rattle.decision.proofs.Shapes.{Takes, single, double, any, fixed_at, Counts, few_of, Joins, each_means, by_other}
 use Rattle.decision.proofs.Descents.{here_child}
 
 -- ---- ∀ over ∧, ∃ over ∨ and over ⇒
@@ -107,7 +107,7 @@ module _ (s st nx : List ℕ) (k tag : ℕ) (pt : TagPost s st k tag) where
         each_of_body body pb 852 key (λ x. refl) exists_of 352 86 z (λ n us m. refl) or_bytes refl (λ Γ i us j vs ks. refl)
         (λ Δ us a. sym (right_side 86 refl Δ a a us))
 
-    pub out_87 : tag ≡ 852 → body ≡ 251 → (j : ℕ) → (k + 1 + 1 < 2048 → j ≡ get_or nx (k + 1 + 1) 0) → (r : Option Decision)
+    pub out_87 : tag ≡ 852 → body ≡ 251 → (j : ℕ) → j ≡ get_or nx (k + 1 + 1) 0 → (r : Option Decision)
         → r ≡ Some (D.Fixed 87 87 (k + 1 + 1) j k) → Decides exists_of s st nx k r
     unfolding on_tag lookup class_of form_at side
     out_87 key z j ej r er =
@@ -118,7 +118,7 @@ module _ (s st nx : List ℕ) (k tag : ℕ) (pt : TagPost s st k tag) where
         let fs = two_children t nx tb.follows (k + 1) Δ 251 y.n y.us y.a y.b fy in
         let new : Tree = two #LImp (quantified #Forall us y.a) (quantified #Exists us y.b) in
         let b : Tree = node (head 852 i us) (cons a nil) in
-        rw (er, ej (place_few tb fs.0))
+        rw (er, ej)
         (fixed_at t 87 87 (exists_of Γ b) new (ap (λ (q : Tree). exists_of Γ (node (head 852 i us) (cons q nil))) y.is) (k + 1 + 1)
         (get_or nx (k + 1 + 1) 0) k Δ Γ y.a y.b b fs.0 fs.1 fx refl (sym (right_side 87 refl Δ y.a y.b us))))
 

@@ -150,10 +150,11 @@ impl<'a> Places<'a> {
         sameness::same_tree(self.bytes, x, y).is_some()
     }
 
-    // The place of the second child of the node at place k, if it has two: looked up before the tag is known.
+    // The place of the second child of the node at place k, if it has two: looked up before the tag is known. Zero for the last place that
+    // there can be, which has no child.
     pub fn second_of(&self, k: usize) -> usize
         requires { k < 2048 }
-        ensures { k + 1 < 2048 → result ≡ get_or self.now.nexts.now (k + 1) 0 }
+        ensures { result ≡ get_or self.now.nexts.now (k + 1) 0 }
     {
         let nexts = self.nexts;
         nexts.get(k + 1).map_or(0, |&next| usize::from(next))

@@ -87,7 +87,7 @@ module _ (s st nx : List ℕ) (k tag : ℕ) (pt : TagPost s st k tag) where
         }
 
   -- ◁: by its two operands
-  module _ (key : tag ≡ 217) (j : ℕ) (ej : k + 1 < 2048 → j ≡ get_or nx (k + 1) 0) where
+  module _ (key : tag ≡ 217) (j : ℕ) (ej : j ≡ get_or nx (k + 1) 0) where
     pub restricted_here : Here s st nx k → HereTwo s st nx (k + 1) j
     unfolding lookup class_of form_at
     restricted_here = two_here s st nx k tag pt 217 key expression expression (λ x. refl) j ej

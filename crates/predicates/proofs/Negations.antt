@@ -4,7 +4,7 @@ use Rattle.std.proofs.Common.{Option, Some, None}
 use mathlib.Core.Path.{◌≡◌, refl, sym, ◌∙◌}
 use mathlib.Core.Bool.{true}
 use mathlib.Core.List.{List, [], ◌∷◌}
-use Prim.Native.Nat.{ℕ, ◌+◌, ◌<◌}
+use Prim.Native.Nat.{ℕ, ◌+◌}
 use lib.ListN.{get_or}
 use borrow.Author.Tests.{ne_eqb}
 use Rattle.frame.specs.Trees.{head, Tree, node, tag_of, leaf, two}
@@ -91,7 +91,7 @@ module _ (s st nx : List ℕ) (k tag : ℕ) (pt : TagPost s st k tag) where
   unfolding on_tag lookup class_of form_at side
   not_compared = by_doubles (λ Γ. rewrite_not_inner) s st nx k tag pt comparisons refl refl expression expression (λ x. refl) (λ Γ n us a b. refl)
 
-  module _ (j : ℕ) (ej : k + 1 < 2048 → j ≡ get_or nx (k + 1) 0) where
+  module _ (j : ℕ) (ej : j ≡ get_or nx (k + 1) 0) where
     -- ¬ a = b: at the two children
     pub equation_here : tag ≡ 101 → Here s st nx k → HereTwo s st nx (k + 1) j
     unfolding lookup class_of form_at

@@ -3,7 +3,7 @@
 use Rattle.std.proofs.Common.{Option, Some, None}
 use mathlib.Core.Path.{◌≡◌, refl, sym, ap, ◌∙◌}
 use mathlib.Core.List.{List, []}
-use Prim.Native.Nat.{ℕ, ◌+◌, ◌<◌}
+use Prim.Native.Nat.{ℕ, ◌+◌}
 use native.Mathlib.Omega.{arith}
 use lib.ListN.{get_or}
 use Rattle.frame.specs.Types.{Ty}
@@ -21,7 +21,7 @@ use Rattle.decision.specs.Decides.{Decides}
 use Rattle.decision.specs.RulesAt.{partition_of}
 use Rattle.decision.specs.declared.Decision.{Decision}
 use Rattle.decision.specs.declared.Decision.TheVariants as D
-use Rattle.decision.proofs.Shapes.{any, place_few, fixed_at, by_other}
+use Rattle.decision.proofs.Shapes.{any, fixed_at, by_other}
 
 -- ---- partition(S), partition(S, T)
 module _ (s st nx : List ℕ) (k tag : ℕ) (pt : TagPost s st k tag) where
@@ -57,7 +57,7 @@ module _ (s st nx : List ℕ) (k tag : ℕ) (pt : TagPost s st k tag) where
             (node (head 901 i us) (cons a nil)) fa fa fx refl (sym (right_side 14 refl Γ a a us))
         go t n Γ i us (cons a (cons b ks)) tb fx h = absurd (omega arith)
 
-    pub part_15 : m ≡ 2 → (j : ℕ) → (k + 1 < 2048 → j ≡ get_or nx (k + 1) 0) → (r : Option Decision) → r ≡ Some (D.Fixed 15 15 (k + 1) j k)
+    pub part_15 : m ≡ 2 → (j : ℕ) → j ≡ get_or nx (k + 1) 0 → (r : Option Decision) → r ≡ Some (D.Fixed 15 15 (k + 1) j k)
         → Decides partition_of s st nx k r
     unfolding lookup class_of form_at side rewrite_partition
     part_15 z j ej r er = part r (λ t n Γ i us ks tb fx em w Ξ kept. rw er (go t n Γ i us ks tb fx (sym em ∙ z)))
@@ -68,7 +68,7 @@ module _ (s st nx : List ℕ) (k tag : ℕ) (pt : TagPost s st k tag) where
         go t n Γ i us (cons a nil) tb fx h = absurd (omega arith)
         go t n Γ i us (cons a (cons b nil)) tb fx h =
             let fs = two_children t nx tb.follows k Γ 901 i us a b fx in
-            rw (ej (place_few tb fs.0))
+            rw ej
             (fixed_at t 15 15 (to 15 (two #Equal a b)) (two #Equal a b) refl (k + 1) (get_or nx (k + 1) 0) k Γ Γ a b
             (node (head 901 i us) (cons a (cons b nil))) fs.0 fs.1 fx refl (sym (right_side 15 refl Γ a b us)))
         go t n Γ i us (cons a (cons b (cons c ks))) tb fx h = absurd (omega arith)

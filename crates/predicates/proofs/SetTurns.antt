@@ -30,7 +30,7 @@ module _ (s st nx : List ℕ) (k : ℕ) where
   pub set_placed : SetPre s st nx k → Placed s st k
   set_placed h = placed h.table h.there
 
-  module _ (j : ℕ) (ej : k + 1 < 2048 → j ≡ get_or nx (k + 1) 0) where
+  module _ (j : ℕ) (ej : j ≡ get_or nx (k + 1) 0) where
     -- the predicate, and the value
     pub record Parts (t : Tree) (Γ : Ctx) (us : List Ty) (p e : Tree) : Type 0 where
       pub body : find t [] (k + 1) ≡ found (push us Γ) p
@@ -41,7 +41,7 @@ module _ (s st nx : List ℕ) (k : ℕ) where
     unfolding lookup class_of form_at
     parts t n Γ x us p e tb f =
         let c = two_children t nx tb.follows k Γ 803 x us p e f in
-        record { body = c.0; value = rw (ej (place_few tb c.0)) c.1 }
+        record { body = c.0; value = rw ej c.1 }
 
     here_parts : (h : SetPre s st nx k) → Parts h.t h.Γ h.us h.p h.e
     here_parts h = parts h.t h.n h.Γ h.x h.us h.p h.e h.table h.there
@@ -64,7 +64,7 @@ module _ (s st nx : List ℕ) (k : ℕ) where
           go : (us : List Ty) (p e : Tree) → (tag_of e ≡ 201 → ⊥) → finite_lambda us p e ≡ same
           go us p (node (head g n vs) ks) h = rw (ne_eqb g 201 h)
 
-      module _ (key : tag ≡ 201) (i : ℕ) (ei : j + 1 < 2048 → i ≡ get_or nx (j + 1) 0) where
+      module _ (key : tag ≡ 201) (i : ℕ) (ei : i ≡ get_or nx (j + 1) 0) where
         -- the two sides of the maplet
         record Sides (t : Tree) (Γ : Ctx) (us : List Ty) (e : Tree) : Type 0 where
           shape : Double 201 e
@@ -78,7 +78,7 @@ module _ (s st nx : List ℕ) (k : ℕ) where
             let o = double 201 expression expression (λ x. refl) e (place_sorted s t st n tb.framed j Δ e f)
             (sym (pt.tag t n Δ e tb.framed f) ∙ key) in
             let c = two_children t nx tb.follows j Δ 201 o.n o.us o.a o.b (f ∙ ap (found Δ) o.is) in
-            record { shape = o; left = c.0; right = rw (ei (place_few tb c.0)) c.1 }
+            record { shape = o; left = c.0; right = rw ei c.1 }
 
         pub set_sides : SetPre s st nx k → Both s st nx (j + 1) i
         set_sides h =

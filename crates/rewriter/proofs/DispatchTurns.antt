@@ -2,7 +2,7 @@
 -- Main results: by_logic, past_logic; to_rewrite_not, to_finite, to_partition, to_equal, to_subset, to_none (past logic, by the tag).
 use mathlib.Core.Path.{◌≡◌, refl}
 use mathlib.Core.List.{List, [], ◌∷◌}
-use Prim.Native.Nat.{ℕ, ◌+◌, ◌<◌}
+use Prim.Native.Nat.{ℕ, ◌+◌}
 use lib.ListN.{get_or}
 use borrow.Author.Tests.{ne_eqb}
 use Rattle.std.proofs.Common.{Option, Some, None}
@@ -66,7 +66,7 @@ module _ (s st nx : List ℕ) (k tag : ℕ) (pt : TagPost s st k tag) where
   to_finite key = by_child s st nx k tag pt 620 key expression (λ x. refl) after_logic rewrite_finite (λ Γ n us a. or_same (rewrite_finite Γ a))
 
   -- at its two children
-  module _ (b : ℕ) (eb : k + 1 < 2048 → b ≡ get_or nx (k + 1) 0) where
+  module _ (b : ℕ) (eb : b ≡ get_or nx (k + 1) 0) where
     pub to_equal : tag ≡ 101 → (r : Option Decision) → DecidesPair equal_rules s st nx (k + 1) b r → Decides after_logic s st nx k r
     unfolding rewrite_not on_tag lookup class_of form_at
     to_equal key =

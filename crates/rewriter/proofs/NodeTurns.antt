@@ -4,7 +4,7 @@
 use mathlib.Core.Path.{◌≡◌, refl, sym, ap, ◌∙◌}
 use mathlib.Core.List.{List, [], ◌∷◌}
 use mathlib.Core.Logic.{◌⊎◌, ⊎_elim}
-use Prim.Native.Nat.{ℕ, ◌+◌, ◌<◌}
+use Prim.Native.Nat.{ℕ, ◌+◌}
 use lib.ListN.{get_or}
 use borrow.Author.Tests.{ne_eqb}
 use Rattle.std.proofs.Common.{Option, None}
@@ -112,7 +112,7 @@ module _ (s st nx : List ℕ) (k tag : ℕ) (pt : TagPost s st k tag) where
       by_child s st nx k tag pt 701 key predicate (λ x. refl) (λ Γ. simplify_predicate_node) (λ Γ. simplify_not) (λ Γ n us a. or_same (simplify_not a))
 
   -- at its two children
-  module _ (b : ℕ) (eb : k + 1 < 2048 → b ≡ get_or nx (k + 1) 0) where
+  module _ (b : ℕ) (eb : b ≡ get_or nx (k + 1) 0) where
     pub to_imp : tag ≡ 251 → (r : Option Decision) → DecidesTwo simplify_imp s st nx (k + 1) b r → DecidesOne simplify_predicate_node s st nx k r
     unfolding simplify_predicate_node on_tag lookup class_of form_at
     to_imp key =

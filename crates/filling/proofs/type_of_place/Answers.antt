@@ -9,6 +9,9 @@ arity_at-requires c = let p = c.requires in record { t = p.t; n = _; framed = p.
 pub type_with-requires : goal.type_with-requires
 type_with-requires c = (c.requires, work_own _ _ _ refl _ c.arity_at.ensures c.if-arity_at-eq0.true)
 
+pub type_with-requires-then-places-le62 : goal.type_with-requires-then-places-le62
+type_with-requires-then-places-le62 c = (c.requires, work_all _ _ _ (omega arith))
+
 pub type_with-requires-then-places-le254 : goal.type_with-requires-then-places-le254
 type_with-requires-then-places-le254 c = (c.requires, work_all _ _ _ (omega arith))
 

@@ -35,7 +35,7 @@ overflow_add-k-in-214 t c = let z = here_few c.requires in omega arith
 pub own_type_at-requires-in-214 : goal.own_type_at-requires-in-214
 unfolding lookup class_of form_at
 own_type_at-requires-in-214 t c =
-    let h = here_first (two_here _ _ _ _ _ c.tag_at.ensures 214 c.in-214.is expression expression (λ x. refl) _ (λ z. refl) c.requires) in
+    let h = here_first (two_here _ _ _ _ _ c.tag_at.ensures 214 c.in-214.is expression expression (λ x. refl) _ refl c.requires) in
     let z = here_few h in
     (omega arith, h)
 
@@ -45,13 +45,13 @@ overflow_add-k-then-own_type_at t c = let z = here_few c.requires in omega arith
 pub next_at-requires : goal.next_at-requires
 unfolding lookup class_of form_at
 next_at-requires t c =
-    here_few (here_first (two_here _ _ _ _ _ c.tag_at.ensures 214 c.in-214.is expression expression (λ x. refl) _ (λ z. refl) c.requires))
+    here_few (here_first (two_here _ _ _ _ _ c.tag_at.ensures 214 c.in-214.is expression expression (λ x. refl) _ refl c.requires))
 
 pub own_type_at-requires-then-own_type_at : goal.own_type_at-requires-then-own_type_at
 unfolding lookup class_of form_at
 own_type_at-requires-then-own_type_at t c =
     let q = c.next_at.ensures.0 in
-    let w = two_here _ _ _ _ _ c.tag_at.ensures 214 c.in-214.is expression expression (λ x. refl) _ (λ z. q) c.requires in
+    let w = two_here _ _ _ _ _ c.tag_at.ensures 214 c.in-214.is expression expression (λ x. refl) _ q c.requires in
     let h = here_second w in
     let z = here_few h in
     let x = after_first_lem (here_first w) in
