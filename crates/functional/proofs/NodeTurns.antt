@@ -29,7 +29,7 @@ use Rattle.functional.specs.Functional.{bit, is_binder, BindersPost, OwnPost}
 use Rattle.functional.proofs.Bits.{bit_none, bit_one}
 
 -- ---- the tags with binders
-has_binders : Layout → Bool
+pub has_binders : Layout → Bool
 has_binders (these es) = false
 has_binders (payload w) = false
 has_binders (counted lo hi e) = false
@@ -67,7 +67,7 @@ kind_past g h =
       ne_eqb g 852 (λ e. omega arith),
     ))
 
-binder_kind : (g : ℕ) → has_binders (form_of g).layout ≡ is_binder g
+pub binder_kind : (g : ℕ) → has_binders (form_of g).layout ≡ is_binder g
 binder_kind g = go (ltb g 950) refl
   where
     go : (b : Bool) → ltb g 950 ≡ b → has_binders (form_of g).layout ≡ is_binder g

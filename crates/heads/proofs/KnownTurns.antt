@@ -186,7 +186,7 @@ module _ (s : List ℕ) (at : ℕ) (o : Opening) (post : OpeningPost s at o) whe
   is_types : o.types ≡ types_at s at
   is_types = post.types ∙ ap (λ (fm : T.Form). at + 2 + width fm.layout) opened
 
-  known_range : HeadStands s at → in_range (meant o.form).layout o.number ≡ true
+  pub known_range : HeadStands s at → in_range (meant o.form).layout o.number ≡ true
   known_range k =
       ap₂ (λ (fm : T.Form) (i : ℕ). in_range fm.layout i) opened is_behind
       ∙ (head_at s at k.0 k.1 k.2 k.3).inv.range

@@ -55,7 +55,7 @@ pub unlike_by_keys : (v w : Tree) → Sorted w → (key_of v ≡ key_of w → �
 unlike_by_keys v w o d = record { same = unlike v w d; opposite = unlike v (make_neg w) (λ z. d (z ∙ key_opposite w o)) }
 
 -- ---- the sum over a tree's bytes
-all_nodes : {s st nx : List ℕ} (t : Tree) (n : ℕ) → Table s t st nx n → get_or nx 0 0 ≡ n
+pub all_nodes : {s st nx : List ℕ} (t : Tree) (n : ℕ) → Table s t st nx n → get_or nx 0 0 ≡ n
 unfolding find
 all_nodes (node h ks) n tb = tb.follows.next 0 [] (node h ks) (omega arith) refl ∙ omega (arith, tb.framed.size)
 

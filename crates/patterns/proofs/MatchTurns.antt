@@ -130,7 +130,7 @@ module _ (b : ℕ) (ps : List ℕ) (t : Ty) (us ρ : List Ty) where
     off_new k = rw (le-ltb b 5 l, lt-ltb b 9 h, le-ltb (b - 5) (length ρ) (omega arith), ne_eqb (b - 5) (length ρ) (omega arith))
 
 -- ---- a type that stands at the start of a row is the first of the row
-same_row : (types : List ℕ) (at n : ℕ) (t : Ty) (us : List Ty) → RowAt types at n (t ∷ us) → (u : Ty) → TyWf u → (e : ℕ) → Spans types at e (enc_ty u) → e ≤ n → t ≡ u
+pub same_row : (types : List ℕ) (at n : ℕ) (t : Ty) (us : List Ty) → RowAt types at n (t ∷ us) → (u : Ty) → TyWf u → (e : ℕ) → Spans types at e (enc_ty u) → e ≤ n → t ≡ u
 unfolding enc_tys
 same_row types at n t us r u w e a h =
     let xs = enc_ty t ++ enc_tys us in
@@ -158,7 +158,7 @@ at_snoc [] x (suc i) s e = cc
 at_snoc (y ∷ sp) x zero s e = inl e
 at_snoc (y ∷ sp) x (suc i) s e = elim (at_snoc sp x i s e) [ inl h ↦ inl h | inr h ↦ inr (ap suc h.0, h.1) ]
 
-env_new : (types : List ℕ) (n : ℕ) (sp : List Span) (ρ : List Ty) → EnvAt types n sp ρ → (t : Ty) → TyWf t
+pub env_new : (types : List ℕ) (n : ℕ) (sp : List Span) (ρ : List Ty) → EnvAt types n sp ρ → (t : Ty) → TyWf t
     → (x : Span) → Spans types x.start x.end (enc_ty t) → x.end ≤ n → EnvAt types n (sp ++ (x ∷ [])) (ρ ++ (t ∷ []))
 env_new types n sp ρ m t w x a l = record {
   count = omega (arith, m.count, length-append ρ (t ∷ []), length-append sp (x ∷ []));

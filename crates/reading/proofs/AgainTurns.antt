@@ -74,7 +74,7 @@ pub record PlacesPre (s : List ℕ) (at : ℕ) (b : FrameRead) : Type 0 where
 pub record PlacesPost (s : List ℕ) (at : ℕ) (b b₁ : FrameRead) : Type 0 where
   pub by : (ts : Forest) (es : List T.Sort) → Rest s at ts es → b₁ ≡ filled b (starts_in ts at)
 
-places_end : (s : List ℕ) (at : ℕ) (b : FrameRead) → length s ≤ at → PlacesPost s at b b
+pub places_end : (s : List ℕ) (at : ℕ) (b : FrameRead) → length s ≤ at → PlacesPost s at b b
 unfolding starts enc
 places_end s at b h = record { by = λ ts es a. go ts es a }
   where
@@ -138,7 +138,7 @@ module _ (s : List ℕ) (bs : Bytes s) (at : ℕ) (l : at < length s) where
         subst (λ (us : Forest). After us es) (sym f.is) (after_node f.t f.later f.e f.sorts f.q f.after v.0 v.1
         (types_at s at) v.2 v.3 v.4 v.5 z)
 
-    places_next : HeadEnd s at p → (b : FrameRead) → PlacesPre s at b → (at + 2 ≤ p) × PlacesPre s p (filled b (at ∷ []))
+    pub places_next : HeadEnd s at p → (b : FrameRead) → PlacesPre s at b → (at + 2 ≤ p) × PlacesPre s p (filled b (at ∷ []))
     places_next he b w =
         let x = after he w.ts w.es w.rest in (
           x.4,
@@ -150,7 +150,7 @@ module _ (s : List ℕ) (bs : Bytes s) (at : ℕ) (l : at < length s) where
           },
         )
 
-    places_more : HeadEnd s at p → (b b₁ : FrameRead) → PlacesPost s p (filled b (at ∷ [])) b₁ → PlacesPost s at b b₁
+    pub places_more : HeadEnd s at p → (b b₁ : FrameRead) → PlacesPost s p (filled b (at ∷ [])) b₁ → PlacesPost s at b b₁
     places_more he b b₁ post =
         record {
           by = λ ts es w. (let x = after he ts es w in

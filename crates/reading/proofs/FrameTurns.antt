@@ -24,7 +24,7 @@ use Rattle.heads.proofs.HeadSays.{handed_on}
 use Rattle.reading.proofs.NodeTurns.{read_so, node_yes, node_no}
 
 -- ---- a table of zeros with a run of stores at its start
-sets_zeros : (n : ℕ) (xs : List ℕ) → length xs ≤ n → sets {A = ℕ} (replicate n 0) 0 xs ≡ xs ++ replicate (n - length xs) 0
+pub sets_zeros : (n : ℕ) (xs : List ℕ) → length xs ≤ n → sets {A = ℕ} (replicate n 0) 0 xs ≡ xs ++ replicate (n - length xs) 0
 sets_zeros n xs h =
     let z : 0 + length xs ≡ length xs = omega arith in
     sets-eq xs (replicate n 0) 0 (omega (arith, length-replicate {A = ℕ} n 0))

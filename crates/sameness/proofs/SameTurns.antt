@@ -281,7 +281,7 @@ module _ (s : List ℕ) (a b : ℕ) (hs : Option (ℕ × ℕ × ℕ)) (post : (e
   node_differ eh e = record { same = λ t u x y l r er. cc; differ = λ t u l r er. (post e).differ t u l r eh }
 
   module _ (p q n : ℕ) (eh : hs ≡ Some (p, q, n)) where
-    node_kids : (r : Option (ℕ × ℕ)) → RowsPost s n p q r → TreesPost s a b r
+    pub node_kids : (r : Option (ℕ × ℕ)) → RowsPost s n p q r → TreesPost s a b r
     node_kids r kids e = record { same = same; differ = differ }
       where
         same : (t u : Tree) (x y : ℕ) → Stands s a e t → Stands s b e u → r ≡ Some (x, y)

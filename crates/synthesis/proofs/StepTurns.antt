@@ -272,7 +272,7 @@ module _ (nd₀ : OpenNode) (s leaves types₀ : List ℕ) (st₀ : State) where
             subst (λ x. Ending v x types₁) a.8 b);
       }
 
-      going_up : (st₁ : State) → r ≡ climbs st₁ → (rest : List OpenNode) (x : OpenNode) → stack ≡ rest ++ (x ∷ []) → st₁.top ≡ length rest
+      pub going_up : (st₁ : State) → r ≡ climbs st₁ → (rest : List OpenNode) (x : OpenNode) → stack ≡ rest ++ (x ∷ []) → st₁.top ≡ length rest
           → Going nd₀ s leaves types₀ st₀ rest types₁ x st₁
       going_up st₁ er rest x es et = record {
         follows = λ t₀ l₀ f₀ base stop o₀ ps₀ w run. (
@@ -292,7 +292,7 @@ module _ (nd₀ : OpenNode) (s leaves types₀ : List ℕ) (st₀ : State) where
       }
 
       module _ (u c : OpenNode) (st₁ : State) (er : r ≡ descends u c st₁) (long : st.top ≡ length stack) where
-        going_down : Going nd₀ s leaves types₀ st₀ (stack ++ (u ∷ [])) types₁ c st₁
+        pub going_down : Going nd₀ s leaves types₀ st₀ (stack ++ (u ∷ [])) types₁ c st₁
         going_down = record {
           follows = λ t₀ l₀ f₀ base stop o₀ ps₀ w run. (
               let a = going.follows t₀ l₀ f₀ base stop o₀ ps₀ w run in
