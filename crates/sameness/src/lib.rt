@@ -47,6 +47,7 @@ fn same_heads(s: &[u8], a: usize, b: usize) -> Option<Alike>
     })
 }
 
+// Kept: two functions, which differ in the sort alone: document 01 has two that call each other.
 // The predicates at a and b: if they are the same, where each ends.
 #[cycle(same_expr_same_kids_same_pred)]
 pub fn same_pred(s: &[u8], a: usize, b: usize) -> Option<(usize, usize)>
