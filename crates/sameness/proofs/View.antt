@@ -1,28 +1,29 @@
 -- From what is read at a position to the tree that stands there, and from trees in a row to the first and the rest.
 -- Main results: read_there (the head of a tree that stands somewhere is read), said (what the head that is known there says of
 -- it); stand_inside, stand_byte; all_inside, all_count,
--- all_none, all_first, all_rest, split.
-use mathlib.Core.Path.{◌≡◌, refl, sym, ap, ◌∙◌, subst}
+-- all_none, all_first, all_rest, split, and split_kinds and none_kinds by a number of trees and two sorts.
+use mathlib.Core.Path.{◌≡◌, refl, sym, ap, ap₂, ◌∙◌, subst}
 use mathlib.Core.List.{List, [], ◌∷◌, ◌++◌}
-use Prim.Native.Nat.{ℕ, suc, ◌+◌, ◌≤◌, ◌<◌}
+use Prim.Native.Nat.{ℕ, suc, ◌+◌, ◌-◌, ◌≤◌, ◌<◌}
 use native.Mathlib.Omega.{arith}
 use lib.ListN.{length, get_or, drop, length-append}
 use lib.Seq.{get_or-drop, get_or-take}
 use Rattle.frame.specs.Types.{Ty}
 use Rattle.frame.specs.Trees.{Head, head, Tree, node, Forest, nil, cons, count}
 use Rattle.frame.specs.Tags.{Sort, form_of, sorts_of}
+use Rattle.tags.specs.declared.forms.Sort.{Sort as Kind}
+use Rattle.tags.specs.TagCodes.{sort_for, first_sort, later_sort, kinds_for}
 use Rattle.frame.specs.Encoding.{enc_head, enc, encs}
-use Rattle.std.proofs.Common.{Ok}
-use Rattle.frame.specs.Reading.{HeadRes, ok_h, read_head}
-use Rattle.frame.specs.At.{types_at}
+use Rattle.frame.specs.Reading.{ok_h, read_head}
 use Rattle.frame.specs.WellFormed.{number_in, HeadWf, Wfs}
 use Rattle.frame.specs.Spans.{Spans}
-use Rattle.heads.specs.HeadPost.{head_answer, KnownPost}
-use Rattle.heads.specs.HeadPost.{said as said_there}
+use Rattle.heads.specs.HeadPost.{sorts_in, KnownPost}
 use Rattle.heads.specs.declared.Head.{Head as ReadHead}
 use Rattle.frame.proofs.Spans.{span_left, span_right}
 use Rattle.frame.proofs.ReadBack.{head_long, enc_long, head_back}
+use Rattle.heads.proofs.HeadSays.{head_yes, said_kinds}
 use Rattle.heads.proofs.View.{stands_at}
+use Rattle.tags.proofs.FormTables.{kinds_rest}
 use Rattle.sameness.specs.Stands.{Stands, StandAll}
 
 -- ---- a tree and its head
@@ -78,18 +79,21 @@ all_count nil (e ∷ es) w = absurd w
 all_count (cons t ts) [] w = absurd w
 all_count (cons t ts) (e ∷ es) w = ap suc (all_count ts es w.1)
 
--- the head that is known there is the one that is read: its children start there, and there are as many
+-- the head that is known there is the one that is read: its children start there, and are of these sorts
 pub record Said (s : List ℕ) (at : ℕ) (e : Sort) (t : Tree) (r : Read s at e t) (h : ReadHead) : Type 0 where
   pub from : r.p ≡ h.children
-  pub many : length r.es ≡ h.count
+  pub kinds : (f l : Kind) → f ≡ first_sort (sorts_in h) → l ≡ later_sort (sorts_in h) → kinds_for h.count f l ≡ r.es
 
 pub said : (s : List ℕ) (at : ℕ) (e : Sort) (t : Tree) (st : Stands s at e t) (h : ReadHead) → KnownPost s at h
     → Said s at e t (read_there s at e t st) h
 said s at e t st h kn =
     let r = read_there s at e t st in
-    let p = kn.by e t (at + length (enc t)) (stands_at s e at t (at + length (enc t)) st.bytes st.formed) in
-    let z = subst (λ (x : HeadRes). Ok (said_there h) ≡ head_answer (types_at s at) x) r.read p in
-    record { from = cc; many = cc }
+    let d = head_yes s at e _ _ _ _ _ _ _ (kn.by e t (at + length (enc t)) (stands_at s e at t (at + length (enc t)) st.bytes st.formed)) in
+    let ee : d.es ≡ r.es = cc (r.read, d.is) in
+    record {
+      from = cc (r.read, d.is);
+      kinds = λ f l ef el. ap₂ (λ (x y : Kind). kinds_for h.count x y) ef el ∙ said_kinds s at e _ _ _ _ _ _ _ d ∙ ee;
+    }
 
 -- ---- where trees stand
 module _ {s : List ℕ} {at : ℕ} where
@@ -135,3 +139,13 @@ unfolding enc
 split nil st = absurd st.formed
 split (cons t ts) st =
     record { first = t; rest = ts; is = refl; one = all_first st; others = all_rest st; long = length-append (enc t) (encs ts) }
+
+-- the same by a number of trees and two sorts
+module _ {s : List ℕ} {at : ℕ} (n : ℕ) (a b : Kind) (ts : Forest) (st : StandAll s at (kinds_for n a b) ts) where
+  pub split_kinds : (n ≡ 0 → ⊥) → Split s at (sort_for a) (kinds_for (n - 1) b b) ts
+  split_kinds some =
+      let z : n ≡ suc (n - 1) = omega arith in
+      rw (← kinds_rest (n - 1) b) (split ts (subst (λ (i : ℕ). StandAll s at (kinds_for i a b) ts) z st))
+
+  pub none_kinds : n ≡ 0 → ts ≡ nil
+  none_kinds z = all_none ts (subst (λ (i : ℕ). StandAll s at (kinds_for i a b) ts) z st)

@@ -1,17 +1,25 @@
 // Sameness of two trees of one frame (document 01: "the same tag, payload and types"; "comparing them is two functions that
-// call each other over a falling byte count"). Equal trees have equal bytes, so heads are compared as bytes: then the sorts of
-// the children are the same too, and one function compares predicates and expressions.
+// call each other over a falling byte count"). Equal trees have equal bytes, so heads are compared as bytes.
 #![tactic(auto)]
 
-ghost use Rattle.frame.specs.Tags.{Sort};
-ghost use Rattle.sameness.specs.Compared.{BothStand, SamePost, HeadsPost};
+ghost use Rattle.frame.specs.Tags.{Sort, predicate, expression};
+ghost use Rattle.sameness.specs.Compared.{BothStand, BothStandAll, SamePost, SameAllPost, HeadsPost, kinds};
 
-use heads::known_head;
+use heads::{known_head, number};
 
-// The heads at a and b: if they are the same, where the children of each start, and how many they are. Most trees that differ
-// differ in their tags, so these are looked at before a head is read. The head at b needs no reading: with the bytes of the one
-// at a it is the same head.
-fn same_heads(s: &[u8], a: usize, b: usize) -> Option<(usize, usize, usize)>
+// Two heads that are the same: where the children of each start, how many they are, and the sorts of the first and of the later ones.
+#[derive(Clone, Copy)]
+struct Alike {
+    left: usize,
+    right: usize,
+    count: usize,
+    first: tags::Sort,
+    later: tags::Sort,
+}
+
+// The heads at a and b, if they are the same. Most trees that differ differ in their tags, so these are looked at before a head is
+// read. The head at b needs no reading: with the bytes of the one at a it is the same head.
+fn same_heads(s: &[u8], a: usize, b: usize) -> Option<Alike>
     requires { (e : Sort) × BothStand s.now e a b }
     ensures { (e : Sort) → HeadsPost s.now e a b result }
 {
@@ -30,17 +38,63 @@ fn same_heads(s: &[u8], a: usize, b: usize) -> Option<(usize, usize, usize)>
     if s[a..h.children] != s[b..b + n] {
         return None;
     }
-    Some((h.children, b + n, h.count))
+    Some(Alike {
+        left: h.children,
+        right: b + n,
+        count: h.count,
+        first: h.form.first(),
+        later: h.form.later(),
+    })
 }
 
-// The trees at a and b: if they are the same, where each ends.
+// Kept: two functions, which differ in the sort alone: document 01 has two that call each other.
+// The predicates at a and b: if they are the same, where each ends.
+#[cycle(same_expr_same_kids_same_pred)]
+pub fn same_pred(s: &[u8], a: usize, b: usize) -> Option<(usize, usize)>
+    requires { BothStand s.now predicate a b }
+    ensures { SamePost s.now predicate a b result }
+{
+    let predicates = same_heads(s, a, b)?;
+    same_kids(s, predicates)
+}
+
+// The expressions at a and b: if they are the same, where each ends.
+#[cycle(same_expr_same_kids_same_pred)]
+pub fn same_expr(s: &[u8], a: usize, b: usize) -> Option<(usize, usize)>
+    requires { BothStand s.now expression a b }
+    ensures { SamePost s.now expression a b result }
+{
+    let expressions = same_heads(s, a, b)?;
+    same_kids(s, expressions)
+}
+
+// The children of two heads that are the same: if they are the same too, where the last of each ends.
+#[cycle(same_expr_same_kids_same_pred)]
+fn same_kids(s: &[u8], alike: Alike) -> Option<(usize, usize)>
+    requires { BothStandAll s.now (kinds alike) alike.left alike.right }
+    ensures { SameAllPost s.now (kinds alike) alike.left alike.right result }
+{
+    let mut p = alike.left;
+    let mut q = alike.right;
+    let mut sort = alike.first;
+    for _ in 0..alike.count {
+        let ends = match sort {
+            tags::Sort::Predicate => same_pred(s, p, q),
+            tags::Sort::Expression => same_expr(s, p, q),
+        };
+        (p, q) = ends?;
+        sort = alike.later;
+    }
+    Some((p, q))
+}
+
+// The trees at a and b, of whatever sort: if they are the same, where each ends.
 pub fn same_tree(s: &[u8], a: usize, b: usize) -> Option<(usize, usize)>
     requires { (e : Sort) × BothStand s.now e a b }
     ensures { (e : Sort) → SamePost s.now e a b result }
 {
-    let (mut p, mut q, count) = same_heads(s, a, b)?;
-    for _ in 0..count {
-        (p, q) = same_tree(s, p, q)?;
+    match tags::form_of(number(s, a, 2)).sort() {
+        tags::Sort::Predicate => same_pred(s, a, b),
+        tags::Sort::Expression => same_expr(s, a, b),
     }
-    Some((p, q))
 }

@@ -1,5 +1,6 @@
 -- `sameness::same_heads` meets its contract.
 use native.Mathlib.Omega.{arith}
+use mathlib.Core.Path.{refl}
 use Rattle.sameness.proofs.SameTurns.{left_stands, tags_first, tags_second, both_inside, heads_room, heads_short, heads_bytes, heads_agree, bytes_same, bytes_other}
 use Rattle.sameness.proofs.same_heads.Goals as goal
 
@@ -42,6 +43,7 @@ returns-then-ne c = λ e. heads_bytes _ e _ _ _ c.known_head-h.ensures (bytes_ot
 
 pub returns : goal.returns
 returns c = λ e. heads_agree _ e _ _ _ c.known_head-h.ensures (bytes_same _ e _ _ _ c.known_head-h.ensures _ c.ne.ensures c.if-ne.false) c.if-s-b.false
+    _ refl refl refl c.first.ensures c.later.ensures
 
 pub slice_bounds-ne-end : goal.slice_bounds-ne-end
 slice_bounds-ne-end c = let z = heads_room _ _ _ _ _ c.known_head-h.ensures c.requires.1 in omega arith
