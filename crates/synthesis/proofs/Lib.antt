@@ -5,5 +5,6 @@ pub mod Machine
 pub mod StackBelow
 pub mod StackTurns
 pub mod LeavesLeft
+pub mod LentStack
 pub mod StepTurns
 pub mod TreeTurns

@@ -32,7 +32,7 @@ use Rattle.type_rules.specs.declared.Own.TheVariants.{Carried, Bound}
 use Rattle.type_rules.specs.Patterns.{Operands}
 use Rattle.frame.specs.At.{IsAt}
 use Rattle.synthesis.specs.TypingPosts.{place_by, own_place, OwnAt, OwnPre, Owning, OwnPost, LeafAt, OpenPre, OpenPost}
-use Rattle.synthesis.specs.declared.OpenNode.{OpenNode}
+use Rattle.synthesis.specs.declared.stack.OpenNode.{OpenNode}
 use Rattle.synthesis.specs.declared.Opened.{Opened}
 use Rattle.type_rules.proofs.RuleShapes.{head_eq}
 use Rattle.synthesis.proofs.OwnTurns.{type_wf, own_one, own_nothing}

@@ -31,7 +31,7 @@ use Rattle.synthesis.specs.Machine.{Answer, is, bad, Open, opened, inner, given,
 use Rattle.type_rules.specs.Patterns.{Operands}
 use Rattle.frame.specs.At.{IsAt, KidsAt}
 use Rattle.synthesis.specs.TypingPosts.{LeafAt, OpenPre, NodeOpen, Opening, OpenPost, state_of, closed_to, Closing, ClosePost, Held, Stack, Lent, Running, TurnPre, Turning, TurnPost}
-use Rattle.synthesis.specs.declared.OpenNode.{OpenNode}
+use Rattle.synthesis.specs.declared.stack.OpenNode.{OpenNode}
 use Rattle.synthesis.specs.Turns.{State, Turned, descends, climbs, finishes}
 use Rattle.std.proofs.Common.{Option, Some, None}
 use Rattle.synthesis.specs.declared.Opened.{Opened}

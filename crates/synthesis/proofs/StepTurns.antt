@@ -1,5 +1,5 @@
 -- A turn with the node at hand by value, and all turns.
--- Main results: step_close, step_bad, step_open (the ways out of a turn); Going, with going_start; start_room; the ways out of `all_turns`, close_fails,
+-- Main results: step_close, step_bad, step_open (the ways out of a turn); Going, with going_start; start_room; the ways out of `turns`, close_fails,
 -- close_ends and close_goes, open_fails and open_goes; leaf_judge, leaf_turns (a root without operands).
 use mathlib.Core.Path.{◌≡◌, refl, sym, ap, ◌∙◌, subst, subst₂}
 use mathlib.Core.Bool.{Bool, true, false}
@@ -12,7 +12,6 @@ use lib.Dec.{eqb}
 use borrow.Author.Tests.{eq-eqb, eqb-true, eqb-false}
 use Rattle.frame.specs.Tags.{class_of}
 use Rattle.frame.specs.Spans.{Bytes}
-use Rattle.frame.proofs.Inversion.{true_not}
 use Rattle.type_rules.specs.Patterns.{rule_at, Judged, typed, wrong, judge}
 use Rattle.patterns.specs.PatternPosts.{JudgePre, Judging, JudgePost}
 use Rattle.synthesis.specs.Machine.{Open, close_up}
@@ -39,9 +38,8 @@ use Rattle.synthesis.specs.TypingPosts.{
   TurnsPre,
   TurnsPost,
 }
-use Rattle.synthesis.specs.declared.OpenNode.{OpenNode}
+use Rattle.synthesis.specs.declared.stack.OpenNode.{OpenNode}
 use Rattle.synthesis.specs.Turns.{State, state, Turned, descends, climbs, finishes}
-use Rattle.std.specs.Option.{option_to_list, IsSome}
 use Rattle.std.proofs.lemmas.List.{length_push}
 use Rattle.std.proofs.Common.{Option, Some, None}
 use Rattle.synthesis.specs.declared.Opened.{Opened}
@@ -205,14 +203,6 @@ module _ (rest : List OpenNode) (x : OpenNode) (t l f : List ℕ) (bl : Below (r
   top_rest : Top x (length rest) t l f
   top_rest = subst (λ (y : OpenNode). Top y (length rest) t l f) (get_or-append_seam rest x [] no_node) (bl.each (length rest) (omega (arith, length_push rest x)))
 
--- what `pop` gives
-pub pop_none : (stack : List OpenNode) {r : Option OpenNode} → (0 < length stack → IsSome r) → r ≡ None → stack ≡ []
-pop_none [] f z = refl
-pop_none (x ∷ stack) f z = true_not (subst IsSome z (f (omega arith)))
-
-pub pop_some : (stack rest : List OpenNode) {r : Option OpenNode} {x : OpenNode} → stack ≡ rest ++ option_to_list r → r ≡ Some x → stack ≡ rest ++ (x ∷ [])
-pop_some stack rest e z = e ∙ ap (λ (o : Option OpenNode). rest ++ option_to_list o) z
-
 -- whatever the tables and the open nodes were at the root, there are some now that come to the same answer
 pub record Going (nd₀ : OpenNode) (s leaves types₀ : List ℕ) (st₀ : State) (stack : List OpenNode) (types : List ℕ) (nd : OpenNode)
     (st : State) : Type 0 where
@@ -316,7 +306,7 @@ module _ (nd₀ : OpenNode) (s leaves types₀ : List ℕ) (st₀ : State) where
               (t₁, l₁, f₁, on, subst (λ (j : ℕ). Top c j t₁ l₁ f₁) (sym e) top, b.0, b.1, after, b.3 ∙ a.8));
         }
 
--- ---- the ways out of a turn of `all_turns`, which has as many open nodes below the one at hand as its stack has
+-- ---- the ways out of a turn of `turns`, by the list of the open nodes below the one at hand
 module _ (nd₀ : OpenNode) (s leaves types₀ : List ℕ) (st₀ : State) (pre : TurnsPre nd₀ s leaves types₀ st₀) (stack : List OpenNode) (types : List ℕ)
     (nd : OpenNode) (at place end : ℕ) (going : Going nd₀ s leaves types₀ st₀ stack types nd (state at place end (length stack))) where
   abbrev st : State
@@ -382,14 +372,11 @@ module _ (nd₀ : OpenNode) (s leaves types₀ : List ℕ) (st₀ : State) (pre 
               (going_down nd₀ s leaves types₀ st₀ pre stack types nd st going types₁ _ opened_step under_it r.node
               (state r.at (place + 1) r.end (length stack + 1)) refl refl)
 
-          pub open_less : (long : List OpenNode) → long ≡ stack ++ (under_it ∷ [])
-              → steps_left s (state r.at (place + 1) r.end (length long)) < steps_left s st
-          open_less long el =
+          pub open_less : steps_left s (state r.at (place + 1) r.end (length stack + 1)) < steps_left s st
+          open_less =
               let x = step in
               let y = x.turn in
-              let t = (opened_step.turned x.tags x.lefts x.froms x.at_top).answer y.base y.stop y.o y.ps y.running in
-              let k : length long ≡ length stack + 1 = ap length el ∙ length_push stack under_it in
-              omega (arith, t.4)
+              ((opened_step.turned x.tags x.lefts x.froms x.at_top).answer y.base y.stop y.o y.ps y.running).4
 
 -- ---- a root without operands
 module _ (nd : OpenNode) (s leaves types : List ℕ) (st : State) (pre : TurnsPre nd s leaves types st) (z : nd.left ≡ 0) where

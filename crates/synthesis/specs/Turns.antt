@@ -1,6 +1,6 @@
 -- A turn of typing: where it begins, and what it does.
 use Rattle.std.specs.Prelude.{ℕ, Option}
-use Rattle.synthesis.specs.declared.OpenNode.{OpenNode}
+use Rattle.synthesis.specs.declared.stack.OpenNode.{OpenNode}
 use Rattle.synthesis.specs.declared.Opened.{Opened}
 
 -- where the next node stands and its place, the end of the types, and how many nodes are open below the one at hand

@@ -1,6 +1,7 @@
--- What the code of typing answers: the contracts of src/lib.rt. The open nodes are three tables here, by depth: tags, operands to
--- come, and where in the buffer the types of the operands start that have come. The code has the node at hand, which has the greatest
--- depth, by value, and those below it on its stack, as records (tag, operands to come, type start).
+-- What the code of typing answers: the contracts of src/lib.rt, and what the proof of the loop of `turns` goes by. The open nodes are
+-- three tables here, by depth: tags, operands to come, and where in the buffer the types of the operands start that have come. The code
+-- has the node at hand, which has the greatest depth, by value, and those below it in "a lent slice of records (tag, operands to come,
+-- type start)".
 use Rattle.std.specs.Prelude.{◌≡◌, Bool, true, false, List, [], ◌∷◌, ◌++◌, ℕ, suc, ◌+◌, ◌-◌, ◌*◌, ◌≤◌, ◌<◌, length, get_or, set, eqb, Option, Some, None}
 use Rattle.frame.specs.Types.{Ty}
 use Rattle.frame.specs.Trees.{head, Tree, node, Forest, count, nodes, nodes_in}
@@ -21,7 +22,7 @@ use Rattle.results.specs.ResultPosts.{Kept}
 use Rattle.patterns.specs.PatternPosts.{RowAt}
 use Rattle.synthesis.specs.Machine.{Answer, is, bad, Open, inner, close_up}
 use Rattle.type_rules.specs.Patterns.{Operands}
-use Rattle.synthesis.specs.declared.OpenNode.{OpenNode}
+use Rattle.synthesis.specs.declared.stack.OpenNode.{OpenNode}
 use Rattle.synthesis.specs.declared.Opened.{Opened}
 use Rattle.synthesis.specs.Turns.{State, Turned, descends, climbs, finishes}
 use Rattle.frame.specs.At.{IsAt, KidsAt}
@@ -130,6 +131,7 @@ pub record NodePost (s : List ℕ) (at leaf : ℕ) (o : List ℕ) (end : ℕ) (t
   pub opens : (t l f : List ℕ) (top : ℕ) → OpenPost s at leaf t l f top o end (tags_with r t top) (lefts_with r l top) (froms_with r f top) types r
 
 -- ---- the node at the top is closed
+-- No clause cites this: a turn of the loop of `turns` closes the node, and the proof of the loop goes by what is said here of that.
 abbrev pub state_of : State → ℕ → State
 state_of st m = record { at = st.at; place = st.place; end = m; top = st.top - 1 }
 
@@ -169,7 +171,7 @@ Stack tags lefts froms s leaves types base stop out o (p ∷ ps) n at k =
     (q : ℕ) × Held tags lefts froms s leaves types base out o (suc (length ps)) n at q k
     × Stack tags lefts froms s leaves types base stop 1 p ps (get_or froms (suc (length ps)) 0) q (k + nodes_in o.todo)
 
--- the tables have 2,048 entries, as many as the stack has room for
+-- the tables have 2,048 entries: "our own code lends it, 2,048 records long"
 pub record Lent (tags lefts froms : List ℕ) : Type 0 where
   pub of_tags : length tags ≡ 2048
   pub of_lefts : length lefts ≡ 2048
@@ -214,6 +216,9 @@ pub record TurnPost (t₀ l₀ f₀ s leaves types₀ : List ℕ) (st : State) (
       → Turning r t₁ l₁ f₁ s leaves types₁ st base stop (close_up o ps)
 
 -- ---- a turn with the node at hand by value
+-- `TurnsPre` asks for a `StepPre` where the loop of `turns` begins. What a turn of it does is said by `StepPost`, which no clause cites:
+-- the proof of the loop goes by it, and makes `TurnsPost` of it.
+
 -- the tables have its record at this depth
 pub record Top (nd : OpenNode) (top : ℕ) (tags lefts froms : List ℕ) : Type 0 where
   pub of_tag : get_or tags top 0 ≡ nd.tag

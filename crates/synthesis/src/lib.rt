@@ -3,11 +3,14 @@
 // its record says. (The source's `synthesize_*` go from the children up instead.)
 #![tactic(auto)]
 
+mod stack; // stack.rt: the open nodes, a lent slice of records
+
+ghost use Rattle.std.specs.Prelude.{◌≡◌, length};
 ghost use Rattle.frame.specs.Tags.{class_of};
 ghost use Rattle.synthesis.specs.Turns.{started};
 ghost use Rattle.synthesis.specs.TypingPosts.{PutPre, PutPost, own_place, OwnPre, OwnPost, OpenPre, NodePost, TurnsPre, TurnsPost, TypePre, TypePost};
 
-use arrayvec::ArrayVec;
+use crate::stack::{OpenNode, pop, push};
 use frame::limits::TYPE_LIMIT;
 use heads::{known_head, type_end};
 use patterns::judge_types;
@@ -15,17 +18,6 @@ use type_rules::{Own, own_of};
 
 // As many as a frame has nodes at most.
 const ROOM: usize = 2048;
-
-// An open node: its tag, how many operands are to come, where the types of those that have come start. The stack of them is cleared for
-// each tree that is typed, so a record is no wider than these numbers need.
-// Kept: the numbers are cast by `as`, since no `From` makes a `u16` or `u32` of a `usize`, nor a `usize` of a `u32`; that they fit is
-// proved of each: a head's tag and count are below 65,536, and `from` is at most 131,072, 64 bytes for each of 2,048 nodes.
-#[derive(Clone, Copy, Debug, Default, PartialEq, Eq)]
-struct OpenNode {
-    tag: u16,
-    left: u16,
-    from: u32,
-}
 
 // A node has been opened: where its first operand stands, where the types end, and its record.
 #[derive(Clone, Copy, Debug, PartialEq, Eq)]
@@ -70,6 +62,8 @@ fn own_type(
     }
 }
 
+// Kept: the numbers are cast by `as`, since no `From` makes a `u16` or `u32` of a `usize`, nor a `usize` of a `u32`; that they fit is
+// proved of each: a head's tag and count are below 65,536, and `from` is at most 131,072, 64 bytes for each of 2,048 nodes.
 // The node at `at`, whose bound type stands at `leaf`, is opened; None where its own type passes the limit.
 fn open_node(s: &[u8], at: usize, leaf: usize, types: &mut [u8], end: usize) -> Option<Opened>
     requires { OpenPre s.now at leaf types.old end }
@@ -88,8 +82,53 @@ fn open_node(s: &[u8], at: usize, leaf: usize, types: &mut [u8], end: usize) -> 
     })
 }
 
-// All turns, from the root that was opened; the next node has the place `first`. This function has a frame of its own, since a root
-// without operands needs no stack.
+// All turns, from the root that was opened; the next node has the place `first`.
+fn turns(
+    s: &[u8],
+    leaves: &[u16; 2048],
+    stack: &mut [OpenNode],
+    types: &mut [u8],
+    root: Opened,
+    first: usize,
+) -> Option<usize>
+    requires { TurnsPre root.node s.now leaves.now types.old (started root first) × (length stack.old ≡ 2048) }
+    ensures { TurnsPost root.node s.now leaves.now types.old (started root first) types.new result }
+{
+    // How many nodes are open below the one at hand: they stand in the stack, the lowest first.
+    let mut top = 0;
+    let mut node = root.node;
+    let mut at = root.at;
+    let mut end = root.end;
+    let mut leaves_left = leaves[first..].iter();
+    // Kept: a `loop`, since it ends in the midst of a turn, where a node was closed that has none below it.
+    loop {
+        if node.left == 0 {
+            // All its operands have come: its type takes their place.
+            end = judge_types(usize::from(node.tag), types, node.from as usize, end)?;
+            if top == 0 {
+                return Some(end);
+            }
+            top -= 1;
+            node = pop(stack, top);
+        } else {
+            // The table has an entry for each node, so one is left.
+            let leaf = leaves_left.next().unwrap();
+            let child = open_node(s, at, usize::from(*leaf), types, end)?;
+            let under = OpenNode {
+                tag: node.tag,
+                left: node.left - 1,
+                from: node.from,
+            };
+            push(stack, top, under);
+            top += 1;
+            node = child.node;
+            at = child.at;
+            end = child.end;
+        }
+    }
+}
+
+// The same with the stack lent. This function has a frame of its own, since a root without operands needs no stack.
 #[inline(never)]
 fn all_turns(
     s: &[u8],
@@ -101,36 +140,8 @@ fn all_turns(
     requires { TurnsPre root.node s.now leaves.now types.old (started root first) }
     ensures { TurnsPost root.node s.now leaves.now types.old (started root first) types.new result }
 {
-    // The open nodes below the one at hand, the lowest first.
-    let mut stack = ArrayVec::<OpenNode, ROOM>::new();
-    let mut node = root.node;
-    let mut at = root.at;
-    let mut end = root.end;
-    let mut leaves_left = leaves[first..].iter();
-    // Kept: a `loop`, since it ends in the midst of a turn, where a node was closed that has none below it; the test of a `while`
-    // would be that `pop`, of which the other turns have no use.
-    loop {
-        if node.left == 0 {
-            // All its operands have come: its type takes their place.
-            end = judge_types(usize::from(node.tag), types, node.from as usize, end)?;
-            let Some(below) = stack.pop() else {
-                return Some(end);
-            };
-            node = below;
-        } else {
-            // The table has an entry for each node, so one is left.
-            let leaf = leaves_left.next().unwrap();
-            let child = open_node(s, at, usize::from(*leaf), types, end)?;
-            stack.push(OpenNode {
-                tag: node.tag,
-                left: node.left - 1,
-                from: node.from,
-            });
-            node = child.node;
-            at = child.at;
-            end = child.end;
-        }
-    }
+    let mut stack = [OpenNode::default(); ROOM];
+    turns(s, leaves, &mut stack, types, root, first)
 }
 
 // The type of the tree at `at`, whose root has this place: its bytes stand at the start of `types`, up to here. None is number 10.
