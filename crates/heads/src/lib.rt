@@ -3,7 +3,7 @@
 #![tactic(auto)]
 
 ghost use Rattle.std.specs.Prelude.{◌≡◌, ◌+◌, ◌≤◌, length, IfOk};
-ghost use Rattle.frame.specs.Tags.{class_of, types_of};
+ghost use Rattle.frame.specs.Tags.{class_of, types_of, width};
 ghost use Rattle.tags.specs.TagCodes.{form_code, meant, sort_for};
 ghost use Rattle.frame.specs.Reading.{number_at};
 ghost use Rattle.heads.specs.HeadPost.{answered, head_there, headed, TypesStand, SkipPost, lead_of, parts_of, HeadStands, HeadEnd, OpeningPost, KnownPost};
@@ -71,11 +71,12 @@ pub fn number(s: &[u8], at: usize, w: usize) -> usize
     x
 }
 
-// The head at `at` of a tree of this sort.
+// The head at `at` of a tree of this sort. Its number is what stands behind the tag, also where that is no payload (binders, parts).
 pub fn read_head(s: &[u8], at: usize, sort: Sort) -> Result<Head, Refusal>
     requires { at ≤ length s.now }
     ensures answer { answered result ≡ head_there s.now at (sort_for sort) }
     ensures form { IfOk result (λ h. h.form ≡ form_code (class_of h.tag)) }
+    ensures number { IfOk result (λ h. h.number ≡ number_at (width (meant h.form).layout) s.now (at + 2)) }
 {
     if s.len() < at + 2 {
         return Err(Refusal::EndsInside);

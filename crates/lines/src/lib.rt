@@ -1,12 +1,13 @@
 // Text: one frame a line in capital hexadecimal (document 01, "The frame record"). A line comes in pieces of any size.
 #![tactic(auto)]
 
-ghost use Rattle.std.specs.Prelude.{◌≡◌, ℕ, ◌≤◌, ◌<◌, ◌↔◌, List, [], ◌∷◌, ◌++◌, MatchOption, MatchResult, Ok, Err, IsTrue};
+ghost use Rattle.std.specs.Prelude.{◌≡◌, ℕ, ◌≤◌, ◌<◌, ◌↔◌, List, [], ◌∷◌, ◌++◌, MatchOption, MatchResult, Ok, Err, IsTrue, ⊤};
 ghost use Rattle.frame.specs.Lines.{digit_of, digit_for, read_line};
 ghost use Rattle.lines.specs.LineReads.{Reads, line_answer, WritePost};
 
 use frame::refusals::Refusal;
 use put::Writer;
+use std::alloc::AllocError;
 
 // What the characters of a line so far leave for the next.
 #[derive(Clone, Copy, Debug, PartialEq, Eq)]
@@ -27,6 +28,21 @@ enum Pending {
 pub struct LineReader {
     pending: Pending,
     bytes: Writer,
+}
+
+// A clone is the same line so far: it has read what its source has. It is always made.
+// Kept: no `Copy`, since `Writer` has none.
+impl Clone for LineReader {
+    ghost is_clone = { λ line copy. copy ≡ line };
+
+    ghost is_infallible = { λ _. ⊤ };
+
+    fn clone(&self) -> Result<Self, AllocError> {
+        Ok(LineReader {
+            pending: self.pending,
+            bytes: self.bytes.clone()?,
+        })
+    }
 }
 
 // The value of a character 0-9, A-F.

@@ -1,5 +1,5 @@
 -- Laws of writing. Main results: puts_nil, puts_then, puts_as (a writing after another); puts_in, puts_over, puts_none (what fits and what
--- doesn't); word_bytes; between_span, between_front, between_back (a frame's bytes, and those before and behind a part);
+-- doesn't); word_bytes, word_each; between_span, between_front, between_back (a frame's bytes, and those before and behind a part);
 -- wrote_none, wrote_held, wrote_full (the start and the outcome).
 use mathlib.Core.Path.{◌≡◌, refl, sym, ap, ◌∙◌, subst}
 use mathlib.Core.Bool.{Bool, true, false}
@@ -94,12 +94,13 @@ pub puts_as : (o p : Option (List ℕ)) (ys zs : List ℕ) → ys ≡ zs → Put
 puts_as o p ys zs e a = a ∙ ap (behind o) e
 
 -- ---- a number of two bytes
-pub word_bytes : (w : ℕ) → w < 65536 → w / 256 % 256 ∷ w % 256 ∷ [] ≡ enc_number 2 w
+pub word_bytes : (w : ℕ) → w / 256 ∷ w % 256 ∷ [] ≡ enc_number 2 w
 unfolding enc_number
-word_bytes w h =
-    let y : w / 256 % 256 ≡ w / 256 = omega arith in
-    let z : w % 256 ≡ w % 256 / 1 = omega arith in
-    cc
+word_bytes w = let z : w % 256 ≡ w % 256 / 1 = omega arith in ap (λ (x : ℕ). w / 256 ∷ x ∷ []) z
+
+-- the same by each byte of the number, as `to_be_bytes` gives them
+pub word_each : (w : ℕ) → w < 65536 → w / 256 % 256 ∷ w % 256 ∷ [] ≡ enc_number 2 w
+word_each w h = let z : w / 256 % 256 ≡ w / 256 = omega arith in ap (λ (x : ℕ). x ∷ w % 256 ∷ []) z ∙ word_bytes w
 
 -- ---- bytes of a frame
 -- what stands from a up to b, as a list

@@ -4,11 +4,12 @@
 
 pub mod type_expression; // type_expression.rt: `to_expression`
 
-ghost use Rattle.std.specs.Prelude.{◌≡◌, [], ◌∷◌, ◌≤◌, ◌<◌, List, ℕ, length, Option, Some, IfSome, option_copied};
+ghost use Rattle.std.specs.Prelude.{◌≡◌, [], ◌∷◌, ◌≤◌, ◌<◌, List, ℕ, length, Option, Some, IfSome, option_copied, ⊤};
 ghost use Rattle.frame.specs.Encoding.{enc_number};
 ghost use Rattle.put.specs.Out.{held, AtMost, Puts};
 
 use frame::limits::FRAME_LIMIT;
+use std::alloc::AllocError;
 use std::marker::Model;
 
 // What has been written, as contracts see it: the bytes, or None once they did not fit.
@@ -27,6 +28,22 @@ impl Model for Writer {
     ghost view = { λ w. held w.length w.bytes };
 
     ghost invariant = { λ w. AtMost 4096 w.length };
+}
+
+// A clone holds what its source does, and is always made.
+// Kept: no `Copy`, which a struct with a Model has only where the view gives the fields back: this one forgets the bytes behind those that
+// were written.
+impl Clone for Writer {
+    ghost is_clone = { λ w copy. copy ≡ w };
+
+    ghost is_infallible = { λ _. ⊤ };
+
+    fn clone(&self) -> Result<Self, AllocError> {
+        Ok(Writer {
+            bytes: self.bytes,
+            length: self.length,
+        })
+    }
 }
 
 impl Writer {

@@ -2,7 +2,7 @@
 // proved without the rules' code.
 #![tactic(auto)]
 
-ghost use Rattle.std.specs.Prelude.{◌≡◌, ◌≤◌, length, option_copied};
+ghost use Rattle.std.specs.Prelude.{◌≡◌, ◌+◌, ◌^◌, ◌≤◌, ◌<◌, length, option_copied};
 ghost use Rattle.turn.specs.TurnPosts.{TurnPost};
 
 use arrayvec::ArrayVec;
@@ -37,10 +37,20 @@ impl Progress {
         requires { length frame.now ≤ 4096 }
         ensures { result ≡ record { frame = frame.now; left = budget; steps = 0 } }
     {
+        Progress::resumed(frame, budget, 0)
+    }
+
+    // A run is taken up where it stood: at this frame, with so much budget left and so many steps made. So a run may be cut into parts,
+    // each with a share of the budget, and its answer counts the steps of all of them.
+    pub fn resumed(frame: &[u8], left: u32, steps: u32) -> Self
+        requires fits { length frame.now ≤ 4096 }
+        requires count { steps + left < 2 ^ 32 }
+        ensures { result ≡ record { frame = frame.now; left = left; steps = steps } }
+    {
         Progress {
             held: ArrayVec::try_from(frame).unwrap(),
-            left: budget,
-            steps: 0,
+            left,
+            steps,
         }
     }
 
