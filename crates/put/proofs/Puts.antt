@@ -8,9 +8,8 @@ use Prim.Native.Nat.{ℕ, ◌+◌, ◌-◌, ◌/◌, ◌%◌, ◌≤◌, ◌<◌
 use native.Mathlib.Omega.{arith}
 use lib.Dec.{leb}
 use lib.ListN.{length, take, drop, length-append, length-drop}
-use lib.Seq.{take-length, length-take-le}
-use borrow.Rule.Slice.PartMut.{put_mid}
-use Rattle.std.proofs.lemmas.Slice.{take-put_mid}
+use lib.Seq.{take-length, length-take-le, paste}
+use Rattle.std.proofs.lemmas.List.Edits.{take-paste}
 use borrow.Author.Tests.{leb-true, leb-false}
 use Rattle.std.proofs.Common.{Option, Some, None}
 use Rattle.frame.specs.Encoding.{enc_number}
@@ -142,13 +141,14 @@ module _ (o : Option (List ℕ)) (m : Option ℕ) (bytes s : List ℕ) (view : h
       (sym view ∙ ap (λ (x : Option ℕ). held x bytes) e, length-take-le n bytes (omega arith))
 
   -- s was copied behind the n bytes, or there was no room, or nothing was held
-  pub puts_copied : (n k : ℕ) (new : List ℕ) → m ≡ Some n → length s ≤ 4096 - n → new ≡ s
-      → Puts o (Some (take (n + length s) (put_mid n k bytes new))) s
-  puts_copied n k new e h a =
+  pub puts_copied : (n : ℕ) (new : List ℕ) → m ≡ Some n → length s ≤ 4096 - n → new ≡ paste bytes n s (length s)
+      → Puts o (Some (take (n + length s) new)) s
+  puts_copied n new e h a =
       let p = held_some n e in
       let q : n ≤ 4096 = subst (AtMost 4096) e most in
-      let z = take-put_mid n k bytes new (n + length s) (omega (arith, ap length a)) (omega arith) in
-      ap Some (z ∙ ap (λ (x : List ℕ). take n bytes ++ x) a) ∙ puts_in o (take n bytes) s p.0 (omega (arith, p.1))
+      let z = take-paste bytes n s (length s) (omega arith) (omega arith) in
+      ap Some (ap (take (n + length s)) a ∙ z ∙ ap (λ (x : List ℕ). take n bytes ++ x) (take-length s))
+      ∙ puts_in o (take n bytes) s p.0 (omega (arith, p.1))
 
   pub puts_short : (n : ℕ) → m ≡ Some n → 4096 - n < length s → Puts o None s
   puts_short n e h = let p = held_some n e in puts_over o (take n bytes) s p.0 (omega (arith, p.1))

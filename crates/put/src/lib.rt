@@ -8,6 +8,7 @@ ghost use Rattle.std.specs.Prelude.{◌≡◌, [], ◌∷◌, ◌≤◌, ◌<◌
 ghost use Rattle.frame.specs.Encoding.{enc_number};
 ghost use Rattle.put.specs.Out.{held, AtMost, Puts};
 
+use copies::copy_in;
 use frame::limits::FRAME_LIMIT;
 use std::alloc::AllocError;
 use std::marker::Model;
@@ -68,7 +69,7 @@ impl Writer {
     {
         match self.length {
             Some(n) if s.len() <= FRAME_LIMIT - n => {
-                self.bytes[n..n + s.len()].copy_from_slice(s);
+                copy_in(s, &mut self.bytes, n);
                 self.length = Some(n + s.len());
             }
             _ => self.length = None,

@@ -49,14 +49,13 @@ type_wf s bs (prod t u) at e a =
 
 -- ---- put_type
 module _ (s : List ℕ) (p : ℕ) (types : List ℕ) (end q : ℕ) (en : EndOf s p q) where
-  pub put_is : PutPre s p types end → q - p ≤ 64 → (k : ℕ) → k ≡ q - p → (ys : List ℕ) → ys ≡ take (q - p) (drop p s)
-      → PutPost s p types end (put_mid end k types ys) (Some (end + (q - p)))
-  put_is a h k ek ys ey =
+  pub put_is : PutPre s p types end → q - p ≤ 64 → (o : List ℕ)
+      → o ≡ paste types end (take (q - p) (drop p s)) (length (take (q - p) (drop p s))) → PutPost s p types end o (Some (end + (q - p)))
+  put_is a h o eo =
       let zs = take (q - p) (drop p s) in
       let to : q ≡ a.to = en.is a.type a.to a.span in
       let l : q - p ≡ length zs = omega (arith, length-take (q - p) (drop p s), length-drop p s, a.span.within) in
-      let o = put_mid end k types ys in
-      let w : o ≡ paste types end zs (q - p) = put_mid-paste end k types ys zs (q - p) ey (sym ek) l in
+      let w : o ≡ paste types end zs (q - p) = eo ∙ ap (λ (i : ℕ). paste types end zs i) (sym l) in
       let below : end ≤ length types = omega (arith, a.room) in
       let long : length o ≡ length types = search (rules, places) in
       record {

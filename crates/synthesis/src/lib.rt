@@ -11,6 +11,7 @@ ghost use Rattle.synthesis.specs.Turns.{started};
 ghost use Rattle.synthesis.specs.TypingPosts.{PutPre, PutPost, own_place, OwnPre, OwnPost, OpenPre, NodePost, TurnsPre, TurnsPost, TypePre, TypePost};
 
 use crate::stack::{OpenNode, pop, push};
+use copies::copy_in;
 use frame::limits::TYPE_LIMIT;
 use heads::{known_head, type_end};
 use patterns::judge_types;
@@ -38,7 +39,7 @@ fn put_type(s: &[u8], p: usize, types: &mut [u8], end: usize) -> Option<usize>
     if TYPE_LIMIT < e - p {
         return None;
     }
-    types[end..end + (e - p)].copy_from_slice(&s[p..e]);
+    copy_in(&s[p..e], types, end);
     Some(end + (e - p))
 }
 
