@@ -1,5 +1,5 @@
 -- The ways out of rounds and run of src/lib.rt, on plain values.
--- Main results: Going, going_starts, going_first, going_ends, going_less, going_on; run_refused, run_starts, run_done.
+-- Main results: Going, going_starts, going_first, going_ends, going_less, going_on; run_refused, run_goes; run_starts, run_done.
 use mathlib.Core.Path.{◌≡◌, refl, sym, ap, ap₂, ◌∙◌, subst}
 use mathlib.Core.Bool.{Bool}
 use mathlib.Core.List.{List, ◌++◌}
@@ -22,11 +22,12 @@ use Rattle.step.proofs.Steps.{step_accepted}
 use Rattle.output.specs.OutPosts.{Admits, AdmitPost}
 use Rattle.run.specs.Run.{ran, run_tree, RunOutcome, ended, turned_down, ended_by, run_on, run, run_answer, run_output}
 use Rattle.run.specs.declared.Ending.{Ending}
+use Rattle.run.specs.declared.Run.{Run}
 use Rattle.run.proofs.Runs.{first_step_lem}
 use Rattle.turn.specs.Progress.{At}
 use Rattle.turn.specs.TurnPosts.{EndsHere, GoesOn, Follows, TurnPost}
 use Rattle.running.specs.SearchPosts.{FirstPre, FirstPost}
-use Rattle.running.specs.Posts.{AtTree, RoundsPre, RunEnded, RoundsPost}
+use Rattle.running.specs.Posts.{AtTree, RoundsPre, RunEnded, RoundsPost, CanRun, RunPost}
 
 -- ---- `rounds`
 at_checks : (x : At) (t : Tree) → AtTree x t → check x.frame ≡ accepted t
@@ -84,58 +85,60 @@ module _ (o : At) where
         }
 
 -- ---- `run`
-module _ (s : List ℕ) (b : Bytes s) (budget : ℕ) (o : List ℕ) (a : Result ℕ Refusal) (ea : a ≡ check_answer (check s)) (r : Result (Unit {0}) Refusal)
+module _ (s : List ℕ) (budget : ℕ) (o : List ℕ) (a : Result ℕ Refusal) (ea : a ≡ check_answer (check s)) (r : Result (Unit {0}) Refusal)
     (pa : AdmitPost a (length o) r) where
   pub run_refused : (c : Refusal) → r ≡ Err c → (Err c ≡ run_answer (run s budget (length o))) × (o ≡ run_output (run s budget (length o)) o)
   run_refused c e =
       let z = (subst (Admits s (length o)) e (pa.admits s ea)) budget in
       (ap Err (sym (numbered c)) ∙ sym (ap run_answer z), sym (ap (λ (x : RunOutcome). run_output x o) z))
 
-  module _ (u : Unit {0}) (e : r ≡ Ok u) where
-    goes : (t : Tree) × (check s ≡ accepted t) × (4096 ≤ length o)
-    goes = subst (Admits s (length o)) e (pa.admits s ea)
+  pub run_goes : (u : Unit {0}) → r ≡ Ok u → CanRun s o
+  run_goes u e = subst (Admits s (length o)) e (pa.admits s ea)
 
-    pub run_fits : length s ≤ 4096
-    run_fits = (check_accepts s b goes.0 goes.1).fits
+-- ---- `run_admitted`
+module _ (s : List ℕ) (b : Bytes s) (budget : ℕ) (o : List ℕ) (goes : CanRun s o) where
+  pub run_fits : length s ≤ 4096
+  run_fits = (check_accepts s b goes.0 goes.1).fits
 
-    abbrev pub starts : At
-    starts = record { frame = s; left = budget; steps = 0 }
+  abbrev pub starts : At
+  starts = record { frame = s; left = budget; steps = 0 }
 
-    at_start : AtTree starts goes.0
-    at_start =
-        let a = check_accepts s b goes.0 goes.1 in
-        record { bytes = sym a.bytes; σ = signature goes.0; accepted = a.accepted; fits = a.fits }
+  at_start : AtTree starts goes.0
+  at_start =
+      let a = check_accepts s b goes.0 goes.1 in
+      record { bytes = sym a.bytes; σ = signature goes.0; accepted = a.accepted; fits = a.fits }
 
-    pub run_starts : RoundsPre starts
-    run_starts = (goes.0, at_start)
+  pub run_starts : RoundsPre starts
+  run_starts = (goes.0, at_start)
 
-    module _ (x : At) (i : Ending) (pr : RoundsPost starts x i) where
-      ended_so : RunEnded goes.0 starts x i
-      ended_so = pr.ends goes.0 at_start
+  module _ (x : At) (i : Ending) (pr : RoundsPost starts x i) where
+    ended_so : RunEnded goes.0 starts x i
+    ended_so = pr.ends goes.0 at_start
 
-      run_is : run s budget (length o) ≡ ended ended_so.word x.steps (enc ended_so.last)
-      unfolding run
-      run_is =
-          ap (run_on budget (length o)) goes.1
-          ∙ ap (λ (y : Bool). pick y (turned_down 12) (ended_by (run_tree budget 0 goes.0))) (le-ltb (length o) 4096 goes.2)
-          ∙ ap ended_by ended_so.ended
+    run_is : run s budget (length o) ≡ ended ended_so.word x.steps (enc ended_so.last)
+    unfolding run
+    run_is =
+        ap (run_on budget (length o)) goes.1
+        ∙ ap (λ (y : Bool). pick y (turned_down 12) (ended_by (run_tree budget 0 goes.0))) (le-ltb (length o) 4096 goes.2)
+        ∙ ap ended_by ended_so.ended
 
-      -- the last frame, l, goes to the front of the output
-      module _ (l : List ℕ) (el : l ≡ x.frame) where
-        pub run_room : length l ≤ length o
-        run_room = let f = ended_so.fits in let g = goes.2 in omega (arith, ap length el)
+    -- the last frame, l, goes to the front of the output
+    module _ (l : List ℕ) (el : l ≡ x.frame) where
+      pub run_room : length l ≤ length o
+      run_room = let f = ended_so.fits in let g = goes.2 in omega (arith, ap length el)
 
-        pub run_front : length (take (length l) o) ≡ length l
-        run_front = length-take-le (length l) o run_room
+      pub run_front : length (take (length l) o) ≡ length l
+      run_front = length-take-le (length l) o run_room
 
-        pub run_done : (m q : List ℕ) → m ≡ l → q ≡ m ++ drop (length l) o
-            → (Ok (record { ending = i; steps = x.steps; length = length x.frame }) ≡ run_answer (run s budget (length o)))
-            × (q ≡ run_output (run s budget (length o)) o)
-        run_done m q em e =
-            let d = ended_so in
-            let f : m ++ drop (length l) o ≡ enc d.last ++ drop (length (enc d.last)) o =
-            ap₂ (λ (y z : List ℕ). y ++ drop (length z) o) (em ∙ el ∙ d.bytes) (el ∙ d.bytes) in (
-              ap₂ (λ (j : Ending) (y : List ℕ). Ok (record { ending = j; steps = x.steps; length = length y })) d.ending d.bytes
-                  ∙ sym (ap run_answer run_is),
-              e ∙ f ∙ sym (ap (λ (y : RunOutcome). run_output y o) run_is),
-            )
+      pub run_done : (m q : List ℕ) (r : Run) → m ≡ l → q ≡ m ++ drop (length l) o
+          → r ≡ record { ending = i; steps = x.steps; length = length x.frame } → RunPost s budget o q r
+      run_done m q r em e er =
+          let d = ended_so in
+          let f : m ++ drop (length l) o ≡ enc d.last ++ drop (length (enc d.last)) o =
+          ap₂ (λ (y z : List ℕ). y ++ drop (length z) o) (em ∙ el ∙ d.bytes) (el ∙ d.bytes) in
+          record {
+            answer = ap Ok er
+                ∙ ap₂ (λ (j : Ending) (y : List ℕ). Ok (record { ending = j; steps = x.steps; length = length y })) d.ending d.bytes
+                ∙ sym (ap run_answer run_is);
+            output = e ∙ f ∙ sym (ap (λ (y : RunOutcome). run_output y o) run_is);
+          }

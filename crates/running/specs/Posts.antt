@@ -1,13 +1,15 @@
 -- What the code of the run asks and answers, by the definition of run/specs/Run.antt.
-use Rattle.std.specs.Prelude.{◌≡◌, [], ℕ, ◌≤◌, length}
+use Rattle.std.specs.Prelude.{◌≡◌, [], ℕ, List, ◌≤◌, length, Ok}
 use Rattle.frame.specs.Types.{Ty}
 use Rattle.frame.specs.Trees.{Tree}
 use Rattle.frame.specs.Tags.{predicate}
 use Rattle.frame.specs.Encoding.{enc}
 use Rattle.frame.specs.Reading.{frame_limit}
 use Rattle.typing.specs.Accepted.{Accepted}
-use Rattle.run.specs.Run.{Word, ran, run_tree, ending_for}
+use Rattle.typing.specs.Check.{check, accepted}
+use Rattle.run.specs.Run.{Word, ran, run_tree, ending_for, run, run_answer, run_output}
 use Rattle.run.specs.declared.Ending.{Ending}
+use Rattle.run.specs.declared.Run.{Run}
 use Rattle.turn.specs.Progress.{At}
 
 -- the run is at the accepted tree t
@@ -31,3 +33,12 @@ pub record RunEnded (t : Tree) (o p : At) (e : Ending) : Type 0 where
 
 pub record RoundsPost (o p : At) (e : Ending) : Type 0 where
   pub ends : (t : Tree) → AtTree o t → RunEnded t o p e
+
+-- nothing stands against a run of s with the output o
+abbrev pub CanRun : List ℕ → List ℕ → Type 0
+CanRun s o = (t : Tree) × (check s ≡ accepted t) × (4096 ≤ length o)
+
+-- the answer and the output of a run that nothing stood against
+pub record RunPost (s : List ℕ) (budget : ℕ) (o p : List ℕ) (r : Run) : Type 0 where
+  pub answer : Ok r ≡ run_answer (run s budget (length o))
+  pub output : p ≡ run_output (run s budget (length o)) o

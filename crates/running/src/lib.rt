@@ -5,7 +5,7 @@ mod searching; // searching.rt: the first place where a rule applies
 
 ghost use Rattle.std.specs.Prelude.{◌≡◌, length};
 ghost use Rattle.run.specs.Run.{run as ran, run_answer, run_output};
-ghost use Rattle.running.specs.Posts.{RoundsPre, RoundsPost};
+ghost use Rattle.running.specs.Posts.{RoundsPre, RoundsPost, CanRun, RunPost};
 
 use crate::searching::first_step;
 use decision::kept::Kept;
@@ -39,14 +39,24 @@ fn rounds(progress: &mut Progress) -> Ending
     }
 }
 
+// The run of a frame that nothing stands against. It has a frame of its own on the stack, so that one that is turned down, an empty line say,
+// doesn't pay for clearing what a run holds.
+#[inline(never)]
+fn run_admitted(frame: &[u8], budget: u32, out: &mut [u8]) -> Run
+    requires { CanRun frame.now out.old }
+    ensures { RunPost frame.now budget out.old out.new result }
+{
+    let mut progress = Progress::new(frame, budget);
+    let ending = rounds(&mut progress);
+    let last = progress.frame();
+    out[..last.len()].copy_from_slice(last);
+    progress.ended(ending)
+}
+
 // The run of a frame; the output is lent.
 pub fn run(frame: &[u8], budget: u32, out: &mut [u8]) -> Result<Run, Refusal>
     ensures { (result ≡ run_answer (ran frame.now budget (length out.old))) × (out.new ≡ run_output (ran frame.now budget (length out.old)) out.old) }
 {
     admit(checking::check(frame), out.len())?;
-    let mut progress = Progress::new(frame, budget);
-    let ending = rounds(&mut progress);
-    let last = progress.frame();
-    out[..last.len()].copy_from_slice(last);
-    Ok(progress.ended(ending))
+    Ok(run_admitted(frame, budget, out))
 }
