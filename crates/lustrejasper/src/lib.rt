@@ -13,31 +13,28 @@ use words::{check_word, run_word, step_word};
 // Kept: numbers for the answers, since `lustrejasper_c` hands them on as they are.
 
 // Whether the frame is accepted: 0, else the number, 2 to 10.
-#[tactic(auto, using(words::proofs::Numbers::check_word_lem))]
 pub fn lustrejasper_check(frame: &[u8]) -> u64
     ensures { result ≡ check_word (checked frame.now) }
 {
-    let a = checking::check(frame);
-    check_word(a)
+    let answer = checking::check(frame).map_err(u8::from);
+    check_word(answer)
 }
 
 // The step at a place of the frame.
-#[tactic(auto, using(words::proofs::Numbers::step_word_lem, words::proofs::Short::step_short))]
 pub fn lustrejasper_step(frame: &[u8], place: u64, out: &mut [u8]) -> u64
     ensures word { result ≡ step_word (stepped frame.now place (length out.old)) }
     ensures output { out.new ≡ step_output (stepped frame.now place (length out.old)) out.old }
 {
     // Kept: `as`: no `From` of the language makes a `usize` of a `u64`, and `try_from` would ask what to do where it can't be.
-    let a = stepping::step(frame, place as usize, out);
-    step_word(a)
+    let answer = stepping::step(frame, place as usize, out).map_err(u8::from);
+    step_word(answer)
 }
 
 // The run of the frame, of at most `budget` steps.
-#[tactic(auto, using(words::proofs::Numbers::run_word_lem, words::proofs::Short::run_short))]
 pub fn lustrejasper_run(frame: &[u8], budget: u32, out: &mut [u8]) -> u64
     ensures word { result ≡ run_word (ran frame.now budget (length out.old)) }
     ensures output { out.new ≡ run_output (ran frame.now budget (length out.old)) out.old }
 {
-    let a = running::run(frame, budget, out);
-    run_word(a)
+    let answer = running::run(frame, budget, out).map_err(u8::from);
+    run_word(answer)
 }

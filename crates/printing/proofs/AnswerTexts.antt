@@ -2,9 +2,6 @@
 -- Main results: ended_room, ended_post (a run that ended); refused_room, refused_post.
 use Rattle.std.proofs.Common.{◌≡◌, ℕ, ◌≤◌, ◌<◌, List, length, take, drop, Result, Ok, Err, refl, sym, ap, ap₂, ◌∙◌, subst, arith, length-append, length-take}
 use lib.Seq.{take_at}
-use Rattle.frame.specs.declared.refusals.Refusal.{Refusal}
-use Rattle.frame.specs.Refusals.{number, refusal}
-use Rattle.frame.proofs.RefusalNumbers.{number_back}
 use Rattle.lines.proofs.LineWrites.{write_length}
 use Rattle.run.specs.Run.{Word, REST, SPENT, FULL, RunOutcome, ended, turned_down, ending_for, word_answer}
 use Rattle.run.specs.declared.Ending.{Ending}
@@ -35,7 +32,7 @@ record Said (r : Run) (last : List ℕ) (x : RunOutcome) : Type 0 where
   few : r.steps ≤ budget
   short : r.length ≤ lent
 
-said : (a : Result Run Refusal) (r : Run) (last : List ℕ) → a ≡ Ok r → (x : RunOutcome) → Answers a last x → Said r last x
+said : (a : Result Run ℕ) (r : Run) (last : List ℕ) → a ≡ Ok r → (x : RunOutcome) → Answers a last x → Said r last x
 said a r last e (ended w m ys) h =
     let f : Ok r ≡ Ok (word_answer w m (length ys)) = sym e ∙ h.answer in
     let g : r ≡ word_answer w m (length ys) = cc in
@@ -50,9 +47,9 @@ said a r last e (ended w m ys) h =
       few = omega (arith, n, h.small.0);
       short = omega (arith, l, h.small.1);
     }
-said a r last e (turned_down c) h = let f : Ok r ≡ Err (refusal c) = sym e ∙ h.answer in cc
+said a r last e (turned_down c) h = let f : Ok r ≡ Err c = sym e ∙ h.answer in cc
 
-module _ (a : Result Run Refusal) (r : Run) (last : List ℕ) (e : a ≡ Ok r) (pre : AnswerPre a last) where
+module _ (a : Result Run ℕ) (r : Run) (last : List ℕ) (e : a ≡ Ok r) (pre : AnswerPre a last) where
   ended_short : length (ended_text (ending_text r.ending) r.steps (take r.length last)) ≤ longest
   ended_short =
       let s = said a r last e pre.0 pre.1 in
@@ -85,17 +82,13 @@ module _ (a : Result Run Refusal) (r : Run) (last : List ℕ) (e : a ≡ Ok r) (
 pub refused_short : (n : ℕ) → n < 256 → length (refused_text n) ≤ longest
 refused_short n h = omega (arith, refused_length n, digits_most 3 n (omega arith) (omega arith) (omega arith))
 
-of_refused : (a : Result Run Refusal) (last : List ℕ) (r : Refusal) → a ≡ Err r → (x : RunOutcome) → Answers a last x → x ≡ turned_down (number r)
-of_refused a last r e (ended w m ys) h = let f : Err r ≡ Ok (word_answer w m (length ys)) = sym e ∙ h.answer in cc
-of_refused a last r e (turned_down c) h =
-    let f : Err r ≡ Err (refusal c) = sym e ∙ h.answer in
-    let g : r ≡ refusal c = cc in
-    ap turned_down (sym (ap number g ∙ number_back c h.small))
+of_refused : (a : Result Run ℕ) (last : List ℕ) (n : ℕ) → a ≡ Err n → (x : RunOutcome) → Answers a last x → x ≡ turned_down n
+of_refused a last n e (ended w m ys) h = let f : Err n ≡ Ok (word_answer w m (length ys)) = sym e ∙ h.answer in cc
+of_refused a last n e (turned_down c) h = let f : Err c ≡ Err n = sym h.answer ∙ e in cc
 
-pub refused_post : (a : Result Run Refusal) (last : List ℕ) (r : Refusal) → a ≡ Err r → (n : ℕ) → n ≡ number r → n < 256 → (o p : Text)
-    → Adds o (refused_text n) p → AnswerPost a last o p
+pub refused_post : (a : Result Run ℕ) (last : List ℕ) (n : ℕ) → a ≡ Err n → n < 256 → (o p : Text) → Adds o (refused_text n) p → AnswerPost a last o p
 unfolding answer_text
-refused_post a last r e n is l o p h = record {
-  puts = λ x ans. subst (λ t. Adds o t p) (ap refused_text is ∙ sym (ap answer_text (of_refused a last r e x ans))) h;
+refused_post a last n e l o p h = record {
+  puts = λ x ans. subst (λ t. Adds o t p) (sym (ap answer_text (of_refused a last n e x ans))) h;
   room = omega (arith, refused_short n l, ap length h.writes, length-append {A = ℕ});
 }

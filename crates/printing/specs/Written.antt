@@ -1,6 +1,5 @@
 -- What a text holds, and what writing behind it does.
 use Rattle.std.specs.Prelude.{◌≡◌, ℕ, ◌+◌, ◌≤◌, List, ◌++◌, length, take, drop, Result}
-use Rattle.frame.specs.declared.refusals.Refusal.{Refusal}
 use Rattle.run.specs.Run.{RunOutcome}
 use Rattle.run.specs.declared.Run.{Run}
 use Rattle.program.specs.Text.{answer_text}
@@ -23,6 +22,6 @@ pub record Adds (old : Text) (xs : List ℕ) (new : Text) : Type 0 where
   pub same_reference : new.bytes.ghost_name ≡ old.bytes.ghost_name
 
 -- the answer's text, which is no longer than the longest
-pub record AnswerPost (a : Result Run Refusal) (last : List ℕ) (old new : Text) : Type 0 where
+pub record AnswerPost (a : Result Run ℕ) (last : List ℕ) (old new : Text) : Type 0 where
   pub puts : (x : RunOutcome) → Answers a last x → Adds old (answer_text x) new
   pub room : length (written new) ≤ length (written old) + longest

@@ -6,7 +6,6 @@ ghost use Rattle.frame.specs.Lines.{write_line};
 ghost use Rattle.program.specs.Text.{decimal, ended_text, refused_text};
 ghost use Rattle.printing.specs.AnswerPosts.{longest, ending_text, AnswerPre};
 
-use frame::refusals::Refusal;
 use run::{Ending, Run};
 
 const SPACE: u8 = b' ';
@@ -137,14 +136,15 @@ impl<'a> Text<'a> {
     }
 
     // A run's answer; its last frame stands at the start of `last`.
+    // Kept: a number for a refusal, as in `put_refused`: any can be printed, and a `Refusal` would ask for one of twelve.
     #[tactic(auto, using(crate::proofs::AnswerTexts::refused_short))]
-    pub fn put_answer(&mut self, answer: Result<Run, Refusal>, last: &[u8])
+    pub fn put_answer(&mut self, answer: Result<Run, u8>, last: &[u8])
         requires { AnswerPre answer last.now × (longest ≤ length (behind self.old)) }
         ensures { AnswerPost answer last.now self.old self.new }
     {
         match answer {
             Ok(run) => self.put_ended(word_of(run.ending), run.steps, &last[..run.length]),
-            Err(refusal) => self.put_refused(u8::from(refusal)),
+            Err(number) => self.put_refused(number),
         }
     }
 }

@@ -51,7 +51,7 @@ fn put_run(frame: &[u8], answers: &mut Text<'_>)
     ensures { Adds answers.old (answer_text (ran frame.now budget lent)) answers.new }
 {
     let mut last = [0u8; 4096];
-    let answer = running::run(frame, BUDGET, &mut last);
+    let answer = running::run(frame, BUDGET, &mut last).map_err(u8::from);
     answers.put_answer(answer, &last);
 }
 

@@ -5,7 +5,6 @@ ghost use Rattle.std.specs.Prelude.{◌≡◌};
 ghost use Rattle.words.specs.Words.{check_answer_word, step_answer_word, run_answer_word, number_of_ending};
 ghost use Rattle.words.specs.Posts.{ShortStep, ShortRun};
 
-use frame::refusals::Refusal;
 use run::{Ending, Run};
 use step::Step;
 
@@ -23,16 +22,17 @@ const FULL: u64 = 0x3000000000000;
 
 const RUN_REFUSED: u64 = 0x4000000000000;
 
-pub fn check_word(answer: Result<usize, Refusal>) -> u64
+// Kept: a number for a refusal, here and below: a word has room for any, and a `Refusal` would ask for one of twelve.
+pub fn check_word(answer: Result<usize, u8>) -> u64
     ensures { result ≡ check_answer_word answer }
 {
     match answer {
         Ok(_nodes) => 0,
-        Err(refusal) => u64::from(u8::from(refusal)),
+        Err(number) => u64::from(number),
     }
 }
 
-pub fn step_word(answer: Result<Step, Refusal>) -> u64
+pub fn step_word(answer: Result<Step, u8>) -> u64
     requires { ShortStep answer }
     ensures { result ≡ step_answer_word answer }
 {
@@ -41,7 +41,7 @@ pub fn step_word(answer: Result<Step, Refusal>) -> u64
         // Kept: `as`, here and below: no `From` of the language makes a `u64` of a `usize`, and `try_from` would ask what to do where it
         // can't be.
         Ok(Step::Changed(length)) => CHANGED + length as u64,
-        Err(refusal) => STEP_REFUSED + u64::from(u8::from(refusal)),
+        Err(number) => STEP_REFUSED + u64::from(number),
     }
 }
 
@@ -56,12 +56,12 @@ fn ending_word(ending: Ending) -> u64
     }
 }
 
-pub fn run_word(answer: Result<Run, Refusal>) -> u64
+pub fn run_word(answer: Result<Run, u8>) -> u64
     requires { ShortRun answer }
     ensures { result ≡ run_answer_word answer }
 {
     match answer {
         Ok(run) => ending_word(run.ending) + ((run.length as u64) << 32) + u64::from(run.steps),
-        Err(refusal) => RUN_REFUSED + u64::from(u8::from(refusal)),
+        Err(number) => RUN_REFUSED + u64::from(number),
     }
 }

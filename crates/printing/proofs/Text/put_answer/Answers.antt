@@ -1,4 +1,5 @@
 -- `printing::Text::put_answer` meets its contract.
+use Rattle.std.proofs.Common.{arith}
 use Rattle.printing.proofs.AnswerTexts.{ended_room, ended_post, refused_post}
 use Rattle.printing.proofs.Text.put_answer.Goals as goal
 
@@ -9,4 +10,4 @@ pub returns-in-Ok : goal.returns-in-Ok
 returns-in-Ok c = ended_post _ _ _ c.in-Ok.is c.requires.0 _ c.word_of.ensures _ _ c.put_ended.ensures
 
 pub returns-in-Err : goal.returns-in-Err
-returns-in-Err c = refused_post _ _ _ c.in-Err.is _ c.from.ensures c.from.type_inv _ _ c.put_refused.ensures
+returns-in-Err c = refused_post _ _ _ c.in-Err.is (omega arith) _ _ c.put_refused.ensures

@@ -7,8 +7,8 @@ use Rattle.simplify.proofs.stream.put_run.Goals as goal
 
 pub put_answer-requires : goal.put_answer-requires
 put_answer-requires c =
-    ((_, run_answers c.args.frame.now (λ i. (c.type_inv.frame i).fits) (replicate 4096 0) refl _ _ c.run-answer.ensures), c.requires)
+    ((_, run_answers c.args.frame.now (λ i. (c.type_inv.frame i).fits) (replicate 4096 0) refl _ _ _ c.run.ensures c.map_err-answer.ensures.cases), c.requires)
 
 pub returns : goal.returns
 returns c = c.put_answer.ensures.puts (run c.args.frame.now budget lent)
-    (run_answers c.args.frame.now (λ i. (c.type_inv.frame i).fits) (replicate 4096 0) refl _ _ c.run-answer.ensures)
+    (run_answers c.args.frame.now (λ i. (c.type_inv.frame i).fits) (replicate 4096 0) refl _ _ _ c.run.ensures c.map_err-answer.ensures.cases)
