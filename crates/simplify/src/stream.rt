@@ -63,11 +63,12 @@ fn end_of_line(s: &[u8]) -> Option<usize>
 }
 
 impl<'a> Stream<'a> {
-    // No line is begun. The answers go into the lent bytes.
+    // No line is begun. The answers go into the lent bytes: what the stream holds as it ends, those have then.
     pub fn new(out: &'a mut [u8]) -> Stream<'a>
         ensures line { Reads result.line [] }
         ensures written { written result.answers ≡ [] }
         ensures behind { behind result.answers ≡ out.old }
+        ensures same_reference { result.answers.bytes.ghost_name ≡ out.entry.ghost_name }
     {
         Stream {
             line: LineReader::new(),
@@ -79,7 +80,8 @@ impl<'a> Stream<'a> {
     #[tactic(auto, using(printing::proofs::AnswerTexts::refused_short))]
     fn put(&mut self)
         requires { longest ≤ length (behind self.old.answers) }
-        ensures { (held : List ℕ) → Reads self.old.line held → Adds self.old.answers (line_text held) self.new.answers }
+        ensures adds { (held : List ℕ) → Reads self.old.line held → Adds self.old.answers (line_text held) self.new.answers }
+        ensures same_reference { self.new.answers.bytes.ghost_name ≡ self.old.answers.bytes.ghost_name }
     {
         match self.line.frame() {
             Ok(frame) => put_run(frame, &mut self.answers),
@@ -92,6 +94,7 @@ impl<'a> Stream<'a> {
         requires { longest ≤ length (behind self.old.answers) }
         ensures line { Reads self.new.line [] }
         ensures adds { (held : List ℕ) → Reads self.old.line held → Adds self.old.answers (line_text held) self.new.answers }
+        ensures same_reference { self.new.answers.bytes.ghost_name ≡ self.old.answers.bytes.ghost_name }
     {
         self.put();
         self.line.clear();
@@ -103,6 +106,7 @@ impl<'a> Stream<'a> {
         ensures within { result ≤ length piece.now }
         ensures some { longest ≤ length (behind self.old.answers) → 0 < length piece.now → 0 < result }
         ensures stops { result < length piece.now → length (behind self.new.answers) < longest }
+        ensures same_reference { self.new.answers.bytes.ghost_name ≡ self.old.answers.bytes.ghost_name }
     {
         let mut rest = piece;
         while let Some(end) = end_of_line(rest) {
@@ -125,6 +129,7 @@ impl<'a> Stream<'a> {
         ensures adds { longest ≤ length (behind self.old.answers) → (held : List ℕ) → Reads self.old.line held →
             Adds self.old.answers (last_answer held) self.new.answers }
         ensures short { length (behind self.old.answers) < longest → self.new ≡ self.old }
+        ensures same_reference { self.new.answers.bytes.ghost_name ≡ self.old.answers.bytes.ghost_name }
     {
         if self.line.is_empty() {
             return;
@@ -142,6 +147,7 @@ impl<'a> Stream<'a> {
         ensures written { OnOk result (Appends (W.contents output.old) (W.contents output.new) (written self.old.answers)) }
         ensures cleared { OnOk result (written self.new.answers ≡ []) }
         ensures behind { OnOk result (behind self.new.answers ≡ written self.old.answers ++ behind self.old.answers) }
+        ensures same_reference { self.new.answers.bytes.ghost_name ≡ self.old.answers.bytes.ghost_name }
     {
         output
             .write_all(self.answers.as_bytes())

@@ -6,7 +6,7 @@ use Rattle.simplify.proofs.Lines.{cut_behind, feeds_none, feeds_part, feeds_line
 use Rattle.simplify.proofs.stream.Stream.feed.Goals as goal
 
 pub loop-end-init : goal.loop-end-init
-loop-end-init c = ([], refl, feeds_none _, λ e. refl)
+loop-end-init c = ([], refl, feeds_none _, λ e. refl, refl)
 
 pub loop-end-preserved : goal.loop-end-preserved
 loop-end-preserved c =
@@ -17,6 +17,7 @@ loop-end-preserved c =
       cut_behind i.0 rest c.args.piece.now c.in-Some.end e.0 e.1 i.1,
       feeds_line (take c.in-Some.end rest) e.2 i.2 refl c.read.ensures c.end_line.ensures.line c.end_line.ensures.adds,
       λ none. absurd (omega (arith, ap length none, length-append {A = ℕ})),
+      c.end_line.ensures.same_reference ∙ i.4,
     )
 
 pub returns-clause-feeds : goal.returns-clause-feeds
