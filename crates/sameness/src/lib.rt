@@ -18,7 +18,9 @@ struct Alike {
 }
 
 // The heads at a and b, if they are the same. Most trees that differ differ in their tags, so these are looked at before a head is
-// read. The head at b needs no reading: with the bytes of the one at a it is the same head.
+// read. The head at b needs no reading: with the bytes of the one at a it is the same head. Inlined, as `same_kids` is, so that a
+// child costs one call and one frame of the stack.
+#[inline(always)]
 fn same_heads(s: &[u8], a: usize, b: usize) -> Option<Alike>
     requires { (e : Sort) × BothStand s.now e a b }
     ensures { (e : Sort) → HeadsPost s.now e a b result }
@@ -69,6 +71,7 @@ pub fn same_expr(s: &[u8], a: usize, b: usize) -> Option<(usize, usize)>
 }
 
 // The children of two heads that are the same: if they are the same too, where the last of each ends.
+#[inline(always)]
 #[cycle(same_expr_same_kids_same_pred)]
 fn same_kids(s: &[u8], alike: Alike) -> Option<(usize, usize)>
     requires { BothStandAll s.now (kinds alike) alike.left alike.right }
