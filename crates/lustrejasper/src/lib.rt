@@ -8,7 +8,7 @@ ghost use Rattle.step.specs.Step.{step as stepped, step_output};
 ghost use Rattle.run.specs.Run.{run as ran, run_output};
 ghost use Rattle.words.specs.Words.{check_word, step_word, run_word};
 
-use words::{check_word, run_word, step_word};
+use words::{numbered_check_word, numbered_run_word, numbered_step_word};
 
 // Kept: numbers for the answers, since `lustrejasper_c` hands them on as they are.
 
@@ -17,7 +17,7 @@ pub fn lustrejasper_check(frame: &[u8]) -> u64
     ensures { result ≡ check_word (checked frame.now) }
 {
     let answer = checking::check(frame).map_err(u8::from);
-    check_word(answer)
+    numbered_check_word(answer)
 }
 
 // The step at a place of the frame.
@@ -27,7 +27,7 @@ pub fn lustrejasper_step(frame: &[u8], place: u64, out: &mut [u8]) -> u64
 {
     // Kept: `as`: no `From` of the language makes a `usize` of a `u64`, and `try_from` would ask what to do where it can't be.
     let answer = stepping::step(frame, place as usize, out).map_err(u8::from);
-    step_word(answer)
+    numbered_step_word(answer)
 }
 
 // The run of the frame, of at most `budget` steps.
@@ -36,5 +36,5 @@ pub fn lustrejasper_run(frame: &[u8], budget: u32, out: &mut [u8]) -> u64
     ensures output { out.new ≡ run_output (ran frame.now budget (length out.old)) out.old }
 {
     let answer = running::run(frame, budget, out).map_err(u8::from);
-    run_word(answer)
+    numbered_run_word(answer)
 }

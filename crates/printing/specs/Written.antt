@@ -1,9 +1,10 @@
 -- What a text holds, and what writing behind it does.
 use Rattle.std.specs.Prelude.{◌≡◌, ℕ, ◌+◌, ◌≤◌, List, ◌++◌, length, take, drop, Result}
+use Rattle.frame.specs.declared.refusals.Refusal.{Refusal}
 use Rattle.run.specs.Run.{RunOutcome}
 use Rattle.run.specs.declared.Run.{Run}
 use Rattle.program.specs.Text.{answer_text}
-use Rattle.printing.specs.AnswerPosts.{longest, Answers}
+use Rattle.printing.specs.AnswerPosts.{longest, Answers, NumberedAnswers}
 use Rattle.printing.specs.declared.Text.{Text}
 
 -- the bytes that were written
@@ -22,6 +23,11 @@ pub record Adds (old : Text) (xs : List ℕ) (new : Text) : Type 0 where
   pub same_reference : new.bytes.ghost_name ≡ old.bytes.ghost_name
 
 -- the answer's text, which is no longer than the longest
-pub record AnswerPost (a : Result Run ℕ) (last : List ℕ) (old new : Text) : Type 0 where
+pub record AnswerPost (a : Result Run Refusal) (last : List ℕ) (old new : Text) : Type 0 where
   pub puts : (x : RunOutcome) → Answers a last x → Adds old (answer_text x) new
+  pub room : length (written new) ≤ length (written old) + longest
+
+-- the same of an answer with a number for a refusal
+pub record NumberedAnswerPost (a : Result Run ℕ) (last : List ℕ) (old new : Text) : Type 0 where
+  pub puts : (x : RunOutcome) → NumberedAnswers a last x → Adds old (answer_text x) new
   pub room : length (written new) ≤ length (written old) + longest

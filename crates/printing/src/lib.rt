@@ -4,8 +4,9 @@
 ghost use Rattle.std.specs.Prelude.{◌≡◌, ◌≤◌, List, [], ◌∷◌, ◌++◌, ◌↔◌, length, drop, IsTrue};
 ghost use Rattle.frame.specs.Lines.{write_line};
 ghost use Rattle.program.specs.Text.{decimal, ended_text, refused_text};
-ghost use Rattle.printing.specs.AnswerPosts.{longest, ending_text, AnswerPre};
+ghost use Rattle.printing.specs.AnswerPosts.{longest, ending_text, AnswerPre, NumberedAnswerPre};
 
+use frame::refusals::Refusal;
 use run::{Ending, Run};
 
 const SPACE: u8 = b' ';
@@ -36,7 +37,7 @@ fn word_of(ending: Ending) -> &'static [u8]
 }
 
 impl<'a> Text<'a> {
-    ghost use Rattle.printing.specs.Written.{written, behind, Adds, AnswerPost};
+    ghost use Rattle.printing.specs.Written.{written, behind, Adds, AnswerPost, NumberedAnswerPost};
 
     #[tactic(auto, unfolding(crate::specs::Written::written, crate::specs::Written::behind))]
     pub fn new(bytes: &'a mut [u8]) -> Text<'a>
@@ -138,13 +139,49 @@ impl<'a> Text<'a> {
     // A run's answer; its last frame stands at the start of `last`.
     // Kept: a number for a refusal, as in `put_refused`: any can be printed, and a `Refusal` would ask for one of twelve.
     #[tactic(auto, using(crate::proofs::AnswerTexts::refused_short))]
-    pub fn put_answer(&mut self, answer: Result<Run, u8>, last: &[u8])
-        requires { AnswerPre answer last.now × (longest ≤ length (behind self.old)) }
-        ensures { AnswerPost answer last.now self.old self.new }
+    pub fn put_numbered_answer(&mut self, answer: Result<Run, u8>, last: &[u8])
+        requires { NumberedAnswerPre answer last.now × (longest ≤ length (behind self.old)) }
+        ensures { NumberedAnswerPost answer last.now self.old self.new }
     {
         match answer {
             Ok(run) => self.put_ended(word_of(run.ending), run.steps, &last[..run.length]),
             Err(number) => self.put_refused(number),
         }
+    }
+
+    // The same of an answer that has a `Refusal`.
+    pub fn put_answer(&mut self, answer: Result<Run, Refusal>, last: &[u8])
+        requires { AnswerPre answer last.now × (longest ≤ length (behind self.old)) }
+        ensures { AnswerPost answer last.now self.old self.new }
+    {
+        match answer {
+            Ok(run) => self.put_numbered_answer(Ok(run), last),
+            Err(refusal) => self.put_numbered_answer(Err(u8::from(refusal)), last),
+        }
+    }
+}
+
+#[cfg(test)]
+mod tests {
+    use super::*;
+
+    // Two lines in the form that docs/FRAMES.md gives.
+    #[test]
+    fn lines_of_answers(rt: HostRuntime) {
+        let last = [0xA0u8; 4096];
+        let mut bytes = [0u8; 8205];
+        let mut text = Text::new(&mut bytes);
+        assert!(rt; text.has_room());
+        text.put_answer(Err(Refusal::BytesFollow), &last);
+        assert_eq!(rt; text.as_bytes(), b"REFUSED 7\n".as_slice());
+        text.clear();
+        assert!(rt; text.has_room());
+        let run = Run {
+            ending: Ending::Spent,
+            steps: 12,
+            length: 2,
+        };
+        text.put_answer(Ok(run), &last);
+        assert_eq!(rt; text.as_bytes(), b"SPENT 12 A0A0\n".as_slice());
     }
 }

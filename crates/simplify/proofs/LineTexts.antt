@@ -6,10 +6,9 @@ use Rattle.frame.specs.Tags.{pick}
 use Rattle.frame.specs.Reading.{frame_limit, parse}
 use Rattle.frame.specs.Spans.{Bytes}
 use Rattle.frame.specs.Lines.{Line, frame, bad_line, read_line}
-use Rattle.frame.specs.Refusals.{number, refusal, IsNumber}
+use Rattle.frame.specs.Refusals.{number}
 use Rattle.frame.specs.declared.refusals.Refusal.{Refusal}
 use Rattle.frame.specs.declared.refusals.Refusal.TheVariants.{BadLine, BadLength}
-use Rattle.frame.proofs.RefusalNumbers.{number_back}
 use Rattle.lines.specs.LineReads.{line_answer}
 use Rattle.typing.specs.Check.{check}
 use Rattle.run.specs.Run.{RunOutcome, ended, turned_down, run, run_answer, run_output}
@@ -17,39 +16,32 @@ use Rattle.run.specs.declared.Run.{Run}
 use Rattle.run.proofs.Answers.{run_number}
 use Rattle.run.proofs.Sizes.{run_small}
 use Rattle.program.specs.Text.{budget, lent, refused_text, answer_text, line_outcome, line_text}
-use Rattle.printing.specs.AnswerPosts.{Small, numbered_answer, Answers}
+use Rattle.printing.specs.AnswerPosts.{Small, Answers, NumberedAnswers}
+use Rattle.printing.proofs.NumberedAnswers.{numbered_answers}
 
 -- ---- `last` is the buffer after a run
 small_of : (s : List ℕ) → Bytes s → (x : RunOutcome) → run s budget lent ≡ x → Small x
 small_of s b (ended w n xs) e = run_small s b budget lent w n xs e
-small_of s b (turned_down c) e = tt
+small_of s b (turned_down c) e = run_number s budget lent c e
+
+pub run_answers : (s : List ℕ) → Bytes s → (old : List ℕ) → length old ≡ lent → (a : Result Run Refusal) (last : List ℕ)
+    → (a ≡ run_answer (run s budget (length old))) × (last ≡ run_output (run s budget (length old)) old) → Answers a last (run s budget lent)
+run_answers s b old l a last h = record {
+  old = old;
+  answer = subst (λ (i : ℕ). a ≡ run_answer (run s budget i)) l h.0;
+  output = subst (λ (i : ℕ). last ≡ run_output (run s budget i) old) l h.1;
+  long = l;
+  small = small_of s b (run s budget lent) refl;
+}
 
 -- n is the answer a with the number of its refusal
 abbrev pub Numbered : Result Run Refusal → Result Run ℕ → Type 0
 Numbered a n = MatchResult a (λ x. n ≡ Ok x) (λ r. IsErrAnd n (λ c. c ≡ number r))
 
--- that number is the definition's
-run_numbered : (s : List ℕ) (n : Result Run ℕ) → Numbered (run_answer (run s budget lent)) n → n ≡ numbered_answer (run s budget lent)
-run_numbered s n h = go (run s budget lent) refl h
-  where
-    turned : (c : ℕ) → IsNumber c → (m : Result Run ℕ) → Numbered (Err (refusal c)) m → m ≡ Err c
-    turned c is (Ok x) h = absurd h
-    turned c is (Err i) h = ap (λ j. Err j) (h ∙ number_back c is)
-
-    go : (x : RunOutcome) → run s budget lent ≡ x → Numbered (run_answer x) n → n ≡ numbered_answer x
-    go (ended w k xs) e h = h
-    go (turned_down c) e h = turned c (run_number s budget lent c e) n h
-
-pub run_answers : (s : List ℕ) → Bytes s → (old : List ℕ) → length old ≡ lent → (a : Result Run Refusal) (n : Result Run ℕ) (last : List ℕ)
+pub numbered_run_answers : (s : List ℕ) → Bytes s → (old : List ℕ) → length old ≡ lent → (a : Result Run Refusal) (n : Result Run ℕ) (last : List ℕ)
     → (a ≡ run_answer (run s budget (length old))) × (last ≡ run_output (run s budget (length old)) old)
-    → Numbered a n → Answers n last (run s budget lent)
-run_answers s b old l a n last h numbers = record {
-  old = old;
-  answer = run_numbered s n (subst (λ q. Numbered q n) (h.0 ∙ ap (λ i. run_answer (run s budget i)) l) numbers);
-  output = subst (λ (i : ℕ). last ≡ run_output (run s budget i) old) l h.1;
-  long = l;
-  small = small_of s b (run s budget lent) refl;
-}
+    → Numbered a n → NumberedAnswers n last (run s budget lent)
+numbered_run_answers s b old l a n last h numbers = numbered_answers a n last numbers _ (run_answers s b old l a last h)
 
 -- ---- a line by what its reader answers
 -- "2. The frame has [..] more than 4,096."

@@ -52,7 +52,7 @@ fn put_run(frame: &[u8], answers: &mut Text<'_>)
 {
     let mut last = [0u8; 4096];
     let answer = running::run(frame, BUDGET, &mut last).map_err(u8::from);
-    answers.put_answer(answer, &last);
+    answers.put_numbered_answer(answer, &last);
 }
 
 // Where a line ends in s: at its byte 0A.

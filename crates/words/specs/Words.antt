@@ -32,24 +32,38 @@ run_word (ended SPENT n xs) = 2 * 2 ^ 48 + 2 ^ 32 * length xs + n
 run_word (ended FULL n xs) = 3 * 2 ^ 48 + 2 ^ 32 * length xs + n
 run_word (R.turned_down c) = 4 * 2 ^ 48 + c
 
--- ---- of the code's answers: the number of a refusal may be any
-abbrev pub check_answer_word : Result ℕ ℕ → ℕ
+-- ---- of the code's answers
+abbrev pub check_answer_word : Result ℕ Refusal → ℕ
 check_answer_word (Ok n) = 0
-check_answer_word (Err c) = c
+check_answer_word (Err r) = number r
 
-abbrev pub step_answer_word : Result Step ℕ → ℕ
+abbrev pub step_answer_word : Result Step Refusal → ℕ
 step_answer_word (Ok Unchanged) = 0
 step_answer_word (Ok (Changed n)) = 65536 + n
-step_answer_word (Err c) = 131072 + c
+step_answer_word (Err r) = 131072 + number r
 
 abbrev pub number_of_ending : Ending → ℕ
 number_of_ending Rest = 2 ^ 48
 number_of_ending Spent = 2 * 2 ^ 48
 number_of_ending Full = 3 * 2 ^ 48
 
-abbrev pub run_answer_word : Result Run ℕ → ℕ
+abbrev pub run_answer_word : Result Run Refusal → ℕ
 run_answer_word (Ok r) = number_of_ending r.ending + 2 ^ 32 * r.length + r.steps
-run_answer_word (Err c) = 4 * 2 ^ 48 + c
+run_answer_word (Err r) = 4 * 2 ^ 48 + number r
+
+-- ---- of the code's answers with a number for a refusal, which may be any
+abbrev pub numbered_check_word : Result ℕ ℕ → ℕ
+numbered_check_word (Ok n) = 0
+numbered_check_word (Err c) = c
+
+abbrev pub numbered_step_word : Result Step ℕ → ℕ
+numbered_step_word (Ok Unchanged) = 0
+numbered_step_word (Ok (Changed n)) = 65536 + n
+numbered_step_word (Err c) = 131072 + c
+
+abbrev pub numbered_run_word : Result Run ℕ → ℕ
+numbered_run_word (Ok r) = number_of_ending r.ending + 2 ^ 32 * r.length + r.steps
+numbered_run_word (Err c) = 4 * 2 ^ 48 + c
 
 -- an answer with the number of its refusal
 abbrev pub by_number : {T : Type 0} → Result T Refusal → Result T ℕ

@@ -2,9 +2,10 @@
 #![tactic(auto)]
 
 ghost use Rattle.std.specs.Prelude.{◌≡◌};
-ghost use Rattle.words.specs.Words.{check_answer_word, step_answer_word, run_answer_word, number_of_ending};
-ghost use Rattle.words.specs.Posts.{ShortStep, ShortRun};
+ghost use Rattle.words.specs.Words.{check_answer_word, step_answer_word, run_answer_word, numbered_check_word, numbered_step_word, numbered_run_word, number_of_ending};
+ghost use Rattle.words.specs.Posts.{ShortStep, ShortRun, NumberedShortStep, NumberedShortRun};
 
+use frame::refusals::Refusal;
 use run::{Ending, Run};
 use step::Step;
 
@@ -22,9 +23,10 @@ const FULL: u64 = 0x3000000000000;
 
 const RUN_REFUSED: u64 = 0x4000000000000;
 
-// Kept: a number for a refusal, here and below: a word has room for any, and a `Refusal` would ask for one of twelve.
-pub fn check_word(answer: Result<usize, u8>) -> u64
-    ensures { result ≡ check_answer_word answer }
+// Kept: a number for a refusal, here and in the other two `numbered_` functions: a word has room for any, and a `Refusal` would ask for
+// one of twelve.
+pub fn numbered_check_word(answer: Result<usize, u8>) -> u64
+    ensures { result ≡ numbered_check_word answer }
 {
     match answer {
         Ok(_nodes) => 0,
@@ -32,9 +34,16 @@ pub fn check_word(answer: Result<usize, u8>) -> u64
     }
 }
 
-pub fn step_word(answer: Result<Step, u8>) -> u64
-    requires { ShortStep answer }
-    ensures { result ≡ step_answer_word answer }
+// The word of an answer that has a `Refusal`, here and below.
+pub fn check_word(answer: Result<usize, Refusal>) -> u64
+    ensures { result ≡ check_answer_word answer }
+{
+    numbered_check_word(answer.map_err(u8::from))
+}
+
+pub fn numbered_step_word(answer: Result<Step, u8>) -> u64
+    requires { NumberedShortStep answer }
+    ensures { result ≡ numbered_step_word answer }
 {
     match answer {
         Ok(Step::Unchanged) => 0,
@@ -43,6 +52,13 @@ pub fn step_word(answer: Result<Step, u8>) -> u64
         Ok(Step::Changed(length)) => CHANGED + length as u64,
         Err(number) => STEP_REFUSED + u64::from(number),
     }
+}
+
+pub fn step_word(answer: Result<Step, Refusal>) -> u64
+    requires { ShortStep answer }
+    ensures { result ≡ step_answer_word answer }
+{
+    numbered_step_word(answer.map_err(u8::from))
 }
 
 // Kept: no `From`, since both types are of other crates.
@@ -56,12 +72,46 @@ fn ending_word(ending: Ending) -> u64
     }
 }
 
-pub fn run_word(answer: Result<Run, u8>) -> u64
-    requires { ShortRun answer }
-    ensures { result ≡ run_answer_word answer }
+pub fn numbered_run_word(answer: Result<Run, u8>) -> u64
+    requires { NumberedShortRun answer }
+    ensures { result ≡ numbered_run_word answer }
 {
     match answer {
         Ok(run) => ending_word(run.ending) + ((run.length as u64) << 32) + u64::from(run.steps),
         Err(number) => RUN_REFUSED + u64::from(number),
+    }
+}
+
+pub fn run_word(answer: Result<Run, Refusal>) -> u64
+    requires { ShortRun answer }
+    ensures { result ≡ run_answer_word answer }
+{
+    numbered_run_word(answer.map_err(u8::from))
+}
+
+#[cfg(test)]
+mod tests {
+    use super::*;
+
+    // The words that include/lustrejasper.h gives.
+    #[test]
+    fn words_of_answers(rt: HostRuntime) {
+        assert_eq!(rt; check_word(Ok(3)), 0);
+        assert_eq!(rt; check_word(Err(Refusal::BadlyTyped)), 10);
+        assert_eq!(rt; step_word(Ok(Step::Unchanged)), 0);
+        assert_eq!(rt; step_word(Ok(Step::Changed(4096))), 65536 + 4096);
+        assert_eq!(rt; step_word(Err(Refusal::NoRoom)), 2 * 65536 + 12);
+        for (ending, word) in [(Ending::Rest, 1), (Ending::Spent, 2), (Ending::Full, 3)] {
+            let run = Run {
+                ending,
+                steps: 5,
+                length: 2,
+            };
+            assert_eq!(rt;
+                run_word(Ok(run)),
+                word * 281474976710656 + 2 * 4294967296 + 5
+            );
+        }
+        assert_eq!(rt; run_word(Err(Refusal::BadLength)), 4 * 281474976710656 + 2);
     }
 }
